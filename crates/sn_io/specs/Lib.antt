@@ -1,0 +1,5 @@
+pub mod Causes
+pub mod FilesInMemory
+pub mod Planned
+pub mod SinkInMemory
+pub mod Told
