@@ -1,3 +1,4 @@
+pub mod Adapters
 pub mod Causes
 pub mod FilesInMemory
 pub mod Planned

@@ -1,5 +1,6 @@
 ghost use Rattle.std.specs.Prelude.{◌≡◌, ◌<◌, ◌≤◌, ℕ, None, length, take, IfOk, MatchResult};
 ghost use Rattle.std.specs.Io.KnownBytes.{Appends};
+ghost use Rattle.sn_io.specs.Adapters.{faults_of, writer_of};
 ghost use Rattle.sn_io.specs.Causes.{HasCause};
 
 use crate::sink::{Failed, Sink};
@@ -41,9 +42,16 @@ fn write_through<W: Write>(writer: &mut W, piece: &[u8]) -> io::Result<usize>
 impl<W: Write> Sink for StdSink<W> {
     ghost held = { λ _. None };
 
-    ghost faults = { λ s. s.faults };
+    ghost faults = { faults_of };
 
-    fn write(&mut self, piece: &[u8]) -> Result<usize, Failed> {
+    fn write(&mut self, piece: &[u8]) -> Result<usize, Failed>
+        ensures most { IfOk result (λ n. n ≤ length piece.now) }
+        ensures least { IfOk result (λ n. 0 < length piece.now → 0 < n) }
+        ensures cause { HasCause (faults_of self.old) (faults_of self.new) result }
+
+        // It tells nothing of what it holds, but what it took went to its writer.
+        ensures passed { IfOk result (λ n. Appends (W.contents (writer_of self.old)) (W.contents (writer_of self.new)) (take n piece.now)) }
+    {
         match write_through(&mut self.writer, piece) {
             Ok(taken) if taken > 0 || piece.is_empty() => Ok(taken),
             _ => {
