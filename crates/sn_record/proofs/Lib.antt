@@ -1,0 +1,4 @@
+pub mod Maps
+pub mod Sets
+pub mod Values
+pub mod Records

@@ -1,0 +1,104 @@
+-- Sets of labels by which labels they hold.
+use Rattle.std.proofs.Common.{◌≡◌, ℕ, ◌+◌, ◌<◌, ◌≤◌, ◌&&◌, ◌||◌, Bool, true, false, cond, not, IsTrue, List, [], ◌∷◌, length, get_or, drop, None, Some, Option, refl, sym, ap, ◌∙◌, subst, is_some}
+use Rattle.std.specs.Prelude.{slice_get}
+use Rattle.std.specs.Option.{option_or}
+use Rattle.std.specs.Ordering.{eq_by_cmp}
+use Rattle.std.specs.FinMap as map
+use Rattle.std.specs.FinMap.{find}
+use Rattle.std.proofs.lemmas.List.{drop_more}
+use Rattle.std.proofs.Math.ListN.{drop_of_length-le}
+use Rattle.sn_record.specs.declared.label.Label.{Label}
+use Rattle.sn_record.specs.Label.{label_cmp, label_cmp_total, label_cmp-IsAntisymmetric}
+use Rattle.sn_record.specs.LabelSet.{Labels, contains, IsSubset, union, minus}
+use Rattle.sn_record.proofs.Maps.{get-append, get-retain_keys, option_or-none}
+
+same_unit : (x y : Option (Unit {0})) → is_some x ≡ is_some y → x ≡ y
+same_unit None None e = refl
+same_unit None (Some y) e = cc
+same_unit (Some x) None e = cc
+same_unit (Some x) (Some y) e = refl
+
+-- sets that hold the same labels are one
+pub same_labels : (s t : Labels) → ((l : Label) → contains s l ≡ contains t l) → s ≡ t
+same_labels s t same = map.same_map label_cmp_total label_cmp-IsAntisymmetric s t (λ l. same_unit _ _ (same l))
+
+is_some-cond : {A : Type 0} (b : Bool) (x : A) (y : Option A) → is_some (cond b (Some x) y) ≡ (b || is_some y)
+is_some-cond true x y = refl
+is_some-cond false x y = refl
+
+-- a set with one label more
+pub contains-insert : (s : Labels) (k l : Label) → contains (map.insert s k tt) l ≡ (eq_by_cmp label_cmp l k || contains s l)
+contains-insert s k l = ap is_some (map.get-insert label_cmp_total s k tt l) ∙ is_some-cond _ tt _
+
+is_some-option_or : {A : Type 0} (x y : Option A) → is_some (option_or x y) ≡ (is_some x || is_some y)
+is_some-option_or None y = refl
+is_some-option_or (Some x) y = refl
+
+pub contains-union : (s t : Labels) (l : Label) → contains (union s t) l ≡ (contains s l || contains t l)
+contains-union s t l = ap is_some (get-append s t l) ∙ is_some-option_or _ _
+
+is_some-cond_none : {A : Type 0} (b : Bool) (x : Option A) → is_some (cond b x None) ≡ (is_some x && b)
+is_some-cond_none true None = refl
+is_some-cond_none true (Some x) = refl
+is_some-cond_none false None = refl
+is_some-cond_none false (Some x) = refl
+
+pub contains-minus : (s t : Labels) (l : Label) → contains (minus s t) l ≡ (contains s l && not (contains t l))
+contains-minus s t l = ap is_some (get-retain_keys s (λ k. not (contains t k)) l) ∙ is_some-cond_none (not (contains t l)) (map.get s l)
+
+or_left : (a b : Bool) → IsTrue a → IsTrue (a || b)
+or_left true b e = refl
+or_left false b e = cc
+
+or_right : (a b : Bool) → IsTrue b → IsTrue (a || b)
+or_right true b e = refl
+or_right false b e = e
+
+and_left : (a b : Bool) → IsTrue (a && b) → IsTrue a
+and_left true b e = refl
+and_left false b e = e
+
+pub IsSubset-union_left : (s t : Labels) → IsSubset s (union s t)
+IsSubset-union_left s t l there = contains-union s t l ∙ or_left _ _ there
+
+pub IsSubset-union_right : (s t : Labels) → IsSubset t (union s t)
+IsSubset-union_right s t l there = contains-union s t l ∙ or_right _ _ there
+
+pub IsSubset-minus : (s t : Labels) → IsSubset (minus s t) s
+IsSubset-minus s t l there = and_left _ (not (contains t l)) (sym (contains-minus s t l) ∙ there)
+
+-- labels that are there, and labels that are to come from place i
+abbrev pub so_far : Labels → List (Label × Unit {0}) → ℕ → Label → Option (Unit {0})
+so_far s es i l = option_or (map.get s l) (find label_cmp l (drop i es))
+
+a_unit : (x : Option (Unit {0})) (y : Unit {0}) → Some tt ≡ option_or x (Some y)
+a_unit None y = refl
+a_unit (Some x) y = refl
+
+one_more : (s : Labels) (e : Label × Unit {0}) (es : List (Label × Unit {0})) (l : Label)
+    → option_or (map.get (map.insert s e.0 tt) l) (find label_cmp l es) ≡ option_or (map.get s l) (find label_cmp l (e ∷ es))
+one_more s e es l =
+    rw (map.get-insert label_cmp_total s e.0 tt l)
+    (elim (eq_by_cmp label_cmp l e.0) as (λ b. option_or (cond b (Some tt) (map.get s l)) (find label_cmp l es) ≡ option_or (map.get s l) (cond b (Some e.1) (find label_cmp l es))) [
+      | true ↦ a_unit (map.get s l) e.1
+      | false ↦ refl
+    ])
+
+-- one label that was to come is there
+pub so_far-insert : (s t : Labels) (es : List (Label × Unit {0})) (i : ℕ) (d : Label × Unit {0}) → i < length es → t ≡ map.insert s (get_or es i d).0 tt
+    → (l : Label) → so_far t es (i + 1) l ≡ so_far s es i l
+so_far-insert s t es i d within is l =
+    ap (λ (m : Labels). option_or (map.get m l) (find label_cmp l (drop (i + 1) es))) is
+    ∙ one_more s (get_or es i d) (drop (i + 1) es) l
+    ∙ sym (ap (λ xs. option_or (map.get s l) (find label_cmp l xs)) (drop_more es i d within))
+
+-- nothing is to come
+pub so_far-past : (s t : Labels) (es : List (Label × Unit {0})) (i : ℕ) → length es ≤ i → ((l : Label) → so_far s es i l ≡ map.get t l) → s ≡ t
+so_far-past s t es i past same =
+    let done : drop i es ≡ [] = drop_of_length-le es past in
+    map.same_map label_cmp_total label_cmp-IsAntisymmetric s t
+    (λ l. sym (ap (λ xs. option_or (map.get s l) (find label_cmp l xs)) done ∙ option_or-none (map.get s l)) ∙ same l)
+
+-- all are to come
+pub so_far-first : (s t : Labels) (l : Label) → so_far s (map.entries t) 0 l ≡ map.get (union s t) l
+so_far-first s t l = ap (option_or (map.get s l)) (sym (map.get-entries t l)) ∙ sym (get-append s t l)

@@ -1,0 +1,4 @@
+pub mod Label
+pub mod LabelSet
+pub mod Value
+pub mod Record

@@ -1,0 +1,21 @@
+//! Records of labelled values, the label sets that name parts of them, and what flows through a network.
+//!
+//! A contract sees a label set and a record as finite maps in the order of their labels.
+#![tactic(auto)]
+
+mod item;
+mod label;
+mod label_map;
+mod label_set;
+mod record;
+mod value;
+
+pub use item::{Fault, FaultKind, Item, Items};
+pub use label::{ByLabel, Kind, Label};
+pub use label_set::LabelSet;
+pub use record::Record;
+pub use sn_list::Memory;
+pub use value::{Text, Value, Values};
+
+#[cfg(test)]
+mod tests;

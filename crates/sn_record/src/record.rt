@@ -1,0 +1,213 @@
+ghost use Rattle.std.specs.Prelude.{◌≡◌, ◌<◌, ◌==◌, ◌||◌, IfOk, IfErr, OnOk, OnErr, IfSome, IsTrue, ◌↔◌, slice_get, if◌then◌else◌};
+ghost use Rattle.std.specs.Option.{option_copied};
+ghost use Rattle.std.specs.List.{filter};
+ghost use Rattle.std.specs.FinMap as map;
+ghost use Rattle.sn_record.specs.LabelSet.{contains};
+
+use crate::label::Label;
+use crate::label_map::LabelMap;
+use crate::label_set::LabelSet;
+use crate::value::Value;
+use sn_list::Memory;
+use std::alloc::Global;
+use std::marker::Model;
+
+/// A finite map from labels to values. Each value is sound, and a tag has an Int.
+#[derive(PartialEq, Eq, Debug, Drop)]
+pub struct Record {
+    values: LabelMap<Value>,
+}
+
+impl Model for Record {
+    ghost use Rattle.std.specs.FinMap as map;
+    ghost use Rattle.sn_record.specs.contracts.label.Label as label;
+    ghost use Rattle.sn_record.specs.contracts.value.Value as value;
+    ghost use Rattle.sn_record.specs.Record.{Entries, IsRecord};
+
+    ghost Value = { Entries };
+
+    ghost coded = { map.code label.the_row.coded value.the_row.coded };
+
+    ghost view = { λ r. r.values };
+
+    ghost inverse = { λ m. record { values = m } };
+
+    ghost invariant = { λ r. IsRecord r.values };
+}
+
+/// A copy of each entry.
+fn copy_all(alloc: Global, entries: &[(Label, Value)]) -> Result<Vec<(Label, Value)>, Memory>
+    ensures { IfOk result (λ copies. copies.items ≡ entries.now) }
+{
+    let mut copies = Vec::new(alloc);
+    for entry in entries {
+        let value = entry.1.copy(alloc)?;
+        copies.push((entry.0, value))?;
+    }
+    Ok(copies)
+}
+
+/// A copy of each entry whose label is in `labels`.
+fn copy_within(
+    alloc: Global,
+    entries: &[(Label, Value)],
+    labels: &LabelSet,
+) -> Result<Vec<(Label, Value)>, Memory>
+    ensures { IfOk result (λ copies. copies.items ≡ filter (λ entry. contains labels.now entry.0) entries.now) }
+{
+    let mut copies = Vec::new(alloc);
+    for entry in entries {
+        if labels.contains(entry.0) {
+            let value = entry.1.copy(alloc)?;
+            copies.push((entry.0, value))?;
+        }
+    }
+    Ok(copies)
+}
+
+impl Record {
+    ghost use Rattle.sn_record.specs.Record.{FitsLabel, IsRecord, Matches, restrict, inherit};
+
+    /// The empty record, which takes no memory until a value is set.
+    pub fn new(alloc: Global) -> Record
+        ensures { result ≡ map.empty }
+    {
+        Record {
+            values: LabelMap::new(alloc),
+        }
+    }
+
+    pub fn len(&self) -> usize
+        ensures { result ≡ map.len self.now }
+    {
+        self.values.len()
+    }
+
+    pub fn is_empty(&self) -> bool
+        ensures { result ≡ (map.len self.now == 0) }
+    {
+        self.values.len() == 0
+    }
+
+    /// The i-th label in ascending order, and its value.
+    pub fn at(&self, i: usize) -> (Label, &Value)
+        requires { i < map.len self.now }
+        ensures entry { slice_get (map.entries self.now) i ≡ Some (result.0, result.1.now) }
+        ensures fits { FitsLabel result.0 result.1.now }
+    {
+        self.values.at(i)
+    }
+
+    /// The labels in ascending order, each beside its value.
+    pub fn as_slice(&self) -> &[(Label, Value)]
+        ensures entries { result.now ≡ map.entries self.now }
+        ensures fits { IsRecord self.now }
+    {
+        self.values.as_slice()
+    }
+
+    pub fn get(&self, label: Label) -> Option<&Value>
+        ensures value { option_copied result ≡ map.get self.now label }
+        ensures fits { IfSome result (λ value. FitsLabel label value.now) }
+    {
+        self.values.get(label)
+    }
+
+    /// Sets the value at `label`, and answers the old one. For want of memory `value` comes back, and the record is
+    /// unchanged.
+    pub fn set(&mut self, label: Label, value: Value) -> Result<Option<Value>, Value>
+        requires { FitsLabel label value }
+        ensures ok { OnOk result (self.new ≡ map.insert self.old label value) }
+        ensures old { IfOk result (λ before. before ≡ map.get self.old label) }
+        ensures err { OnErr result (self.new ≡ self.old) }
+        ensures back { IfErr result (λ refused. refused ≡ value) }
+    {
+        self.values.insert(label, value)
+    }
+
+    /// Whether the record has each label of `variant`.
+    pub fn matches(&self, variant: &LabelSet) -> bool
+        ensures { IsTrue result ↔ Matches self.now variant.now }
+    {
+        for entry in variant.as_slice() {
+            if self.get(entry.0).is_none() {
+                return false;
+            }
+        }
+        true
+    }
+
+    /// A copy of what the record has at labels of `variant`.
+    pub fn restrict(&self, alloc: Global, variant: &LabelSet) -> Result<Record, Memory>
+        ensures { IfOk result (λ part. part ≡ restrict self.now variant.now) }
+    {
+        let entries = copy_within(alloc, self.values.as_slice(), variant)?;
+        Ok(Record {
+            values: LabelMap::from_sorted(entries),
+        })
+    }
+
+    /// Sets a copy of `value` at `label`, unless the label is in `named` or has a value.
+    fn add_one(
+        &mut self,
+        alloc: Global,
+        label: Label,
+        value: &Value,
+        named: &LabelSet,
+    ) -> Result<(), Memory>
+        requires { FitsLabel label value.now }
+        ensures { OnOk result (self.new ≡ (if contains named.now label || map.contains_key self.old label then self.old else map.insert self.old label value.now)) }
+    {
+        if named.contains(label) || self.get(label).is_some() {
+            return Ok(());
+        }
+        let value = value.copy(alloc)?;
+        match self.set(label, value) {
+            Ok(_) => Ok(()),
+            Err(_) => Err(Memory),
+        }
+    }
+
+    /// Sets a copy of each value of `from` whose label is neither in `named` nor in `self`.
+    fn add_missing(&mut self, alloc: Global, from: &Record, named: &LabelSet) -> Result<(), Memory>
+        ensures { OnOk result (self.new ≡ inherit from.now named.now self.old) }
+    {
+        for entry in from.values.as_slice() {
+            self.add_one(alloc, entry.0, &entry.1, named)?;
+        }
+        Ok(())
+    }
+
+    /// What a component that names the labels `named` gives where it takes `from` and emits `self`: `self`, with each
+    /// label of `from` that is neither in `named` nor in `self`, at its value in `from`. For want of memory `self` is
+    /// dropped.
+    pub fn inheriting(self, alloc: Global, from: &Record, named: &LabelSet) -> Result<Record, Memory>
+        ensures { IfOk result (λ whole. whole ≡ inherit from.now named.now self) }
+    {
+        let mut whole = self;
+        whole.add_missing(alloc, from, named)?;
+        Ok(whole)
+    }
+
+    /// As `inheriting`, and leaves `emitted` as it is.
+    pub fn inherit(
+        alloc: Global,
+        from: &Record,
+        named: &LabelSet,
+        emitted: &Record,
+    ) -> Result<Record, Memory>
+        ensures { IfOk result (λ whole. whole ≡ inherit from.now named.now emitted.now) }
+    {
+        let copy = emitted.copy(alloc)?;
+        copy.inheriting(alloc, from, named)
+    }
+
+    pub fn copy(&self, alloc: Global) -> Result<Record, Memory>
+        ensures { IfOk result (λ copy. copy ≡ self.now) }
+    {
+        let entries = copy_all(alloc, self.values.as_slice())?;
+        Ok(Record {
+            values: LabelMap::from_sorted(entries),
+        })
+    }
+}
