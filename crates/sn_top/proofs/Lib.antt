@@ -1,0 +1,4 @@
+pub mod Joined
+pub mod Plain
+pub mod Labels
+pub mod Sources
