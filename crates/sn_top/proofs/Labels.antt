@@ -82,7 +82,7 @@ name_some (c ∷ n) h = omega arith
 tag_some : (n : List ℕ) → 0 < length (label_text Tag n)
 tag_some n = omega arith
 
-label_some : (bs : List ℕ) (l : WrittenLabel) → SpellsLabel bs l → 0 < length bs
+pub label_some : (bs : List ℕ) (l : WrittenLabel) → SpellsLabel bs l → 0 < length bs
 label_some bs l s =
     elim l.kind as (λ kind. bs ≡ label_text kind l.name → 0 < length bs) [
       | Field ↦ λ e. omega (arith, ap length e, name_some l.name s.name)

@@ -19,7 +19,7 @@ is_within k c = leb (rank c) k
 abbrev pub AreWithin : ℕ → List ℕ → Type 0
 AreWithin k bs = list_all (is_within k) bs ≡ true
 
-by_test : (P : Type 0) (b : Bool) → (b ≡ true → P) → (b ≡ false → P) → P
+pub by_test : (P : Type 0) (b : Bool) → (b ≡ true → P) → (b ≡ false → P) → P
 by_test P true hit miss = hit refl
 by_test P false hit miss = miss refl
 
@@ -60,7 +60,7 @@ module _ {X : Type 0} (S T : List ℕ → X → Type 0) (k c : ℕ) (first : (p 
   pub joined_within : (bs : List ℕ) (xs : List X) → IsJoined c S T bs xs → AreWithin k bs
   joined_within bs xs j = subst (AreWithin k) (sym j.joined) (pieces_within j.pieces xs j.each)
 
-free_first : (c a : ℕ) (us : List ℕ) → IsFree c (a ∷ us) → a ≢ c
+pub free_first : (c a : ℕ) (us : List ℕ) → IsFree c (a ∷ us) → a ≢ c
 free_first c a us free e = false≢true (sym (All-head (λ x. (x == c) ≡ false) a us free) ∙ eq-eqb a c e)
 
 -- a byte that is free does not stand there

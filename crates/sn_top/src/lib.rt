@@ -3,6 +3,7 @@
 #![tactic(auto)]
 
 mod cuts;
+mod entry;
 mod label;
 mod reading;
 mod source;
@@ -10,4 +11,5 @@ mod written;
 
 pub use reading::ReadFault;
 pub use source::read_source;
-pub use written::{WrittenFilter, WrittenLabel, WrittenPart, WrittenSource, WrittenTemplate};
+pub use entry::read_line;
+pub use written::{WrittenEntry, WrittenFilter, WrittenLabel, WrittenPart, WrittenSource, WrittenTemplate};

@@ -34,3 +34,10 @@ pub struct WrittenSource {
     pub output: Seq<WrittenLabel>,
     pub filters: Seq<WrittenFilter>,
 }
+
+/// An entry of an input's line as it is written: `a=1` or `<t>=1`.
+#[derive(PartialEq, Eq, Debug, Drop)]
+pub struct WrittenEntry {
+    pub label: WrittenLabel,
+    pub value: i64,
+}
