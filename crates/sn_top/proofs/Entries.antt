@@ -16,17 +16,17 @@ use Rattle.sn_top.specs.declared.written.WrittenEntry.{WrittenEntry}
 use Rattle.sn_top.specs.Reading.{Reads, IsFree, AreApart}
 use Rattle.sn_top.specs.Small.{SpellsLabel}
 use Rattle.sn_top.specs.Lines.{SpellsNumber, SpellsEntry, SpellsNextEntry, entry_text}
-use Rattle.sn_top.proofs.Plain.{free_of, by_test, not_free, free_first, cut_once}
+use Rattle.sn_top.proofs.Plain.{is_within, free_of, by_test, not_free, free_first, cut_once}
 use Rattle.sn_top.proofs.Labels.{label_within, label_some}
 
 other_byte : (b c : ℕ) → b ≢ c → (b == c) ≡ false
 other_byte b c apart = by_test ((b == c) ≡ false) (b == c) (λ same. absurd (apart (eqb-true b c same))) (λ miss. miss)
 
-digits_free : (ds : List ℕ) → AllDigits 10 ds → IsFree 44 ds
-digits_free [] h = All-nil (λ b. (b == 44) ≡ false)
-digits_free (c ∷ cs) h =
+digits_free : (s : ℕ) → s < 45 → (ds : List ℕ) → AllDigits 10 ds → IsFree s ds
+digits_free s small [] h = All-nil (λ b. (b == s) ≡ false)
+digits_free s small (c ∷ cs) h =
     let range = digit_from_value c h.0 in
-    All-cons (λ b. (b == 44) ≡ false) c cs (other_byte c 44 (λ e. absurd (omega (arith, range.0, e)))) (digits_free cs h.1)
+    All-cons (λ b. (b == s) ≡ false) c cs (other_byte c s (λ e. absurd (omega (arith, range.0, e)))) (digits_free s small cs h.1)
 
 ascii_digits : (ds : List ℕ) → AllDigits 10 ds → (i : ℕ) → get_or ds i 0 < 128
 ascii_digits [] h i = lit< tt
@@ -43,12 +43,12 @@ number_shape (c ∷ cs) n s =
         (λ minus. inr (cs, ap (λ x. x ∷ cs) (eqb-true c 45 minus), rw minus at given))
         (λ none. inl (rw (none, plain) at given))
 
--- a number holds no comma
-number_free : (bs : List ℕ) (n : ℤ) → SpellsNumber bs n → IsFree 44 bs
-number_free bs n s =
+-- a number holds no comma and no line feed
+number_free : (c : ℕ) → c < 45 → (bs : List ℕ) (n : ℤ) → SpellsNumber bs n → IsFree c bs
+number_free c small bs n s =
     elim (number_shape bs n s) [
-      | inl digits ↦ digits_free bs digits
-      | inr signed ↦ subst (IsFree 44) (sym signed.1) (All-cons (λ b. (b == 44) ≡ false) 45 signed.0 refl (digits_free signed.0 signed.2))
+      | inl digits ↦ digits_free c small bs digits
+      | inr signed ↦ subst (IsFree c) (sym signed.1) (All-cons (λ b. (b == c) ≡ false) 45 signed.0 (other_byte 45 c (λ e. absurd (omega (arith, e)))) (digits_free c small signed.0 signed.2))
     ]
 
 ascii_signed : (ds : List ℕ) → AllDigits 10 ds → (i : ℕ) → get_or (45 ∷ ds) i 0 < 128
@@ -75,21 +75,31 @@ number_parsed bs (Err e) h plain short = λ n s. h (s.digits, s.fits)
 entry_some : (bs : List ℕ) (e : WrittenEntry) → SpellsEntry bs e → 0 < length bs
 entry_some bs e s = omega (arith, ap length s.written, length-append s.label (codes "=" ++ s.number))
 
-entry_free : (bs : List ℕ) (e : WrittenEntry) → SpellsEntry bs e → IsFree 44 bs
-entry_free bs e s =
-    let front : IsFree 44 s.label = free_of 0 44 s.label refl (label_within 0 s.label e.label s.spells_label) in
-    let back : IsFree 44 (61 ∷ s.number) = All-cons (λ b. (b == 44) ≡ false) 61 s.number refl (number_free s.number e.value s.spells_number) in
-    subst (IsFree 44) (sym s.written) (All-append (λ b. (b == 44) ≡ false) s.label (61 ∷ s.number) front back)
+pub entry_free : (c : ℕ) → c < 45 → is_within 0 c ≡ false → (bs : List ℕ) (e : WrittenEntry) → SpellsEntry bs e → IsFree c bs
+entry_free c small out bs e s =
+    let front : IsFree c s.label = free_of 0 c s.label out (label_within 0 s.label e.label s.spells_label) in
+    let back : IsFree c (61 ∷ s.number) = All-cons (λ b. (b == c) ≡ false) 61 s.number (other_byte 61 c (λ e. absurd (omega (arith, e)))) (number_free c small s.number e.value s.spells_number) in
+    subst (IsFree c) (sym s.written) (All-append (λ b. (b == c) ≡ false) s.label (61 ∷ s.number) front back)
+
+pub next_entry_free : (c : ℕ) → c < 45 → is_within 0 c ≡ false → c ≢ 32 → (bs : List ℕ) (e : WrittenEntry) → SpellsNextEntry bs e → IsFree c bs
+next_entry_free c small out other bs e s =
+    elim s.blank [
+      | inl plain ↦ subst (IsFree c) (sym plain) (entry_free c small out s.rest e s.entry)
+      | inr spaced ↦ subst (IsFree c) (sym spaced) (All-cons (λ b. (b == c) ≡ false) 32 s.rest (other_byte 32 c (λ e. other (sym e))) (entry_free c small out s.rest e s.entry))
+    ]
+
+next_entry_some : (bs : List ℕ) (e : WrittenEntry) → SpellsNextEntry bs e → 0 < length bs
+next_entry_some bs e s =
+    elim s.blank [
+      | inl plain ↦ omega (arith, ap length plain, entry_some s.rest e s.entry)
+      | inr spaced ↦ omega (arith, ap length spaced)
+    ]
 
 pub entry_apart : AreApart 44 SpellsEntry
-entry_apart bs e s = (entry_some bs e s, entry_free bs e s)
+entry_apart bs e s = (entry_some bs e s, entry_free 44 (lit< tt) refl bs e s)
 
 pub next_entry_apart : AreApart 44 SpellsNextEntry
-next_entry_apart bs e s =
-    elim s.blank [
-      | inl plain ↦ subst (λ xs. (0 < length xs) × IsFree 44 xs) (sym plain) (entry_apart s.rest e s.entry)
-      | inr spaced ↦ subst (λ xs. (0 < length xs) × IsFree 44 xs) (sym spaced) (omega arith, All-cons (λ b. (b == 44) ≡ false) 32 s.rest refl (entry_free s.rest e s.entry))
-    ]
+next_entry_apart bs e s = (next_entry_some bs e s, next_entry_free 44 (lit< tt) refl (λ x. absurd (omega (arith, x))) bs e s)
 
 -- an entry is cut as it was written
 entry_same : (bs label number : List ℕ) (e : WrittenEntry) → bs ≡ entry_text label number → IsFree 61 label → (s : SpellsEntry bs e) → (label ≡ s.label) × (number ≡ s.number)

@@ -1,11 +1,12 @@
 -- Pieces that are joined by a byte, and what each of them spells.
-use Rattle.std.proofs.Common.{◌≡◌, ℕ, zero, suc, ◌+◌, ◌<◌, ◌≤◌, ◌==◌, Bool, true, false, List, [], ◌∷◌, ◌++◌, length, get_or, take, drop, length-append, length-take-le, map, Bor, refl, sym, ap, ◌∙◌, subst, arith, eq-eqb}
+use Rattle.std.proofs.Common.{◌≡◌, ℕ, zero, suc, ◌+◌, ◌<◌, ◌≤◌, ◌==◌, Bool, true, false, List, [], ◌∷◌, ◌++◌, length, get_or, take, drop, length-append, length-take-le, map, Bor, refl, sym, ap, ◌∙◌, subst, arith, eq-eqb, append_assoc}
 use Rattle.std.specs.Prelude.{Result, Ok, Err, IfOk, MatchResult}
 use Rattle.std.specs.List.{All, AllZip, join_with_byte, slice_split}
 use Rattle.std.proofs.lemmas.List.{take_more, take_all, nil_from_length, length-map, get_or-map}
 use Rattle.std.proofs.lemmas.List.Splits.{slice_split_none, slice_split_at, join_with_byte-slice_split}
 use Rattle.sn_top.specs.declared.reading.ReadFault.{ReadFault}
 use Rattle.sn_top.specs.declared.reading.ReadFault.TheVariants.{NotBuilt, Memory}
+use Rattle.sn_top.proofs.Plain.{not_free}
 use Rattle.sn_top.specs.Reading.{Reads, IsFree, IsJoined, AllPieces, at_place, AreApart}
 
 module _ {X : Type 0} (T : List ℕ → X → Type 0) where
@@ -76,12 +77,46 @@ module _ {X : Type 0} (S T : List ℕ → X → Type 0) where
     none_spelled bs p ps [] none e h = absurd h
     none_spelled bs p ps (x ∷ xs) none e h = absurd (omega (arith, ap length e, join_some p ps (apart p x h.0).0))
 
-    none_joined : (bs : List ℕ) → length bs ≡ 0 → (xs : List X) → IsJoined c S T bs xs → xs ≡ []
+    pub none_joined : (bs : List ℕ) → length bs ≡ 0 → (xs : List X) → IsJoined c S T bs xs → xs ≡ []
     none_joined bs none xs j =
         elim j.pieces as (λ ps. bs ≡ join_with_byte c ps → AllPieces S T ps xs → xs ≡ []) [
           | [] ↦ λ e h. elim xs as (λ ys. AllPieces S T [] ys → ys ≡ []) [ [] ↦ λ _. refl | y ∷ ys ↦ λ no. absurd no ] h
           | p ∷ ps ↦ λ e h. none_spelled bs p ps xs none e h
         ] j.joined j.each
+
+-- a list that ends in a byte does not end in bytes among which it is not
+not_ended : (c : ℕ) (q last b : List ℕ) → 0 < length last → IsFree c last → q ++ last ≡ b ++ c ∷ [] → ⊥
+not_ended c [] last b some free e = not_free c b [] (subst (IsFree c) e free)
+not_ended c (x ∷ q) last [] some free e = absurd (omega (arith, ap length e, length-append q last))
+not_ended c (x ∷ q) last (y ∷ b) some free e = not_ended c q last b some free (cc)
+
+module _ {X : Type 0} (S T : List ℕ → X → Type 0) (c : ℕ) (apart : AreApart c S) (next_apart : AreApart c T) where
+  -- what is joined ends in the last piece
+  next_ends : (p : List ℕ) (ps : List (List ℕ)) (xs : List X) → (0 < length p) × IsFree c p → AllZip T ps xs → (q : List ℕ) × (last : List ℕ) × (join_with_byte c (p ∷ ps) ≡ q ++ last) × (0 < length last) × IsFree c last
+  next_ends p [] xs here a = ([], p, refl, here.0, here.1)
+  next_ends p (r ∷ ps) [] here a = absurd a
+  next_ends p (r ∷ ps) (x ∷ xs) here a =
+      let more = next_ends r ps xs (next_apart r x a.0) a.1 in
+      (p ++ c ∷ more.0, more.1, ap (λ rest. p ++ c ∷ rest) more.2 ∙ sym (append_assoc p (c ∷ more.0) more.1), more.3, more.4)
+
+  pieces_ended : (b : List ℕ) (ps : List (List ℕ)) (xs : List X) → AllPieces S T ps xs → join_with_byte c ps ≡ b ++ c ∷ [] → ⊥
+  pieces_ended b [] xs a e = absurd (omega (arith, ap length e, length-append b (c ∷ [])))
+  pieces_ended b (p ∷ ps) [] a e = absurd a
+  pieces_ended b (p ∷ ps) (x ∷ xs) a e =
+      let end = next_ends p ps xs (apart p x a.0) a.1 in
+      not_ended c end.0 end.1 b end.3 end.4 (sym end.2 ∙ e)
+
+  -- nothing is joined that ends in the separator
+  pub joined_ended : (bs b : List ℕ) (xs : List X) → bs ≡ b ++ c ∷ [] → IsJoined c S T bs xs → ⊥
+  joined_ended bs b xs e j = pieces_ended b j.pieces xs j.each (sym j.joined ∙ e)
+
+  some_pieces : (ps : List (List ℕ)) (xs : List X) → AllPieces S T ps xs → 0 < length (join_with_byte c ps) → 0 < length xs
+  some_pieces [] xs a some = absurd (omega arith)
+  some_pieces (p ∷ ps) [] a some = absurd a
+  some_pieces (p ∷ ps) (x ∷ xs) a some = omega arith
+
+  pub joined_some : (bs : List ℕ) (xs : List X) → 0 < length bs → IsJoined c S T bs xs → 0 < length xs
+  joined_some bs xs some j = some_pieces j.pieces xs j.each (omega (arith, ap length j.joined))
 
 -- a reading of the pieces that has come to place i
 pub record HasRead {X : Type 0} (S T : List ℕ → X → Type 0) (parts : List (List ℕ)) (found : List X) (i : ℕ) : Type 0 where

@@ -3,3 +3,4 @@ pub mod Plain
 pub mod Labels
 pub mod Sources
 pub mod Entries
+pub mod Inputs

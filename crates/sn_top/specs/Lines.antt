@@ -3,6 +3,7 @@ use Rattle.std.specs.Prelude.{◌≡◌, ◌≢◌, ◌≤◌, ◌<◌, ℕ, ℤ
 use Rattle.std.specs.Int.{w64}
 use Rattle.std.specs.Str.Parse.{IsNumeral, without_leading_sign, signed_digits_value}
 use Rattle.sn_top.specs.declared.written.WrittenEntry.{WrittenEntry}
+use Rattle.sn_top.specs.declared.written.WrittenLine.{WrittenLine}
 use Rattle.sn_top.specs.Reading.{IsJoined, IsBraced}
 use Rattle.sn_top.specs.Small.{SpellsLabel}
 
@@ -30,11 +31,11 @@ pub record SpellsNextEntry (bytes : List ℕ) (e : WrittenEntry) : Type 0 where
   pub blank : (bytes ≡ rest) ⊎ (bytes ≡ codes " " ++ rest)
   pub entry : SpellsEntry rest e
 
-abbrev pub SpellsLine : List ℕ → List WrittenEntry → Type 0
-SpellsLine = IsBraced SpellsEntry SpellsNextEntry
+abbrev pub SpellsLine : List ℕ → WrittenLine → Type 0
+SpellsLine bytes l = IsBraced SpellsEntry SpellsNextEntry bytes l.entries
 
 -- lines, each of which a line feed ends, but the last may lack it
-pub record SpellsInput (bytes : List ℕ) (lines : List (List WrittenEntry)) : Type 0 where
+pub record SpellsInput (bytes : List ℕ) (lines : List WrittenLine) : Type 0 where
   pub body : List ℕ
   pub end : (bytes ≡ body) ⊎ ((bytes ≡ body ++ codes "\n") × (0 < length lines))
   pub list : IsJoined 10 SpellsLine SpellsLine body lines

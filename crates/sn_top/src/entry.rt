@@ -1,13 +1,13 @@
 ghost use Rattle.std.specs.Prelude.{◌≡◌, ◌≢◌, ℤ, length, slice_index, MatchOption};
 ghost use Rattle.std.specs.Str.Parse.{without_leading_sign};
 ghost use Rattle.sn_top.specs.Reading.{Reads};
-ghost use Rattle.sn_top.specs.Lines.{SpellsNumber, SpellsEntry, SpellsNextEntry, SpellsLine};
+ghost use Rattle.sn_top.specs.Lines.{SpellsNumber, SpellsEntry, SpellsNextEntry, SpellsLine, SpellsInput};
 
-use crate::cuts::{after, cut};
+use crate::cuts::{after, before, cut};
 use crate::label::read_label;
-use crate::reading::{ReadFault, Spelled};
+use crate::reading::{ReadFault, Spelled, read_joined};
 use crate::source::read_braced;
-use crate::written::WrittenEntry;
+use crate::written::{WrittenEntry, WrittenLine};
 use sn_list::Seq;
 use std::alloc::Global;
 
@@ -78,8 +78,38 @@ impl Spelled for WrittenEntry {
     }
 }
 
-pub fn read_line(alloc: Global, bytes: &[u8]) -> Result<Seq<WrittenEntry>, ReadFault>
+fn read_line(alloc: Global, bytes: &[u8]) -> Result<WrittenLine, ReadFault>
     ensures { Reads SpellsLine bytes.now result }
 {
-    read_braced(alloc, bytes)
+    let entries: Seq<WrittenEntry> = read_braced(alloc, bytes)?;
+    Ok(WrittenLine { entries })
+}
+
+impl Spelled for WrittenLine {
+    ghost use Rattle.sn_top.specs.Lines.{SpellsLine};
+
+    ghost spells = { SpellsLine };
+
+    ghost spells_next = { SpellsLine };
+
+    fn read(alloc: Global, bytes: &[u8]) -> Result<WrittenLine, ReadFault> {
+        read_line(alloc, bytes)
+    }
+
+    fn read_next(alloc: Global, bytes: &[u8]) -> Result<WrittenLine, ReadFault> {
+        read_line(alloc, bytes)
+    }
+}
+
+/// The lines of an input, the last of which may lack its line feed.
+pub fn read_lines(alloc: Global, bytes: &[u8]) -> Result<Seq<WrittenLine>, ReadFault>
+    ensures { Reads SpellsInput bytes.now result }
+{
+    let Some(body) = before(bytes, b"\n") else {
+        return read_joined(alloc, bytes, b'\n');
+    };
+    if body.is_empty() {
+        return Err(ReadFault::NotBuilt);
+    }
+    read_joined(alloc, body, b'\n')
 }

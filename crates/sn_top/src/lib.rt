@@ -11,5 +11,5 @@ mod written;
 
 pub use reading::ReadFault;
 pub use source::read_source;
-pub use entry::read_line;
-pub use written::{WrittenEntry, WrittenFilter, WrittenLabel, WrittenPart, WrittenSource, WrittenTemplate};
+pub use entry::read_lines;
+pub use written::{WrittenEntry, WrittenLine, WrittenFilter, WrittenLabel, WrittenPart, WrittenSource, WrittenTemplate};

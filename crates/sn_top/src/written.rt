@@ -41,3 +41,9 @@ pub struct WrittenEntry {
     pub label: WrittenLabel,
     pub value: i64,
 }
+
+/// A line of an input as it is written.
+#[derive(PartialEq, Eq, Debug, Drop)]
+pub struct WrittenLine {
+    pub entries: Seq<WrittenEntry>,
+}
