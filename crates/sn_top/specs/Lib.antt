@@ -2,3 +2,5 @@ pub mod Reading
 pub mod Small
 pub mod Names
 pub mod Lines
+pub mod Status
+pub mod Seen

@@ -5,11 +5,14 @@
 mod cuts;
 mod entry;
 mod label;
+mod outside;
 mod reading;
 mod source;
+mod status;
 mod written;
 
 pub use reading::ReadFault;
 pub use source::read_source;
+pub use status::{Refusal, Status, Stop, Which};
 pub use entry::read_lines;
 pub use written::{WrittenEntry, WrittenLine, WrittenFilter, WrittenLabel, WrittenPart, WrittenSource, WrittenTemplate};

@@ -1,0 +1,63 @@
+-- Statuses, and the lines on `err`.
+use Rattle.std.specs.Prelude.{ℕ, List, [], ◌++◌, codes}
+use Rattle.sn_top.specs.declared.reading.ReadFault.{ReadFault}
+use Rattle.sn_top.specs.declared.reading.ReadFault.TheVariants as fault
+use Rattle.sn_top.specs.declared.status.Status.{Status}
+use Rattle.sn_top.specs.declared.status.Status.TheVariants as status
+use Rattle.sn_top.specs.declared.status.Which.{Which}
+use Rattle.sn_top.specs.declared.status.Which.TheVariants.{Source, Input}
+use Rattle.sn_top.specs.declared.status.Refusal.{Refusal}
+use Rattle.sn_top.specs.declared.status.Refusal.TheVariants.{TooLarge, NotBuilt}
+use Rattle.sn_top.specs.declared.status.Stop.{Stop}
+use Rattle.sn_top.specs.declared.status.Stop.TheVariants as stop
+
+abbrev pub status_code : Status → ℕ
+status_code status.Ok = 0
+status_code status.Usage = 2
+status_code status.Read = 3
+status_code status.Memory = 8
+status_code status.Write = 9
+status_code status.TooLarge = 10
+status_code status.NotBuilt = 12
+
+abbrev pub fault_stop : ReadFault → Stop
+fault_stop fault.NotBuilt = stop.Refused NotBuilt
+fault_stop fault.Memory = stop.Memory
+
+abbrev pub refusal_status : Refusal → Status
+refusal_status (TooLarge which) = status.TooLarge
+refusal_status NotBuilt = status.NotBuilt
+
+abbrev pub stop_status : Stop → Status
+stop_status (stop.Refused refusal) = refusal_status refusal
+stop_status (stop.Unread which) = status.Read
+stop_status stop.Memory = status.Memory
+stop_status stop.Write = status.Write
+
+abbrev pub name_of : Which → List ℕ → List ℕ → List ℕ
+name_of Source source input = source
+name_of Input source input = input
+
+abbrev pub refusal_label : Refusal → List ℕ
+refusal_label (TooLarge which) = codes "too large: "
+refusal_label NotBuilt = codes "not built"
+
+abbrev pub stop_label : Stop → List ℕ
+stop_label (stop.Refused refusal) = refusal_label refusal
+stop_label (stop.Unread which) = codes "read: "
+stop_label stop.Memory = codes "memory"
+stop_label stop.Write = codes "write"
+
+abbrev pub refusal_name : Refusal → List ℕ → List ℕ → List ℕ
+refusal_name (TooLarge which) source input = name_of which source input
+refusal_name NotBuilt source input = []
+
+abbrev pub stop_name : Stop → List ℕ → List ℕ → List ℕ
+stop_name (stop.Refused refusal) source input = refusal_name refusal source input
+stop_name (stop.Unread which) source input = name_of which source input
+stop_name stop.Memory source input = []
+stop_name stop.Write source input = []
+
+-- the line on `err`, which names a file by its word
+abbrev pub stop_line : Stop → List ℕ → List ℕ → List ℕ
+stop_line why source input = stop_label why ++ (stop_name why source input ++ codes "\n")
