@@ -181,12 +181,16 @@ impl Record {
     /// What a component that names the labels `named` gives where it takes `from` and emits `self`: `self`, with each
     /// label of `from` that is neither in `named` nor in `self`, at its value in `from`. For want of memory `self` is
     /// dropped.
-    pub fn inheriting(self, alloc: Global, from: &Record, named: &LabelSet) -> Result<Record, Memory>
+    pub fn inheriting(
+        mut self,
+        alloc: Global,
+        from: &Record,
+        named: &LabelSet,
+    ) -> Result<Record, Memory>
         ensures { IfOk result (λ whole. whole ≡ inherit from.now named.now self) }
     {
-        let mut whole = self;
-        whole.add_missing(alloc, from, named)?;
-        Ok(whole)
+        self.add_missing(alloc, from, named)?;
+        Ok(self)
     }
 
     /// As `inheriting`, and leaves `emitted` as it is.
