@@ -53,7 +53,8 @@ fn copy_within(
     entries: &[(Label, Value)],
     labels: &LabelSet,
 ) -> Result<Vec<(Label, Value)>, Memory>
-    ensures { IfOk result (λ copies. copies.items ≡ filter (λ entry. contains labels.now entry.0) entries.now) }
+    ensures { IfOk result (λ copies.
+        copies.items ≡ filter (λ entry. contains labels.now entry.0) entries.now) }
 {
     let mut copies = Vec::new(alloc);
     for entry in entries {
@@ -156,7 +157,9 @@ impl Record {
         named: &LabelSet,
     ) -> Result<(), Memory>
         requires { FitsLabel label value.now }
-        ensures { OnOk result (self.new ≡ (if contains named.now label || map.contains_key self.old label then self.old else map.insert self.old label value.now)) }
+        ensures { OnOk result (self.new ≡
+            (if contains named.now label || map.contains_key self.old label then self.old
+            else map.insert self.old label value.now)) }
     {
         if named.contains(label) || self.get(label).is_some() {
             return Ok(());
