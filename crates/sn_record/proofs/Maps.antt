@@ -1,5 +1,5 @@
 -- Maps by label, and the lists of their entries.
-use Rattle.std.proofs.Common.{◌≡◌, ℕ, zero, suc, ◌+◌, ◌<◌, ◌≤◌, ◌&&◌, Bool, true, false, cond, IsTrue, ◌↔◌, List, [], ◌∷◌, ◌++◌, length, get_or, drop, None, Some, Option, refl, sym, ap, ◌∙◌, subst, arith, T}
+use Rattle.std.proofs.Common.{◌≡◌, ℕ, zero, suc, ◌<◌, ◌&&◌, ◌||◌, Bool, true, false, cond, is_some, IsTrue, ◌↔◌, List, [], ◌∷◌, ◌++◌, length, get_or, None, Some, Option, refl, sym, ap, ◌∙◌, subst, arith, T}
 use Rattle.std.specs.Prelude.{map as each, slice_get}
 use Rattle.std.specs.List.{filter, list_all, list_any}
 use Rattle.std.specs.Option.{option_or, option_map}
@@ -12,7 +12,6 @@ use Rattle.std.specs.FinMap.Entries.{below_all, find-where_key, is_sorted-put, i
 use Rattle.std.proofs.Flags.{T_true}
 use Rattle.std.proofs.lemmas.Grind.{common_steps}
 use Rattle.std.proofs.lemmas.Option.{slice_get-map, slice_get_within, get_or_from_slice_get}
-use Rattle.std.proofs.Math.ListN.{drop_of_length-le}
 use Rattle.sn_record.specs.declared.label.Label.{Label}
 use Rattle.sn_record.specs.Label.{label_cmp, label_cmp_total, label_cmp-IsAntisymmetric}
 
@@ -40,6 +39,11 @@ alike p l k equal = ap p (sym (label_cmp-IsAntisymmetric l k equal))
 pub option_or-none : {A : Type 0} (x : Option A) → option_or x None ≡ x
 option_or-none None = refl
 option_or-none (Some x) = refl
+
+-- whether there is one of the two
+pub is_some-cond : {A : Type 0} (b : Bool) (x : A) (y : Option A) → is_some (cond b (Some x) y) ≡ (b || is_some y)
+is_some-cond true x y = refl
+is_some-cond false x y = refl
 
 module _ {V : Type 0} where
   pub entries-from_sorted : (es : List (Label × V)) → IsTrue (is_sorted label_cmp es) → map.entries (map.from_sorted {R = label_cmp} es) ≡ es

@@ -1,5 +1,5 @@
 -- Records by what stands at each label.
-use Rattle.std.proofs.Common.{◌≡◌, ℕ, ◌+◌, ◌<◌, ◌≤◌, ◌||◌, Bool, true, false, cond, not, IsTrue, List, [], ◌∷◌, length, get_or, drop, None, Some, Option, IfSome, refl, sym, ap, ◌∙◌, subst, is_some}
+use Rattle.std.proofs.Common.{◌≡◌, ℕ, ◌+◌, ◌<◌, ◌≤◌, ◌&&◌, ◌||◌, Bool, true, false, cond, not, IsTrue, List, [], ◌∷◌, length, get_or, drop, None, Some, Option, IfSome, refl, sym, ap, ◌∙◌, subst, is_some}
 use Rattle.std.specs.Prelude.{if◌then◌else◌, slice_get, Result, Ok, Err, OnOk, OnErr}
 use Rattle.std.specs.List.{filter}
 use Rattle.std.specs.Option.{option_or}
@@ -14,7 +14,7 @@ use Rattle.sn_record.specs.declared.value.Value.{Value}
 use Rattle.sn_record.specs.Label.{label_cmp, label_cmp_total, label_cmp-IsAntisymmetric}
 use Rattle.sn_record.specs.LabelSet.{Labels, contains}
 use Rattle.sn_record.specs.Record.{Entries, FitsLabel, IsRecord, Matches, overlay, restrict, inherit}
-use Rattle.sn_record.proofs.Maps.{ties_itself, same_label, option_or-none, get-append, get-retain_keys, get-slice_get, find-filter}
+use Rattle.sn_record.proofs.Maps.{ties_itself, same_label, option_or-none, is_some-cond, get-append, get-retain_keys, get-slice_get, find-filter}
 
 -- records that have the same value at each label are one
 pub same_record : (r s : Entries) → ((l : Label) → map.get r l ≡ map.get s l) → r ≡ s
@@ -44,6 +44,36 @@ get-others r v l = get-retain_keys r (λ k. not (contains v k)) l ∙ turned (co
 
 pub get-inherit : (r : Entries) (v : Labels) (o : Entries) (l : Label) → map.get (inherit r v o) l ≡ option_or (map.get o l) (if contains v l then None else map.get r l)
 get-inherit r v o l = get-overlay o _ l ∙ ap (option_or (map.get o l)) (get-others r v l)
+
+-- the labels of a record with one value more
+pub contains_key-insert : (r : Entries) (l : Label) (v : Value) (k : Label) → map.contains_key (map.insert r l v) k ≡ (eq_by_cmp label_cmp k l || map.contains_key r k)
+contains_key-insert r l v k = ap is_some (map.get-insert label_cmp_total r l v k) ∙ is_some-cond (eq_by_cmp label_cmp k l) v (map.get r k)
+
+is_some_if : {A : Type 0} (named : Bool) (x : Option A) → is_some (if named then x else None) ≡ (named && is_some x)
+is_some_if true x = refl
+is_some_if false x = refl
+
+pub contains_key-restrict : (r : Entries) (v : Labels) (l : Label) → map.contains_key (restrict r v) l ≡ (contains v l && map.contains_key r l)
+contains_key-restrict r v l = ap is_some (get-restrict r v l) ∙ is_some_if (contains v l) (map.get r l)
+
+is_some_else : {A : Type 0} (named : Bool) (x y : Option A) → is_some (option_or x (if named then None else y)) ≡ (is_some x || (not named && is_some y))
+is_some_else true None y = refl
+is_some_else false None y = refl
+is_some_else named (Some x) y = refl
+
+-- the labels of the whole: those that were emitted, and those that were taken and not named
+pub contains_key-inherit : (r : Entries) (v : Labels) (o : Entries) (l : Label) → map.contains_key (inherit r v o) l ≡ (map.contains_key o l || (not (contains v l) && map.contains_key r l))
+contains_key-inherit r v o l = ap is_some (get-inherit r v o l) ∙ is_some_else (contains v l) (map.get o l) (map.get r l)
+
+either_part : {A : Type 0} (named : Bool) (x : Option A) → option_or (if named then x else None) (if named then None else x) ≡ x
+either_part true x = option_or-none x
+either_part false x = refl
+
+-- a component that emits what it names gives the record back
+pub inherit-restrict : (r : Entries) (v : Labels) → inherit r v (restrict r v) ≡ r
+inherit-restrict r v =
+    same_record _ r
+    (λ l. get-inherit r v (restrict r v) l ∙ ap (λ x. option_or x (if contains v l then None else map.get r l)) (get-restrict r v l) ∙ either_part (contains v l) (map.get r l))
 
 first_wins : {A : Type 0} (x y z : Option A) → is_some x ≡ true → option_or x y ≡ option_or x z
 first_wins None y z e = cc

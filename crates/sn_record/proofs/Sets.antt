@@ -1,6 +1,5 @@
 -- Sets of labels by which labels they hold.
-use Rattle.std.proofs.Common.{◌≡◌, ℕ, ◌+◌, ◌<◌, ◌≤◌, ◌&&◌, ◌||◌, Bool, true, false, cond, not, IsTrue, List, [], ◌∷◌, length, get_or, drop, None, Some, Option, refl, sym, ap, ◌∙◌, subst, is_some}
-use Rattle.std.specs.Prelude.{slice_get}
+use Rattle.std.proofs.Common.{◌≡◌, ℕ, ◌+◌, ◌<◌, ◌≤◌, ◌&&◌, ◌||◌, Bool, true, false, cond, not, IsTrue, List, [], ◌∷◌, length, get_or, drop, None, Some, Option, refl, sym, ap, ◌∙◌, is_some}
 use Rattle.std.specs.Option.{option_or}
 use Rattle.std.specs.Ordering.{eq_by_cmp}
 use Rattle.std.specs.FinMap as map
@@ -10,7 +9,7 @@ use Rattle.std.proofs.Math.ListN.{drop_of_length-le}
 use Rattle.sn_record.specs.declared.label.Label.{Label}
 use Rattle.sn_record.specs.Label.{label_cmp, label_cmp_total, label_cmp-IsAntisymmetric}
 use Rattle.sn_record.specs.LabelSet.{Labels, contains, IsSubset, union, minus}
-use Rattle.sn_record.proofs.Maps.{get-append, get-retain_keys, option_or-none}
+use Rattle.sn_record.proofs.Maps.{get-append, get-retain_keys, option_or-none, is_some-cond}
 
 same_unit : (x y : Option (Unit {0})) → is_some x ≡ is_some y → x ≡ y
 same_unit None None e = refl
@@ -21,10 +20,6 @@ same_unit (Some x) (Some y) e = refl
 -- sets that hold the same labels are one
 pub same_labels : (s t : Labels) → ((l : Label) → contains s l ≡ contains t l) → s ≡ t
 same_labels s t same = map.same_map label_cmp_total label_cmp-IsAntisymmetric s t (λ l. same_unit _ _ (same l))
-
-is_some-cond : {A : Type 0} (b : Bool) (x : A) (y : Option A) → is_some (cond b (Some x) y) ≡ (b || is_some y)
-is_some-cond true x y = refl
-is_some-cond false x y = refl
 
 -- a set with one label more
 pub contains-insert : (s : Labels) (k l : Label) → contains (map.insert s k tt) l ≡ (eq_by_cmp label_cmp l k || contains s l)

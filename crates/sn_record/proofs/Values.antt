@@ -1,6 +1,6 @@
 -- What a value made of its variant is, and values that may stand at a label.
 use Rattle.std.proofs.Common.{◌≡◌, ◌+◌, ℕ, ℤ, Bool, true, List, length, map, sum, sym, ap, ◌∙◌, subst, arith}
-use Rattle.sn_record.specs.declared.label.Kind.TheVariants.{Field, Tag}
+use Rattle.sn_record.specs.declared.label.Kind.TheVariants.{Field}
 use Rattle.sn_record.specs.declared.label.Label.{Label}
 use Rattle.sn_record.specs.declared.value.Value.{Value}
 use Rattle.sn_record.specs.declared.value.Value.TheOpen.{Value-F}

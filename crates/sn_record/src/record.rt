@@ -53,7 +53,8 @@ fn copy_within(
     entries: &[(Label, Value)],
     labels: &LabelSet,
 ) -> Result<Vec<(Label, Value)>, Memory>
-    ensures { IfOk result (λ copies. copies.items ≡ filter (λ entry. contains labels.now entry.0) entries.now) }
+    ensures { IfOk result (λ copies.
+        copies.items ≡ filter (λ entry. contains labels.now entry.0) entries.now) }
 {
     let mut copies = Vec::new(alloc);
     for entry in entries {
@@ -156,7 +157,9 @@ impl Record {
         named: &LabelSet,
     ) -> Result<(), Memory>
         requires { FitsLabel label value.now }
-        ensures { OnOk result (self.new ≡ (if contains named.now label || map.contains_key self.old label then self.old else map.insert self.old label value.now)) }
+        ensures { OnOk result (self.new ≡
+            (if contains named.now label || map.contains_key self.old label then self.old
+            else map.insert self.old label value.now)) }
     {
         if named.contains(label) || self.get(label).is_some() {
             return Ok(());
@@ -181,12 +184,16 @@ impl Record {
     /// What a component that names the labels `named` gives where it takes `from` and emits `self`: `self`, with each
     /// label of `from` that is neither in `named` nor in `self`, at its value in `from`. For want of memory `self` is
     /// dropped.
-    pub fn inheriting(self, alloc: Global, from: &Record, named: &LabelSet) -> Result<Record, Memory>
+    pub fn inheriting(
+        mut self,
+        alloc: Global,
+        from: &Record,
+        named: &LabelSet,
+    ) -> Result<Record, Memory>
         ensures { IfOk result (λ whole. whole ≡ inherit from.now named.now self) }
     {
-        let mut whole = self;
-        whole.add_missing(alloc, from, named)?;
-        Ok(whole)
+        self.add_missing(alloc, from, named)?;
+        Ok(self)
     }
 
     /// As `inheriting`, and leaves `emitted` as it is.

@@ -71,16 +71,29 @@ fn sets_hold_their_labels(rt: HostRuntime) -> Result<(), Fail> {
     Ok(())
 }
 
+/// What {a = 1, <t> = 7} gives to `emitted` where a is named.
+fn whole_of(alloc: Global, emitted: Record) -> Result<Record, Memory> {
+    let taken = record_of(alloc, (A, 1), (T, 7))?;
+    let mut named = LabelSet::new(alloc);
+    named.insert(A)?;
+    emitted.inheriting(alloc, &taken, &named)
+}
+
 #[test]
-fn records_inherit(rt: HostRuntime) -> Result<(), Fail> {
+fn what_was_emitted_stays(rt: HostRuntime) -> Result<(), Fail> {
     let taken = record_of(rt.alloc(), (A, 1), (T, 7))?;
-    let emitted = record_of(rt.alloc(), (B, 1), (B, 2))?;
-    let named = set_of(rt.alloc(), A, A)?;
-    let whole = Record::inherit(rt.alloc(), &taken, &named, &emitted)?;
-    let again = emitted.inheriting(rt.alloc(), &taken, &named)?;
-    let wanted = record_of(rt.alloc(), (T, 7), (B, 2))?;
+    let emitted = record_of(rt.alloc(), (B, 1), (T, 2))?;
+    let whole = Record::inherit(rt.alloc(), &taken, &LabelSet::new(rt.alloc()), &emitted)?;
+    assert_eq!(rt; whole.len(), 3);
+    assert!(rt; whole.get(T) == Some(&Value::Int(2)));
+    Ok(())
+}
+
+#[test]
+fn what_was_not_named_flows(rt: HostRuntime) -> Result<(), Fail> {
+    let whole = whole_of(rt.alloc(), Record::new(rt.alloc()))?;
+    let wanted = record_of(rt.alloc(), (T, 1), (T, 7))?;
     assert!(rt; whole == wanted);
-    assert!(rt; again == wanted);
     Ok(())
 }
 

@@ -37,7 +37,8 @@ impl Value {
     /// What is left of `room` past the value's weight, or nothing where the value is nested deeper than `levels`,
     /// too heavy or not printable. It goes no deeper than `levels` lists, whatever the value.
     fn room_left(&self, levels: u32, room: u32) -> Option<u32>
-        ensures { MatchOption result (¬ FitsIn levels room self.now) (λ left. FitsIn levels room self.now × (weight self.now + left ≡ room)) }
+        ensures { MatchOption result (¬ FitsIn levels room self.now)
+            (λ left. FitsIn levels room self.now × (weight self.now + left ≡ room)) }
     {
         if room == 0 {
             return None;

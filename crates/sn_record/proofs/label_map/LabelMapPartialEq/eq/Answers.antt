@@ -1,4 +1,4 @@
-use Rattle.std.proofs.Common.{◌≡◌, ◌∙◌, ◌&&◌, refl}
+use Rattle.std.proofs.Common.{◌∙◌, ◌&&◌, refl}
 use Rattle.std.specs.Cmp.Lexicographic.{pointwise}
 use Rattle.sn_record.specs.contracts.label.LabelOrd.TheImpl.Laws.{matches_eq-law}
 use Rattle.sn_record.proofs.Maps.{entries-from_sorted}

@@ -1,4 +1,4 @@
-use Rattle.std.proofs.Common.{◌≡◌, ◌∙◌, ap}
+use Rattle.std.proofs.Common.{◌∙◌, ap}
 use Rattle.std.specs.FinMap as map
 use Rattle.sn_record.proofs.Maps.{is_sorted-same, from_sorted-same}
 use Rattle.sn_record.proofs.label_set.LabelSet.copy.Goals as goal

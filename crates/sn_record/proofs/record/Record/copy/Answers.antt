@@ -1,5 +1,4 @@
-use Rattle.std.proofs.Common.{◌≡◌, ◌∙◌, ap, subst, sym}
-use Rattle.std.specs.FinMap as map
+use Rattle.std.proofs.Common.{◌∙◌, subst, sym}
 use Rattle.sn_record.specs.Record.{IsRecord}
 use Rattle.sn_record.proofs.Maps.{is_sorted-same, from_sorted-same}
 use Rattle.sn_record.proofs.record.Record.copy.Goals as goal

@@ -1,4 +1,4 @@
-use Rattle.std.proofs.Common.{◌≡◌, ◌∙◌, ap, subst, sym}
+use Rattle.std.proofs.Common.{◌∙◌, ap, subst, sym}
 use Rattle.std.specs.List.{filter}
 use Rattle.sn_record.specs.LabelSet.{contains}
 use Rattle.sn_record.specs.Record.{IsRecord, restrict}
