@@ -4,3 +4,7 @@ pub mod Labels
 pub mod Sources
 pub mod Entries
 pub mod Inputs
+pub mod NamesLaws
+pub mod Entering
+pub mod Building
+pub mod Distinct

@@ -4,3 +4,4 @@ pub mod Names
 pub mod Lines
 pub mod Status
 pub mod Seen
+pub mod Numbered

@@ -2,9 +2,12 @@
 //! on standard error and the exit status.
 #![tactic(auto)]
 
+mod build;
 mod cuts;
+mod enter;
 mod entry;
 mod label;
+mod names;
 mod outside;
 mod reading;
 mod source;

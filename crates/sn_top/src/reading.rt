@@ -58,7 +58,8 @@ fn read_piece<X: Spelled>(alloc: Global, place: usize, bytes: &[u8]) -> Result<X
     }
 }
 
-fn push<X: Drop>(found: &mut Seq<X>, x: X) -> Result<(), Memory>
+/// Appends `x`, which is dropped for want of memory.
+pub fn push<X: Drop>(found: &mut Seq<X>, x: X) -> Result<(), Memory>
     ensures ok { OnOk result (found.new ≡ found.old ++ x ∷ []) }
     ensures err { OnErr result (found.new ≡ found.old) }
 {
