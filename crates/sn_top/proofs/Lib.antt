@@ -1,10 +1,11 @@
 pub mod Joined
 pub mod Plain
 pub mod Labels
+pub mod Lines
+pub mod NamesLaws
 pub mod Sources
 pub mod Entries
 pub mod Inputs
-pub mod NamesLaws
 pub mod Entering
 pub mod Building
 pub mod Distinct

@@ -5,3 +5,4 @@ pub mod Lines
 pub mod Status
 pub mod Seen
 pub mod Numbered
+pub mod Line

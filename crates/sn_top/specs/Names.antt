@@ -1,5 +1,5 @@
 -- Names of labels, numbered from 0 in the order in which they were entered.
-use Rattle.std.specs.Prelude.{ℕ, suc, Bool, List, [], ◌∷◌, ◌++◌, get_or, if◌then◌else◌}
+use Rattle.std.specs.Prelude.{◌≡◌, ◌≤◌, ℕ, suc, Bool, true, false, IsTrue, not, ◌&&◌, List, [], ◌∷◌, ◌++◌, length, get_or, if◌then◌else◌}
 use Rattle.std.specs.List.{list_any}
 use Rattle.std.specs.Str.{bytes_eq}
 
@@ -22,3 +22,18 @@ number_in (m ∷ names) n = if bytes_eq m n then 0 else suc (number_in names n)
 -- the name of a number
 abbrev pub name_at : List (List ℕ) → ℕ → List ℕ
 name_at names i = get_or names i []
+
+-- no name stands twice
+abbrev pub are_distinct : List (List ℕ) → Bool
+are_distinct [] = true
+are_distinct (m ∷ names) = not (is_held names m) && are_distinct names
+
+-- at most 256 different names
+pub record AreSmallNames (names : List (List ℕ)) : Type 0 where
+  pub few : length names ≤ 256
+  pub distinct : IsTrue (are_distinct names)
+
+-- a name is new to names that are as many as may be
+pub record IsFull (names : List (List ℕ)) (n : List ℕ) : Type 0 where
+  pub fresh : is_held names n ≡ false
+  pub most : length names ≡ 256

@@ -9,11 +9,14 @@ mod entry;
 mod label;
 mod names;
 mod outside;
+mod line;
 mod reading;
 mod source;
 mod status;
 mod written;
 
+pub use line::{is_known, line_of};
+pub use names::{NamesFault, SmallNames};
 pub use reading::ReadFault;
 pub use source::read_source;
 pub use status::{Refusal, Status, Stop, Which};
