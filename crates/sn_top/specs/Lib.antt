@@ -1,3 +1,4 @@
 pub mod Reading
 pub mod Small
 pub mod Names
+pub mod Words

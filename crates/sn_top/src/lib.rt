@@ -6,8 +6,10 @@ mod cuts;
 mod label;
 mod reading;
 mod source;
+mod words;
 mod written;
 
 pub use reading::ReadFault;
 pub use source::read_source;
+pub use words::{Command, DEFAULT_DEPTH, DEFAULT_FUEL, WordsFault, read_words, usage_line};
 pub use written::{WrittenFilter, WrittenLabel, WrittenPart, WrittenSource, WrittenTemplate};
