@@ -9,3 +9,4 @@ pub mod Inputs
 pub mod Entering
 pub mod Building
 pub mod Distinct
+pub mod CommandLaws

@@ -6,3 +6,4 @@ pub mod Status
 pub mod Seen
 pub mod Numbered
 pub mod Line
+pub mod Words

@@ -13,6 +13,7 @@ mod line;
 mod reading;
 mod source;
 mod status;
+mod words;
 mod written;
 
 pub use line::{is_known, line_of};
@@ -22,3 +23,5 @@ pub use source::read_source;
 pub use status::{Refusal, Status, Stop, Which};
 pub use entry::read_lines;
 pub use written::{WrittenEntry, WrittenLine, WrittenFilter, WrittenLabel, WrittenPart, WrittenSource, WrittenTemplate};
+pub use words::{Command, DEFAULT_DEPTH, DEFAULT_FUEL, WordsFault, read_words, usage_line};
+pub use written::{WrittenFilter, WrittenLabel, WrittenPart, WrittenSource, WrittenTemplate};
