@@ -2,3 +2,4 @@ pub mod Joined
 pub mod Plain
 pub mod Labels
 pub mod Sources
+pub mod Chains

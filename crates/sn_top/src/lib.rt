@@ -2,6 +2,7 @@
 //! on standard error and the exit status.
 #![tactic(auto)]
 
+mod chain;
 mod cuts;
 mod label;
 mod reading;
