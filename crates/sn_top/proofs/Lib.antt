@@ -10,3 +10,4 @@ pub mod Entering
 pub mod Building
 pub mod Distinct
 pub mod CommandLaws
+pub mod Chains

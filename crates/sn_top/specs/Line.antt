@@ -64,7 +64,3 @@ in_order names r = finite.entries (finite.from_entries {R = by_name names} (fini
 
 abbrev pub line : List (List ℕ) → Entries → List ℕ
 line names r = codes "{" ++ (joined (codes ", ") (map (entry_text names) (in_order names r)) ++ codes "}\n")
-
--- each label of the record has a name
-abbrev pub IsKnown : List (List ℕ) → Entries → Type 0
-IsKnown names r = (l : Label) → IsTrue (finite.contains_key r l) → l.id < length names

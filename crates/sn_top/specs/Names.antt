@@ -2,6 +2,9 @@
 use Rattle.std.specs.Prelude.{◌≡◌, ◌≤◌, ℕ, suc, Bool, true, false, IsTrue, not, ◌&&◌, List, [], ◌∷◌, ◌++◌, length, get_or, if◌then◌else◌}
 use Rattle.std.specs.List.{list_any}
 use Rattle.std.specs.Str.{bytes_eq}
+use Rattle.std.specs.Prelude.{Result, OnOk, Err, ◌<◌}
+use Rattle.sn_top.specs.declared.names.NamesFault.{NamesFault}
+use Rattle.sn_top.specs.declared.names.NamesFault.TheVariants.{TooMany}
 
 abbrev pub is_held : List (List ℕ) → List ℕ → Bool
 is_held names n = list_any (λ m. bytes_eq m n) names
@@ -37,3 +40,8 @@ pub record AreSmallNames (names : List (List ℕ)) : Type 0 where
 pub record IsFull (names : List (List ℕ)) (n : List ℕ) : Type 0 where
   pub fresh : is_held names n ≡ false
   pub most : length names ≡ 256
+
+-- the names were entered, or there are too many different ones
+pub record Enters (ns old new : List (List ℕ)) (result : Result (Unit {0}) NamesFault) : Type 0 where
+  pub ok : OnOk result (new ≡ all_entered old ns)
+  pub too_many : result ≡ Err TooMany → 256 < length (all_entered old ns)

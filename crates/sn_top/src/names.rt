@@ -77,6 +77,13 @@ impl SmallNames {
         self.names.len()
     }
 
+    /// The place of a name, or the number of names where it has none.
+    pub fn place_of(&self, name: &[u8]) -> u32
+        ensures { result ≡ number_in self.now name.now }
+    {
+        self.place(name) as u32
+    }
+
     /// Where `name` stands, or the number of names where it is not among them.
     fn place(&self, name: &[u8]) -> usize
         ensures place { result ≡ number_in self.now name.now }

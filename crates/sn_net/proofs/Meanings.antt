@@ -1,0 +1,84 @@
+-- What filters and networks in series answer.
+use Rattle.std.proofs.Common.{◌≡◌, Bool, true, false, cond, ◌||◌, IsTrue, ◌↔◌, List, [], ◌∷◌, refl, sym, ap, ◌∙◌, subst, map}
+use Rattle.std.specs.List.{flat_map}
+use Rattle.std.specs.FinMap.{contains_key}
+use Rattle.std.proofs.lemmas.List.Folds.{list_any-append, list_all-map}
+use Rattle.sn_record.specs.LabelSet.{Labels}
+use Rattle.sn_record.specs.Record.{Entries, Matches}
+use Rattle.sn_record.proofs.Maps.{list_all-entries}
+use Rattle.sn_net.specs.declared.filter.Filter.{Filter}
+use Rattle.sn_net.specs.declared.net.Net.{Net}
+use Rattle.sn_net.specs.declared.net.Net.TheOpen.{Net-F}
+use Rattle.sn_net.specs.declared.net.Net.TheFolds.{fold-roll-Net, ind-Net, map-Net}
+use Rattle.sn_net.specs.declared.net.Net.TheViews.{roll-Net}
+use Rattle.sn_net.specs.declared.net.Net.TheVariants.{Filter as FilterLeaf, Serial, rolls-Filter, rolls-Serial}
+use Rattle.sn_net.specs.Filter.{filter_answer}
+use Rattle.sn_net.specs.Meaning.{ModelItem, Rec, Fault, Stuck, is_stuck, holds_stuck, is_match, answer, one_step, one}
+
+-- the test of a match holds exactly where there is one
+pub is_match-Matches : (r : Entries) (v : Labels) → IsTrue (is_match r v) ↔ Matches r v
+is_match-Matches r v =
+    let law = list_all-entries (contains_key r) v in
+    let each = list_all-map (contains_key r) (λ e. e.0) _ in
+    (λ test. law.0 (sym each ∙ test), λ matches. each ∙ law.1 matches)
+
+-- a filter answers a record that matches its pattern
+pub answer-match : (f : Filter) (r : Entries) → Matches r f.pattern → answer f (Rec r) ≡ map Rec (filter_answer f r)
+answer-match f r matches = ap (λ b. cond b (map Rec (filter_answer f r)) (Stuck f.place ∷ [])) ((is_match-Matches r f.pattern).1 matches)
+
+-- a record that does not match is stuck
+pub answer-no_match : (f : Filter) (r : Entries) → ¬ Matches r f.pattern → answer f (Rec r) ≡ Stuck f.place ∷ []
+answer-no_match f r apart =
+    elim (is_match r f.pattern) as (λ b. is_match r f.pattern ≡ b → cond b (map Rec (filter_answer f r)) (Stuck f.place ∷ []) ≡ Stuck f.place ∷ []) [
+      | true ↦ λ test. absurd (apart ((is_match-Matches r f.pattern).0 test))
+      | false ↦ λ test. refl
+    ] refl
+
+-- a filter alone answers item by item
+pub one-Filter : (f : Filter) (items : List ModelItem) → one (FilterLeaf f) items ≡ flat_map (answer f) items
+one-Filter f items = ap (λ (net : Net). one net items) (sym (rolls-Filter f)) ∙ ap (λ (g : List ModelItem → List ModelItem). g items) (fold-roll-Net (List ModelItem → List ModelItem) one_step (Net-F.Filter f))
+
+-- what the left part answers flows into the right part
+pub one-Serial : (left right : Net) (items : List ModelItem) → one (Serial left right) items ≡ one right (one left items)
+one-Serial left right items =
+    ap (λ (net : Net). one net items) (sym (rolls-Serial left right)) ∙ ap (λ (g : List ModelItem → List ModelItem). g items) (fold-roll-Net (List ModelItem → List ModelItem) one_step (Net-F.Serial left right))
+
+-- a choice that holds by its own reasons holds by what follows from them
+either_true : (a b c d : Bool) → (IsTrue a → IsTrue c) → (IsTrue b → IsTrue d) → IsTrue (a || b) → IsTrue (c || d)
+either_true true b c d f g there = ap (λ e. e || d) (f refl)
+either_true false b true d f g there = refl
+either_true false b false d f g there = g there
+
+-- a filter passes on what is stuck
+answer-stuck : (f : Filter) (item : ModelItem) → IsTrue (is_stuck item) → IsTrue (holds_stuck (answer f item))
+answer-stuck f (Rec r) stuck = cc
+answer-stuck f (Fault fault) stuck = cc
+answer-stuck f (Stuck place) stuck = refl
+
+-- so it does in a stream
+filter_stuck : (f : Filter) (items : List ModelItem) → IsTrue (holds_stuck items) → IsTrue (holds_stuck (flat_map (answer f) items))
+filter_stuck f [] stuck = stuck
+filter_stuck f (item ∷ items) stuck =
+    list_any-append is_stuck (answer f item) (flat_map (answer f) items)
+    ∙ either_true (is_stuck item) (holds_stuck items) _ _ (answer-stuck f item) (filter_stuck f items) stuck
+
+-- what is stuck in the input is stuck in the output
+abbrev KeepsStuck : Net → Type 0
+KeepsStuck net = (items : List ModelItem) → IsTrue (holds_stuck items) → IsTrue (holds_stuck (one net items))
+
+-- what is stuck stays so to the end
+pub one-stuck : (net : Net) → KeepsStuck net
+one-stuck = ind-Net KeepsStuck (λ x y is. subst (λ z. KeepsStuck (roll-Net z)) is
+    (elim y as (λ z. KeepsStuck (roll-Net (map-Net _ _ (λ e. e.0) z))) [
+      | Net-F.Filter f ↦ λ items stuck. ap (λ (g : List ModelItem → List ModelItem). holds_stuck (g items)) (fold-roll-Net (List ModelItem → List ModelItem) one_step (Net-F.Filter f)) ∙ filter_stuck f items stuck
+      | Net-F.Serial left right ↦ λ items stuck. ap (λ (g : List ModelItem → List ModelItem). holds_stuck (g items)) (fold-roll-Net (List ModelItem → List ModelItem) one_step (Net-F.Serial left.0 right.0)) ∙ right.1 _ (left.1 items stuck)
+    ]))
+
+-- records are not stuck
+pub records_not_stuck : (rs : List Entries) → holds_stuck (map Rec rs) ≡ false
+records_not_stuck [] = refl
+records_not_stuck (r ∷ rs) = records_not_stuck rs
+
+-- so a stream of records holds nothing stuck
+pub none_stuck : (items : List ModelItem) (rs : List Entries) → items ≡ map Rec rs → holds_stuck items ≡ false
+none_stuck items rs same = ap holds_stuck same ∙ records_not_stuck rs
