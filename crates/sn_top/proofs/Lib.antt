@@ -8,6 +8,9 @@ pub mod Entries
 pub mod Inputs
 pub mod Entering
 pub mod Building
+pub mod Loading
+pub mod Printing
+pub mod Serving
 pub mod Distinct
 pub mod CommandLaws
 pub mod Chains

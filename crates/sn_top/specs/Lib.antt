@@ -7,3 +7,6 @@ pub mod Seen
 pub mod Numbered
 pub mod Line
 pub mod Words
+pub mod Meaning
+pub mod Load
+pub mod Answer

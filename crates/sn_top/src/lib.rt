@@ -9,13 +9,17 @@ mod enter;
 mod entry;
 mod label;
 mod line;
+mod load;
 mod names;
 mod outside;
+mod print;
 mod reading;
+mod serve;
 mod source;
 mod status;
 mod words;
 mod written;
 
+pub use serve::{INPUT_LIMIT, SOURCE_LIMIT, serve_plain, serve_words};
 pub use status::Status;
 pub use words::Command;

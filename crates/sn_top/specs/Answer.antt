@@ -1,0 +1,150 @@
+-- What a command may leave: its status, and what it appends to `out` and to `err`.
+use Rattle.std.specs.Prelude.{◌≡◌, ◌⊎◌, ◌≤◌, ◌<◌, ℕ, List, [], ◌++◌, length, codes, Option, None, Some, Result, Ok, Err, IfSome, MatchOption}
+use Rattle.sn_io.specs.Told.{appended, AppendsPrefix}
+use Rattle.sn_top.specs.declared.words.Command.{Command}
+use Rattle.sn_top.specs.declared.words.Command.TheVariants.{Once}
+use Rattle.sn_top.specs.declared.written.WrittenSource.{WrittenSource}
+use Rattle.sn_top.specs.declared.written.WrittenLine.{WrittenLine}
+use Rattle.sn_top.specs.declared.status.Status.{Status}
+use Rattle.sn_top.specs.declared.status.Status.TheVariants as status
+use Rattle.sn_top.specs.declared.status.Which.{Which}
+use Rattle.sn_top.specs.declared.status.Which.TheVariants.{Source, Input}
+use Rattle.sn_top.specs.declared.status.Refusal.{Refusal}
+use Rattle.sn_top.specs.declared.status.Refusal.TheVariants.{TooLarge, NotBuilt}
+use Rattle.sn_top.specs.declared.status.Stop.{Stop}
+use Rattle.sn_top.specs.declared.status.Stop.TheVariants as stop
+use Rattle.sn_top.specs.declared.print.PrintFault.{PrintFault}
+use Rattle.sn_top.specs.declared.print.PrintFault.TheVariants as print_fault
+use Rattle.sn_top.specs.declared.serve.TheConstants.{SOURCE_LIMIT, INPUT_LIMIT}
+use Rattle.sn_top.specs.Status.{refusal_status, stop_line}
+use Rattle.sn_top.specs.Words.{usage_text}
+use Rattle.sn_top.specs.Seen.{Sink, File, seen_sink, seen_file, SinkFailed, FileFailed, GotLine}
+use Rattle.sn_top.specs.Meaning.{names_of, network_of, with_lines, stream_of, printed, IsSmallSource, IsRouted}
+
+-- the bytes are those of a small source, within the limit
+pub record IsAccepted (bytes : List ℕ) (s : WrittenSource) : Type 0 where
+  pub within : length bytes ≤ SOURCE_LIMIT
+  pub small : IsSmallSource bytes s
+
+-- the source prints p for an input of these bytes, which is within the limit and of the small form
+pub record Prints (s : WrittenSource) (bytes p : List ℕ) : Type 0 where
+  pub within : length bytes ≤ INPUT_LIMIT
+  pub lines : List WrittenLine
+  pub routed : IsRouted (names_of s) (network_of s) bytes lines
+  pub printed_is : p ≡ printed (with_lines (names_of s) lines) (stream_of (names_of s) (network_of s) lines)
+
+-- the input is within the limit, but not of the small form, or a record of it finds no route
+pub record HasNoRoute (s : WrittenSource) (bytes : List ℕ) : Type 0 where
+  pub within : length bytes ≤ INPUT_LIMIT
+  pub none : (lines : List WrittenLine) → IsRouted (names_of s) (network_of s) bytes lines → ⊥
+
+-- what the checks and the run find of a source and an input, where their bytes are told; the checks come in the order:
+-- the source's file, the source, the input's file, the input, the run
+abbrev pub Finds : Option (List ℕ) → Option (List ℕ) → Result (List ℕ) Refusal → Type 0
+Finds source input (Err (TooLarge Source)) = IfSome source (λ bytes. SOURCE_LIMIT < length bytes)
+Finds source input (Err NotBuilt) = IfSome source (λ bytes. (length bytes ≤ SOURCE_LIMIT) × ((s : WrittenSource) → IsSmallSource bytes s → IfSome input (HasNoRoute s)))
+Finds source input (Err (TooLarge Input)) = IfSome source (λ bytes. (s : WrittenSource) × IsAccepted bytes s × IfSome input (λ more. INPUT_LIMIT < length more))
+Finds source input (Ok p) = IfSome source (λ bytes. (s : WrittenSource) × IsAccepted bytes s × IfSome input (λ more. Prints s more p))
+
+-- the bytes on `out`, the status and the line on `err` for what was found
+abbrev pub found_bytes : Result (List ℕ) Refusal → List ℕ
+found_bytes (Ok p) = p
+found_bytes (Err refusal) = []
+
+abbrev pub found_status : Result (List ℕ) Refusal → Status
+found_status (Ok p) = status.Ok
+found_status (Err refusal) = refusal_status refusal
+
+abbrev pub found_line : Result (List ℕ) Refusal → List ℕ → List ℕ → List ℕ
+found_line (Ok p) source input = []
+found_line (Err refusal) source input = stop_line (stop.Refused refusal) source input
+
+abbrev pub source_of : Command → List ℕ
+source_of (Once source input fuel depth) = source
+
+abbrev pub input_of : Command → List ℕ
+input_of (Once source input fuel depth) = input
+
+-- the outside, as a call found it and as it left it: the file of each name, `out` and `err`
+pub record Outside : Type 0 where
+  pub file : List ℕ → File
+  pub out : Sink
+  pub err : Sink
+
+abbrev pub seen : {F O E : Type 0} → (F → List ℕ → Option (List ℕ)) → (F → List ℕ → ℕ) → (O → Option (List ℕ)) → (O → ℕ) → (E → Option (List ℕ)) → (E → ℕ) → F → F → O → O → E → E → Outside
+seen bytes_of file_faults out_held out_faults err_held err_faults files new_files out new_out err new_err = record {
+  file = λ name. seen_file bytes_of file_faults files new_files name;
+  out = seen_sink out_held out_faults out new_out;
+  err = seen_sink err_held err_faults err new_err;
+}
+
+-- what is found of a command's files
+abbrev pub FindsFor : Command → Outside → Result (List ℕ) Refusal → Type 0
+FindsFor command outside found = Finds (outside.file (source_of command)).told (outside.file (input_of command)).told found
+
+-- the whole answer: what is found decides the bytes, the status and the line
+pub record IsAnswered (command : Command) (outside : Outside) (s : Status) : Type 0 where
+  pub found : Result (List ℕ) Refusal
+  pub finds : FindsFor command outside found
+  pub status_is : s ≡ found_status found
+  pub out_got : outside.out.now ≡ appended outside.out.before (found_bytes found)
+  pub err_got : GotLine outside.err (found_line found (source_of command) (input_of command))
+
+-- the count of that file's faults rose, and no check before its read refuses
+abbrev pub IsUnread : Which → File → File → Type 0
+IsUnread Source source input = FileFailed source
+IsUnread Input source input = FileFailed input × IfSome source.told (λ bytes. (s : WrittenSource) × IsAccepted bytes s)
+
+-- nothing was printed, and the line names the file
+pub record HasUnread (command : Command) (outside : Outside) : Type 0 where
+  pub which : Which
+  pub why : IsUnread which (outside.file (source_of command)) (outside.file (input_of command))
+  pub out_same : outside.out.now ≡ outside.out.before
+  pub err_got : GotLine outside.err (stop_line (stop.Unread which) (source_of command) (input_of command))
+
+-- `out` got nothing, or some first bytes of what it would get
+abbrev pub GotPart : Option (List ℕ) → Option (List ℕ) → Sink → Type 0
+GotPart source input out = (out.now ≡ out.before) ⊎ ((p : List ℕ) × Finds source input (Ok p) × AppendsPrefix out.before out.now p)
+
+pub record IsCutShort (command : Command) (outside : Outside) : Type 0 where
+  pub out_got : GotPart (outside.file (source_of command)).told (outside.file (input_of command)).told outside.out
+  pub err_got : GotLine outside.err (codes "memory\n")
+
+-- the count of `out` rose, and it got some first bytes of what it would get
+abbrev pub HasFailed : Option (List ℕ) → Option (List ℕ) → Sink → Type 0
+HasFailed source input out = SinkFailed out × ((p : List ℕ) × Finds source input (Ok p) × AppendsPrefix out.before out.now p)
+
+pub record IsUnwritten (command : Command) (outside : Outside) : Type 0 where
+  pub out_failed : HasFailed (outside.file (source_of command)).told (outside.file (input_of command)).told outside.out
+  pub err_got : GotLine outside.err (codes "write\n")
+
+-- why a run stopped before its end, and what `out` holds then
+abbrev pub WhyStopped : File → File → Sink → Stop → Type 0
+WhyStopped source input out (stop.Refused refusal) = Finds source.told input.told (Err refusal) × (out.now ≡ out.before)
+WhyStopped source input out (stop.Unread which) = IsUnread which source input × (out.now ≡ out.before)
+WhyStopped source input out stop.Memory = GotPart source.told input.told out
+WhyStopped source input out stop.Write = HasFailed source.told input.told out
+
+abbrev pub print_stop : PrintFault → Stop
+print_stop print_fault.Memory = stop.Memory
+print_stop print_fault.Write = stop.Write
+
+-- The clauses for words, which may be no command.
+pub record HasNoCommand (outside : Outside) (s : Status) : Type 0 where
+  pub status_is : s ≡ status.Usage
+  pub out_same : outside.out.now ≡ outside.out.before
+  pub err_got : GotLine outside.err usage_text
+
+abbrev pub IsAnsweredFor : Option Command → Outside → Status → Type 0
+IsAnsweredFor None outside s = HasNoCommand outside s
+IsAnsweredFor (Some command) outside s = IsAnswered command outside s
+
+-- there is a command, and this holds of it
+abbrev pub OfCommand : (Command → Outside → Type 0) → Option Command → Outside → Type 0
+OfCommand P None outside = ⊥
+OfCommand P (Some command) outside = P command outside
+
+-- want of memory may come before the words are read
+pub record IsCutShortFor (command : Option Command) (outside : Outside) : Type 0 where
+  pub out_got : (outside.out.now ≡ outside.out.before) ⊎ OfCommand (λ c o. GotPart (o.file (source_of c)).told (o.file (input_of c)).told o.out) command outside
+  pub err_got : GotLine outside.err (codes "memory\n")

@@ -1,0 +1,112 @@
+//! The top calls.
+ghost use Rattle.std.specs.Prelude.{◌≡◌, ◌≢◌, ℕ, List, Ok, IfErr, OnOk, map};
+ghost use Rattle.std.specs.String.{string_bytes};
+ghost use Rattle.sn_io.specs.Told.{appended};
+ghost use Rattle.sn_top.specs.Seen.{seen_file, seen_sink};
+ghost use Rattle.sn_top.specs.Words.{command_of, IsInRange};
+ghost use Rattle.sn_top.specs.Answer.{seen, Finds, WhyStopped, IsAnswered, HasUnread, IsCutShort, IsUnwritten, IsAnsweredFor, OfCommand, IsCutShortFor};
+
+use crate::load::{answer_input, load_source};
+use crate::outside::{read_file, write_line};
+use crate::print::print_all;
+use crate::status::{Status, Stop, Which};
+use crate::words::{Command, WordsFault, read_words, usage_line};
+use sn_io::{Files, Gate, Sink, write_whole};
+use std::alloc::Global;
+use std::sync::Wait;
+use std::thread::Threads;
+
+/// The most bytes of a source.
+pub const SOURCE_LIMIT: u64 = 1_048_576;
+
+/// The most bytes of an input.
+pub const INPUT_LIMIT: u64 = 16_777_216;
+
+/// Runs a source over the records of an input, and prints what comes out. Each file is read once.
+fn run_once<F: Files, O: Sink>(
+    alloc: Global,
+    source_name: &[u8],
+    input_name: &[u8],
+    files: &mut F,
+    out: &mut O,
+) -> Result<(), Stop>
+    ensures done { OnOk result ((p : List ℕ)
+        × Finds (F.bytes_of files.old source_name.now) (F.bytes_of files.old input_name.now) (Ok p)
+        × (O.held out.new ≡ appended (O.held out.old) p)) }
+    ensures stopped { IfErr result (WhyStopped
+        (seen_file F.bytes_of F.faults files.old files.new source_name.now)
+        (seen_file F.bytes_of F.faults files.old files.new input_name.now)
+        (seen_sink O.held O.faults out.old out.new)) }
+{
+    let source = read_file(alloc, files, Which::Source, source_name, SOURCE_LIMIT)?;
+    let program = load_source(alloc, source.as_slice())?;
+    let input = read_file(alloc, files, Which::Input, input_name, INPUT_LIMIT)?;
+    let answered = answer_input(alloc, program, input.as_slice())?;
+    print_all(alloc, &answered.names, answered.records.as_slice(), out)?;
+    Ok(())
+}
+
+/// Does a command on the calling thread. A failing `err` changes no status.
+pub fn serve_plain<F: Files, O: Sink, E: Sink>(
+    alloc: Global,
+    command: &Command,
+    files: &mut F,
+    out: &mut O,
+    err: &mut E,
+) -> Status
+    requires { IsInRange command.now }
+    ensures answer { result ≢ Status.Read → result ≢ Status.Memory → result ≢ Status.Write
+        → IsAnswered command.now (seen F.bytes_of F.faults O.held O.faults E.held E.faults files.old files.new out.old out.new err.old err.new) result }
+    ensures read { result ≡ Status.Read
+        → HasUnread command.now (seen F.bytes_of F.faults O.held O.faults E.held E.faults files.old files.new out.old out.new err.old err.new) }
+    ensures memory { result ≡ Status.Memory
+        → IsCutShort command.now (seen F.bytes_of F.faults O.held O.faults E.held E.faults files.old files.new out.old out.new err.old err.new) }
+    ensures write { result ≡ Status.Write
+        → IsUnwritten command.now (seen F.bytes_of F.faults O.held O.faults E.held E.faults files.old files.new out.old out.new err.old err.new) }
+{
+    match command {
+        Command::Once { source, input, .. } => {
+            let source = source.as_slice();
+            let input = input.as_slice();
+            match run_once(alloc, source, input, files, out) {
+                Ok(()) => Status::Ok,
+                Err(stop) => {
+                    write_line(err, stop.label(), stop.name(source, input));
+                    stop.status()
+                }
+            }
+        }
+    }
+}
+
+/// Does the command that the words after the program's name ask for, or says on `err` which words are known.
+pub fn serve_words<R: Threads + Wait + Sync, F: Files, O: Sink, E: Sink, G: Gate>(
+    _rt: &R,
+    alloc: Global,
+    words: &[String],
+    files: &mut F,
+    out: &mut O,
+    err: &mut E,
+    _gate: &G,
+) -> Status
+    ensures answer { result ≢ Status.Read → result ≢ Status.Memory → result ≢ Status.Write
+        → IsAnsweredFor (command_of (map string_bytes words.now)) (seen F.bytes_of F.faults O.held O.faults E.held E.faults files.old files.new out.old out.new err.old err.new) result }
+    ensures read { result ≡ Status.Read
+        → OfCommand HasUnread (command_of (map string_bytes words.now)) (seen F.bytes_of F.faults O.held O.faults E.held E.faults files.old files.new out.old out.new err.old err.new) }
+    ensures memory { result ≡ Status.Memory
+        → IsCutShortFor (command_of (map string_bytes words.now)) (seen F.bytes_of F.faults O.held O.faults E.held E.faults files.old files.new out.old out.new err.old err.new) }
+    ensures write { result ≡ Status.Write
+        → OfCommand IsUnwritten (command_of (map string_bytes words.now)) (seen F.bytes_of F.faults O.held O.faults E.held E.faults files.old files.new out.old out.new err.old err.new) }
+{
+    match read_words(alloc, words) {
+        Ok(command) => serve_plain(alloc, &command, files, out, err),
+        Err(WordsFault::Usage) => {
+            let _ = write_whole(err, usage_line());
+            Status::Usage
+        }
+        Err(WordsFault::Memory) => {
+            write_line(err, b"memory", b"");
+            Status::Memory
+        }
+    }
+}
