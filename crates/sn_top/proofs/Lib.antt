@@ -11,6 +11,7 @@ pub mod Building
 pub mod Loading
 pub mod Printing
 pub mod Serving
+pub mod Served
 pub mod Distinct
 pub mod CommandLaws
 pub mod Chains

@@ -1,0 +1,70 @@
+-- From why a run stopped to what the call that did it may leave.
+use Rattle.std.proofs.Common.{◌≡◌, ◌≢◌, ℕ, List, [], ◌∷◌, ◌++◌, refl, sym, ap, ◌∙◌, subst, inl, inr, Some, None, Option}
+use Rattle.std.specs.Prelude.{Ok, Err, codes, ◌⊎◌}
+use Rattle.sn_io.specs.Told.{appended}
+use Rattle.sn_io.proofs.Told.{appended_none}
+use Rattle.sn_top.specs.declared.words.Command.{Command}
+use Rattle.sn_top.specs.declared.status.Status.{Status}
+use Rattle.sn_top.specs.declared.status.Status.TheVariants as status
+use Rattle.sn_top.specs.declared.status.Refusal.{Refusal}
+use Rattle.sn_top.specs.declared.status.Refusal.TheVariants.{TooLarge, NotBuilt}
+use Rattle.sn_top.specs.declared.status.Stop.{Stop}
+use Rattle.sn_top.specs.declared.status.Stop.TheVariants.{Refused, Unread, Memory, Write}
+use Rattle.sn_top.specs.Status.{stop_status, stop_line}
+use Rattle.sn_top.specs.Seen.{GotLine}
+use Rattle.sn_top.specs.Answer.{Outside, source_of, input_of, FindsFor, Finds, WhyStopped, IsAnswered, HasUnread, IsCutShort, IsUnwritten, IsAnsweredFor, OfCommand, IsCutShortFor, GotPart}
+
+module _ (command : Command) (outside : Outside) where
+  -- the whole output was printed, and nothing was said on `err`
+  pub done : (p : List ℕ) → FindsFor command outside (Ok p) → outside.out.now ≡ appended outside.out.before p → outside.err.now ≡ outside.err.before → IsAnswered command outside status.Ok
+  done p finds out_got err_same = record { found = Ok p; finds = finds; status_is = refl; out_got = out_got; err_got = inl (err_same ∙ sym (appended_none outside.err.before)) }
+
+  abbrev Stopped : Stop → Type 0
+  Stopped why = WhyStopped (outside.file (source_of command)) (outside.file (input_of command)) outside.out why
+
+  abbrev Told : Stop → Type 0
+  Told why = GotLine outside.err (stop_line why (source_of command) (input_of command))
+
+  pub answered : (why : Stop) → Stopped why → Told why → stop_status why ≢ status.Read → stop_status why ≢ status.Memory → stop_status why ≢ status.Write → IsAnswered command outside (stop_status why)
+  answered (Refused refusal) stopped line not_read not_memory not_write = record { found = Err refusal; finds = stopped.0; status_is = refl; out_got = stopped.1 ∙ sym (appended_none outside.out.before); err_got = line }
+  answered (Unread which) stopped line not_read not_memory not_write = absurd (not_read refl)
+  answered Memory stopped line not_read not_memory not_write = absurd (not_memory refl)
+  answered Write stopped line not_read not_memory not_write = absurd (not_write refl)
+
+  pub unread : (why : Stop) → Stopped why → Told why → stop_status why ≡ status.Read → HasUnread command outside
+  unread (Refused (TooLarge which)) stopped line is = cc
+  unread (Refused NotBuilt) stopped line is = cc
+  unread (Unread which) stopped line is = record { which = which; why = stopped.0; out_same = stopped.1; err_got = line }
+  unread Memory stopped line is = cc
+  unread Write stopped line is = cc
+
+  pub cut_short : (why : Stop) → Stopped why → Told why → stop_status why ≡ status.Memory → IsCutShort command outside
+  cut_short (Refused (TooLarge which)) stopped line is = cc
+  cut_short (Refused NotBuilt) stopped line is = cc
+  cut_short (Unread which) stopped line is = cc
+  cut_short Memory stopped line is = record { out_got = stopped; err_got = line }
+  cut_short Write stopped line is = cc
+
+  pub unwritten : (why : Stop) → Stopped why → Told why → stop_status why ≡ status.Write → IsUnwritten command outside
+  unwritten (Refused (TooLarge which)) stopped line is = cc
+  unwritten (Refused NotBuilt) stopped line is = cc
+  unwritten (Unread which) stopped line is = cc
+  unwritten Memory stopped line is = cc
+  unwritten Write stopped line is = record { out_failed = stopped; err_got = line }
+
+-- the clauses for words that are this command
+module _ (command : Option Command) (found : Command) (is : command ≡ Some found) (outside : Outside) where
+  pub answered_for : (s : Status) → IsAnswered found outside s → IsAnsweredFor command outside s
+  answered_for s h = subst (λ c. IsAnsweredFor c outside s) (sym is) h
+
+  pub of_command : (P : Command → Outside → Type 0) → P found outside → OfCommand P command outside
+  of_command P h = subst (λ c. OfCommand P c outside) (sym is) h
+
+  pub cut_short_for : IsCutShort found outside → IsCutShortFor command outside
+  cut_short_for cut = record { out_got = part cut.out_got; err_got = cut.err_got }
+    where
+      Part : Command → Outside → Type 0
+      Part c o = GotPart (o.file (source_of c)).told (o.file (input_of c)).told o.out
+
+      part : Part found outside → (outside.out.now ≡ outside.out.before) ⊎ OfCommand Part command outside
+      part h = inr (of_command Part h)
