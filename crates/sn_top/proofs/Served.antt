@@ -11,8 +11,9 @@ use Rattle.sn_top.specs.declared.status.Refusal.TheVariants.{TooLarge, NotBuilt}
 use Rattle.sn_top.specs.declared.status.Stop.{Stop}
 use Rattle.sn_top.specs.declared.status.Stop.TheVariants.{Refused, Unread, Memory, Write}
 use Rattle.sn_top.specs.Status.{stop_status, stop_line}
+use Rattle.sn_top.specs.Words.{source_of, input_of}
 use Rattle.sn_top.specs.Seen.{GotLine}
-use Rattle.sn_top.specs.Answer.{Outside, source_of, input_of, FindsFor, Finds, WhyStopped, IsAnswered, HasUnread, IsCutShort, IsUnwritten, IsAnsweredFor, OfCommand, IsCutShortFor, GotPart}
+use Rattle.sn_top.specs.Answer.{Outside, FindsFor, Finds, WhyStopped, IsAnswered, HasUnread, IsCutShort, IsUnwritten, IsAnsweredFor, OfCommand, IsCutShortFor, GotPart}
 
 module _ (command : Command) (outside : Outside) where
   -- the whole output was printed, and nothing was said on `err`

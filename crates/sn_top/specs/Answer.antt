@@ -2,7 +2,6 @@
 use Rattle.std.specs.Prelude.{◌≡◌, ◌⊎◌, ◌≤◌, ◌<◌, ℕ, List, [], ◌++◌, length, codes, Option, None, Some, Result, Ok, Err, IfSome, MatchOption}
 use Rattle.sn_io.specs.Told.{appended, AppendsPrefix}
 use Rattle.sn_top.specs.declared.words.Command.{Command}
-use Rattle.sn_top.specs.declared.words.Command.TheVariants.{Once}
 use Rattle.sn_top.specs.declared.written.WrittenSource.{WrittenSource}
 use Rattle.sn_top.specs.declared.written.WrittenLine.{WrittenLine}
 use Rattle.sn_top.specs.declared.status.Status.{Status}
@@ -17,7 +16,7 @@ use Rattle.sn_top.specs.declared.print.PrintFault.{PrintFault}
 use Rattle.sn_top.specs.declared.print.PrintFault.TheVariants as print_fault
 use Rattle.sn_top.specs.declared.serve.TheConstants.{SOURCE_LIMIT, INPUT_LIMIT}
 use Rattle.sn_top.specs.Status.{refusal_status, stop_line}
-use Rattle.sn_top.specs.Words.{usage_text}
+use Rattle.sn_top.specs.Words.{usage_text, source_of, input_of}
 use Rattle.sn_top.specs.Seen.{Sink, File, seen_sink, seen_file, SinkFailed, FileFailed, GotLine}
 use Rattle.sn_top.specs.Meaning.{names_of, network_of, with_lines, stream_of, printed, IsSmallSource, IsRouted}
 
@@ -58,12 +57,6 @@ found_status (Err refusal) = refusal_status refusal
 abbrev pub found_line : Result (List ℕ) Refusal → List ℕ → List ℕ → List ℕ
 found_line (Ok p) source input = []
 found_line (Err refusal) source input = stop_line (stop.Refused refusal) source input
-
-abbrev pub source_of : Command → List ℕ
-source_of (Once source input fuel depth) = source
-
-abbrev pub input_of : Command → List ℕ
-input_of (Once source input fuel depth) = input
 
 -- the outside, as a call found it and as it left it: the file of each name, `out` and `err`
 pub record Outside : Type 0 where

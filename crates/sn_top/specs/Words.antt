@@ -43,3 +43,10 @@ command_of (word ∷ words) = if is_word (codes "once") word then option_and_the
 -- the numbers that a run may be given
 abbrev pub IsInRange : Command → Type 0
 IsInRange (Once source input fuel depth) = (1 ≤ fuel) × (fuel ≤ 1_000_000_000) × (1 ≤ depth) × (depth ≤ 2_000)
+
+-- the names of its files
+abbrev pub source_of : Command → List ℕ
+source_of (Once source input fuel depth) = source
+
+abbrev pub input_of : Command → List ℕ
+input_of (Once source input fuel depth) = input

@@ -64,17 +64,12 @@ pub fn serve_plain<F: Files, O: Sink, E: Sink>(
     ensures write { result ≡ Status.Write
         → IsUnwritten command.now (seen F.bytes_of F.faults O.held O.faults E.held E.faults files.old files.new out.old out.new err.old err.new) }
 {
-    match command {
-        Command::Once { source, input, .. } => {
-            let source = source.as_slice();
-            let input = input.as_slice();
-            match run_once(alloc, source, input, files, out) {
-                Ok(()) => Status::Ok,
-                Err(stop) => {
-                    write_line(err, stop.label(), stop.name(source, input));
-                    stop.status()
-                }
-            }
+    let (source, input) = (command.source(), command.input());
+    match run_once(alloc, source, input, files, out) {
+        Ok(()) => Status::Ok,
+        Err(stop) => {
+            write_line(err, stop.label(), stop.name(source, input));
+            stop.status()
         }
     }
 }

@@ -1,7 +1,7 @@
 //! The words of the command line, after the program's name.
 ghost use Rattle.std.specs.Prelude.{◌≡◌, ◌≢◌, ◌++◌, ◌∷◌, [], codes, length, map, option_and_then, IfOk, MatchOption};
 ghost use Rattle.std.specs.String.{string_bytes};
-ghost use Rattle.sn_top.specs.Words.{command_of, positional_words, once_of, is_word, IsCut, is_option as is_an_option, usage_text, IsInRange};
+ghost use Rattle.sn_top.specs.Words.{command_of, positional_words, once_of, is_word, IsCut, is_option as is_an_option, usage_text, IsInRange, source_of, input_of};
 
 use sn_list::{Memory, Seq};
 use sn_record::Text;
@@ -26,6 +26,26 @@ pub enum Command {
         fuel: u64,
         depth: u32,
     },
+}
+
+impl Command {
+    /// The name of the source's file.
+    pub fn source(&self) -> &[u8]
+        ensures { result.now ≡ source_of self.now }
+    {
+        match self {
+            Command::Once { source, .. } => source.as_slice(),
+        }
+    }
+
+    /// The name of the input's file.
+    pub fn input(&self) -> &[u8]
+        ensures { result.now ≡ input_of self.now }
+    {
+        match self {
+            Command::Once { input, .. } => input.as_slice(),
+        }
+    }
 }
 
 /// Why words gave no command.
