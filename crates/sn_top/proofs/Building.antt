@@ -1,7 +1,6 @@
 -- Filters that are built, and networks of them in series.
-use Rattle.std.proofs.Common.{◌≡◌, ℕ, ◌<◌, ◌≤◌, List, [], ◌∷◌, length, get_or, drop, map, refl, sym, ap, ◌∙◌, subst, arith, ◌-◌, take}
+use Rattle.std.proofs.Common.{◌≡◌, ℕ, ◌<◌, List, [], ◌∷◌, length, get_or, drop, sym, ap, ◌∙◌, subst, arith, ◌-◌, take}
 use Rattle.std.proofs.lemmas.List.{take_all, length-drop}
-use Rattle.std.specs.List.{All}
 use Rattle.std.proofs.lemmas.List.Elements.{All-cons}
 use Rattle.sn_record.specs.LabelSet.{Labels}
 use Rattle.sn_net.specs.declared.filter.Template.{Template}
@@ -10,7 +9,7 @@ use Rattle.sn_net.specs.declared.net.Net.{Net}
 use Rattle.sn_net.specs.declared.net.Net.TheVariants.{Filter as FilterLeaf, Serial}
 use Rattle.sn_net.specs.Filter.{IsClosed}
 use Rattle.sn_net.specs.Net.{AllClosed}
-use Rattle.sn_net.proofs.Closed.{AllClosed-Filter, AllClosed-Serial}
+use Rattle.sn_net.proofs.Closed.{AllClosed-Filter}
 use Rattle.sn_top.specs.declared.written.WrittenFilter.{WrittenFilter}
 use Rattle.sn_top.specs.Numbered.{filter_of, net_of, IsBuildableFilter, IsBuildableChain}
 

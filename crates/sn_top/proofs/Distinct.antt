@@ -1,5 +1,5 @@
 -- Entries of which no label stands twice, and the maps that they make.
-use Rattle.std.proofs.Common.{◌≡◌, ℕ, ◌+◌, ◌<◌, ◌≤◌, ◌&&◌, Bool, true, false, cond, not, IsTrue, List, [], ◌∷◌, ◌++◌, length, get_or, map, take, drop, None, Some, Option, refl, sym, ap, ◌∙◌, subst, arith}
+use Rattle.std.proofs.Common.{◌≡◌, ℕ, ◌+◌, ◌<◌, Bool, true, false, cond, not, List, [], ◌∷◌, ◌++◌, length, get_or, map, take, drop, None, Some, Option, refl, sym, ap, ◌∙◌, subst, arith}
 use Rattle.std.specs.Option.{is_some, is_none}
 use Rattle.std.proofs.lemmas.List.{take_more, drop_more, map_push, map-append, take-append-drop}
 use Rattle.std.proofs.lemmas.Bool.{false≢true}
@@ -79,8 +79,7 @@ module _ {A V : Type 0} (f : A → Label × V) (items : List A) where
   grown i x m here at is d new =
       let cut : take (i + 1) items ≡ take i items ++ x ∷ [] = take_more items i x here ∙ ap (λ y. take i items ++ y ∷ []) (sym at) in
       let list : map f (take (i + 1) items) ≡ map f (take i items) ++ f x ∷ [] = ap (map f) cut ∙ map_push f (take i items) x in
-      let none = not_found (map f (take i items)) (f x).0 (subst (λ n. finite.contains_key n (f x).0 ≡ false) is new) in
-      (
+      let none = not_found (map f (take i items)) (f x).0 (subst (λ n. finite.contains_key n (f x).0 ≡ false) is new) in (
         ap (λ (n : finite.FinMap label_cmp V). finite.insert n (f x).0 (f x).1) is ∙ sym (ap (λ es. from_entries es) list ∙ push_new (map f (take i items)) (f x).0 (f x).1 none),
         ap are_distinct list ∙ distinct_push (map f (take i items)) (f x).0 (f x).1 d none,
       )
@@ -90,10 +89,10 @@ module _ {A V : Type 0} (f : A → Label × V) (items : List A) where
   clashed i x m here at is old d =
       let rest : drop i items ≡ x ∷ drop (i + 1) items = drop_more items i x here ∙ ap (λ y. y ∷ drop (i + 1) items) (sym at) in
       let list : map f items ≡ map f (take i items) ++ f x ∷ map f (drop (i + 1) items) =
-          ap (map f) (sym (take-append-drop i items)) ∙ map-append f (take i items) (drop i items) ∙ ap (λ ys. map f (take i items) ++ map f ys) rest in
+      ap (map f) (sym (take-append-drop i items)) ∙ map-append f (take i items) (drop i items) ∙ ap (λ ys. map f (take i items) ++ map f ys) rest in
       repeated (map f (take i items)) (map f (drop (i + 1) items)) (f x).0 (f x).1
-          (found_there (map f (take i items)) (f x).0 (subst (λ n. finite.contains_key n (f x).0 ≡ true) is old))
-          (sym (ap are_distinct list) ∙ d)
+      (found_there (map f (take i items)) (f x).0 (subst (λ n. finite.contains_key n (f x).0 ≡ true) is old))
+      (sym (ap are_distinct list) ∙ d)
 
 -- the test behind its opposite
 pub opposite : (fresh held : Bool) → fresh ≡ not held → fresh ≡ true → held ≡ false

@@ -1,10 +1,9 @@
 -- Names that are entered one list after another.
-use Rattle.std.proofs.Common.{◌≡◌, ℕ, ◌+◌, ◌<◌, ◌≤◌, List, [], ◌∷◌, ◌++◌, length, get_or, take, drop, refl, sym, ap, ◌∙◌, subst, append_assoc, append-nil, arith}
-use Rattle.std.specs.Prelude.{Result, Ok, Err, OnOk}
+use Rattle.std.proofs.Common.{◌≡◌, ℕ, ◌+◌, ◌<◌, List, [], ◌∷◌, ◌++◌, length, get_or, take, drop, refl, sym, ap, ◌∙◌, subst, append_assoc, append-nil, arith}
+use Rattle.std.specs.Prelude.{Result, Err, OnOk}
 use Rattle.std.specs.List.{flat_map}
-use Rattle.std.proofs.lemmas.List.{flat_map_more, take_more, take-append-drop, drop_more}
+use Rattle.std.proofs.lemmas.List.{take_more, take-append-drop}
 use Rattle.sn_top.specs.declared.names.NamesFault.{NamesFault}
-use Rattle.sn_top.specs.declared.names.NamesFault.TheVariants.{TooMany}
 use Rattle.sn_top.specs.Names.{all_entered, Enters}
 use Rattle.sn_top.proofs.NamesLaws.{all_entered-append, length-all_entered}
 
@@ -42,5 +41,5 @@ module _ {X : Type 0} (f : X → List (List ℕ)) where
       let so_far : all_entered names (f x) ≡ all_entered start (flat_map f (take (i + 1) items)) = enter_more items i x start names (all_entered names (f x)) here at was refl in
       let list : flat_map f items ≡ flat_map f (take (i + 1) items) ++ flat_map f (drop (i + 1) items) = ap (flat_map f) (sym (take-append-drop (i + 1) items)) ∙ flat_map_append (take (i + 1) items) (drop (i + 1) items) in
       let whole : all_entered start (flat_map f items) ≡ all_entered (all_entered names (f x)) (flat_map f (drop (i + 1) items)) =
-          ap (all_entered start) list ∙ all_entered-append start (flat_map f (take (i + 1) items)) (flat_map f (drop (i + 1) items)) ∙ ap (λ ns. all_entered ns (flat_map f (drop (i + 1) items))) (sym so_far) in
+      ap (all_entered start) list ∙ all_entered-append start (flat_map f (take (i + 1) items)) (flat_map f (drop (i + 1) items)) ∙ ap (λ ns. all_entered ns (flat_map f (drop (i + 1) items))) (sym so_far) in
       rw whole (omega (arith, over, length-all_entered (all_entered names (f x)) (flat_map f (drop (i + 1) items))))

@@ -1,5 +1,5 @@
 -- What entries spell.
-use Rattle.std.proofs.Common.{◌≡◌, ◌≢◌, ℕ, ℤ, zero, suc, ◌+◌, ◌<◌, ◌≤◌, ◌==◌, Bool, true, false, cond, List, [], ◌∷◌, ◌++◌, length, get_or, drop, lit<, length-append, refl, sym, ap, ◌∙◌, subst, inl, inr, arith, eq-eqb}
+use Rattle.std.proofs.Common.{◌≡◌, ◌≢◌, ℕ, ℤ, zero, suc, ◌<◌, ◌≤◌, ◌==◌, false, cond, List, [], ◌∷◌, ◌++◌, length, get_or, drop, lit<, length-append, refl, sym, ap, ◌∙◌, subst, inl, inr, arith}
 use Rattle.std.specs.Prelude.{Result, Ok, Err, MatchOption, codes, slice_index, ◌⊎◌}
 use Rattle.std.specs.Result.{result_ok}
 use Rattle.std.specs.Int.{w64}
@@ -10,8 +10,7 @@ use Rattle.std.proofs.lemmas.Str.Parse.{digit_from_value}
 use Rattle.std.proofs.lemmas.List.Elements.{All-nil, All-cons, All-append}
 use Rattle.std.proofs.lemmas.Bool.{eqb-true}
 use Rattle.sn_top.specs.declared.reading.ReadFault.{ReadFault}
-use Rattle.sn_top.specs.declared.reading.ReadFault.TheVariants.{NotBuilt, Memory}
-use Rattle.sn_top.specs.declared.written.WrittenLabel.{WrittenLabel}
+use Rattle.sn_top.specs.declared.reading.ReadFault.TheVariants.{NotBuilt}
 use Rattle.sn_top.specs.declared.written.WrittenEntry.{WrittenEntry}
 use Rattle.sn_top.specs.Reading.{Reads, IsFree, AreApart}
 use Rattle.sn_top.specs.Small.{SpellsLabel}
@@ -40,8 +39,8 @@ number_shape (c ∷ cs) n s =
     let plain : (c == 43) ≡ false = other_byte c 43 s.no_plus in
     let given : AllDigits 10 (cond (c == 45) cs (drop (cond (c == 43) 1 0) (c ∷ cs))) = s.digits.1 in
     by_test (AllDigits 10 (c ∷ cs) ⊎ ((ds : List ℕ) × (c ∷ cs ≡ 45 ∷ ds) × AllDigits 10 ds)) (c == 45)
-        (λ minus. inr (cs, ap (λ x. x ∷ cs) (eqb-true c 45 minus), rw minus at given))
-        (λ none. inl (rw (none, plain) at given))
+    (λ minus. inr (cs, ap (λ x. x ∷ cs) (eqb-true c 45 minus), rw minus at given))
+    (λ none. inl (rw (none, plain) at given))
 
 -- a number holds no comma and no line feed
 number_free : (c : ℕ) → c < 45 → (bs : List ℕ) (n : ℤ) → SpellsNumber bs n → IsFree c bs

@@ -1,18 +1,17 @@
 -- What lines and inputs spell.
 use Rattle.std.proofs.Common.{◌≡◌, ◌≢◌, ℕ, ◌<◌, ◌==◌, false, List, [], ◌∷◌, ◌++◌, length, lit<, refl, sym, ap, ◌∙◌, subst, inl, inr, arith}
-use Rattle.std.specs.Prelude.{Result, Ok, Err, codes, ◌⊎◌}
+use Rattle.std.specs.Prelude.{Result, Ok, Err, codes}
 use Rattle.std.specs.List.{AllZip, join_with_byte}
 use Rattle.std.proofs.lemmas.List.{append_cancel_right}
 use Rattle.std.proofs.lemmas.List.Elements.{All-nil, All-cons, All-append}
 use Rattle.sn_top.specs.declared.reading.ReadFault.{ReadFault}
-use Rattle.sn_top.specs.declared.reading.ReadFault.TheVariants.{NotBuilt, Memory}
+use Rattle.sn_top.specs.declared.reading.ReadFault.TheVariants.{NotBuilt}
 use Rattle.sn_top.specs.declared.written.WrittenEntry.{WrittenEntry}
 use Rattle.sn_top.specs.declared.written.WrittenLine.{WrittenLine}
 use Rattle.sn_top.specs.Reading.{Reads, IsFree, IsJoined, AreApart, AllPieces}
 use Rattle.sn_top.specs.Lines.{SpellsEntry, SpellsNextEntry, SpellsLine, SpellsInput}
 use Rattle.sn_top.proofs.Joined.{joined_ended, joined_some, none_joined}
 use Rattle.sn_top.proofs.Entries.{entry_free, next_entry_free}
-
 
 entries_free : (p : List ℕ) (ps : List (List ℕ)) (es : List WrittenEntry) → IsFree 10 p → AllZip SpellsNextEntry ps es → IsFree 10 (join_with_byte 44 (p ∷ ps))
 entries_free p [] es here a = here

@@ -1,11 +1,10 @@
 -- Pieces that are joined by a byte, and what each of them spells.
-use Rattle.std.proofs.Common.{◌≡◌, ℕ, zero, suc, ◌+◌, ◌<◌, ◌≤◌, ◌==◌, Bool, true, false, List, [], ◌∷◌, ◌++◌, length, get_or, take, drop, length-append, length-take-le, map, Bor, refl, sym, ap, ◌∙◌, subst, arith, eq-eqb, append_assoc}
-use Rattle.std.specs.Prelude.{Result, Ok, Err, IfOk, MatchResult}
-use Rattle.std.specs.List.{All, AllZip, join_with_byte, slice_split}
+use Rattle.std.proofs.Common.{◌≡◌, ℕ, zero, suc, ◌+◌, ◌<◌, ◌≤◌, ◌==◌, List, [], ◌∷◌, ◌++◌, length, get_or, take, length-append, length-take-le, map, Bor, refl, sym, ap, ◌∙◌, subst, arith, eq-eqb, append_assoc}
+use Rattle.std.specs.Prelude.{Ok, Err}
+use Rattle.std.specs.List.{AllZip, join_with_byte, slice_split}
 use Rattle.std.proofs.lemmas.List.{take_more, take_all, nil_from_length, length-map, get_or-map}
 use Rattle.std.proofs.lemmas.List.Splits.{slice_split_none, slice_split_at, join_with_byte-slice_split}
 use Rattle.sn_top.specs.declared.reading.ReadFault.{ReadFault}
-use Rattle.sn_top.specs.declared.reading.ReadFault.TheVariants.{NotBuilt, Memory}
 use Rattle.sn_top.proofs.Plain.{not_free}
 use Rattle.sn_top.specs.Reading.{Reads, IsFree, IsJoined, AllPieces, at_place, AreApart}
 

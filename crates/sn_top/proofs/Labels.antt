@@ -1,5 +1,5 @@
 -- What labels and parts spell.
-use Rattle.std.proofs.Common.{◌≡◌, ℕ, leb, ◌<◌, ◌==◌, Bool, true, false, not, ◌&&◌, IsTrue, List, [], ◌∷◌, ◌++◌, length, length-append, refl, sym, ap, ◌∙◌, subst, arith}
+use Rattle.std.proofs.Common.{◌≡◌, ℕ, leb, ◌<◌, true, false, IsTrue, List, [], ◌∷◌, ◌++◌, length, length-append, refl, sym, ap, ◌∙◌, subst, arith}
 use Rattle.std.specs.Prelude.{Ok, Err, ◌⊎◌}
 use Rattle.std.proofs.Common.{inl, inr}
 use Rattle.std.specs.List.{list_all}
@@ -12,8 +12,8 @@ use Rattle.sn_top.specs.declared.written.WrittenLabel.{WrittenLabel}
 use Rattle.sn_top.specs.declared.written.WrittenPart.{WrittenPart}
 use Rattle.sn_top.specs.declared.written.WrittenPart.TheVariants.{Copy, Rename}
 use Rattle.sn_top.specs.Reading.{Reads, IsFree}
-use Rattle.sn_top.specs.Small.{is_letter, is_keyword, is_name, label_text, SpellsLabel, SpellsRename, SpellsPart}
-use Rattle.sn_top.proofs.Plain.{is_within, AreWithin, free_of, within_append, not_free, cut_once}
+use Rattle.sn_top.specs.Small.{is_letter, is_name, label_text, SpellsLabel, SpellsPart}
+use Rattle.sn_top.proofs.Plain.{AreWithin, free_of, within_append, not_free, cut_once}
 
 letters_within : (k : ℕ) (n : List ℕ) → list_all is_letter n ≡ true → AreWithin k n
 letters_within k [] h = refl

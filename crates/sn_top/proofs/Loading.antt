@@ -1,5 +1,5 @@
 -- From what was read, entered and built to what is loaded.
-use Rattle.std.proofs.Common.{true, false, ◌≡◌, ◌≢◌, ℕ, ◌≤◌, ◌<◌, List, [], ◌∷◌, ◌++◌, length, map, refl, sym, ap, ◌∙◌, subst, arith}
+use Rattle.std.proofs.Common.{true, false, ◌≡◌, ℕ, ◌≤◌, ◌<◌, List, [], length, map, refl, sym, ap, ◌∙◌, subst, arith}
 use Rattle.std.specs.Prelude.{Result, Ok, Err, All}
 use Rattle.std.specs.List.{flat_map}
 use Rattle.sn_record.specs.Record.{Entries}
@@ -18,16 +18,14 @@ use Rattle.sn_top.specs.declared.chain.ChainFault.{ChainFault}
 use Rattle.sn_top.specs.declared.chain.ChainFault.TheVariants as chain_fault
 use Rattle.sn_top.specs.declared.load.Program.{Program}
 use Rattle.sn_top.specs.declared.load.Loaded.{Loaded}
-use Rattle.sn_top.specs.declared.load.Answered.{Answered}
-use Rattle.sn_top.specs.declared.status.Stop.{Stop}
 use Rattle.sn_top.specs.Status.{fault_stop}
 use Rattle.sn_top.specs.Reading.{Reads}
-use Rattle.sn_top.specs.Names.{Enters, all_entered}
+use Rattle.sn_top.specs.Names.{Enters}
 use Rattle.sn_top.specs.Small.{SpellsSource}
 use Rattle.sn_top.specs.Lines.{SpellsInput}
 use Rattle.sn_top.specs.Numbered.{source_names, line_names, record_of, net_of, Builds, IsBuildable, IsDistinctLine}
-use Rattle.sn_top.specs.Meaning.{names_of, with_lines, IsSmallSource, IsSmallInput, network_of, IsRouted, stream_of}
-use Rattle.sn_top.specs.Load.{names_read_fault, chain_stop, IsProgram, Loads, IsInput, LoadsInput, IsAnswer, WhyNoAnswer}
+use Rattle.sn_top.specs.Meaning.{names_of, with_lines, IsRouted, stream_of}
+use Rattle.sn_top.specs.Load.{names_read_fault, chain_stop, Loads, IsInput, LoadsInput, IsAnswer, WhyNoAnswer}
 
 -- what is spelled is what was read
 same_read : {X : Type 0} (Spells : List ℕ → X → Type 0) (bytes : List ℕ) (x y : X) → Reads Spells bytes (Ok x) → Spells bytes y → x ≡ y
@@ -65,7 +63,7 @@ module _ (bytes : List ℕ) where
     ok = tt;
     refused = λ is other small.
         builds.refused (same_refusal fault _ _ refl refl is)
-            (subst (λ ns. IsBuildable ns s) (sym names) (subst (λ x. IsBuildable (names_of x) x) (sym (same_read SpellsSource bytes s other read small.written)) small.built));
+        (subst (λ ns. IsBuildable ns s) (sym names) (subst (λ x. IsBuildable (names_of x) x) (sym (same_read SpellsSource bytes s other read small.written)) small.built));
   }
 
   pub source_loaded : (s : WrittenSource) (now : List (List ℕ)) (net : Net) → Reads SpellsSource bytes (Ok s) → now ≡ names_of s → length now ≤ 256
@@ -105,7 +103,7 @@ module _ (names : List (List ℕ)) (bytes : List ℕ) where
     ok = tt;
     refused = λ is other small.
         builds.refused (same_refusal fault _ _ refl refl is)
-            (subst (λ ns. All (IsDistinctLine ns) ls) (sym is_now) (subst (λ x. All (IsDistinctLine (with_lines names x)) x) (sym (same_read SpellsInput bytes ls other read small.written)) small.distinct));
+        (subst (λ ns. All (IsDistinctLine ns) ls) (sym is_now) (subst (λ x. All (IsDistinctLine (with_lines names x)) x) (sym (same_read SpellsInput bytes ls other read small.written)) small.distinct));
   }
 
   pub input_loaded : (ls : List WrittenLine) (now : List (List ℕ)) (rs : List Entries) → Reads SpellsInput bytes (Ok ls) → now ≡ with_lines names ls → length now ≤ 256

@@ -1,7 +1,7 @@
 -- Lines one after another.
-use Rattle.std.proofs.Common.{◌≡◌, ℕ, ◌+◌, ◌<◌, List, [], ◌∷◌, ◌++◌, length, get_or, take, drop, map, Option, refl, sym, ap, ◌∙◌, subst, append_assoc, append-nil}
+use Rattle.std.proofs.Common.{◌≡◌, ℕ, ◌+◌, ◌<◌, List, [], ◌∷◌, ◌++◌, length, get_or, take, drop, map, Option, refl, sym, ap, ◌∙◌, subst, append-nil}
 use Rattle.std.specs.List.{flat_map}
-use Rattle.std.proofs.lemmas.List.{drop_more, take_more, take-append-drop}
+use Rattle.std.proofs.lemmas.List.{take_more, take-append-drop}
 use Rattle.std.proofs.lemmas.List.Concat.{flat_map-append}
 use Rattle.sn_record.specs.Record.{Entries}
 use Rattle.sn_net.specs.Meaning.{Rec}
@@ -28,7 +28,7 @@ module _ {A : Type 0} (f : A → List ℕ) (xs : List A) (i : ℕ) (x : A) where
   pub print_part : (first before now : Option (List ℕ)) → i < length xs → x ≡ get_or xs i x → before ≡ appended first (flat_map f (take i xs)) → AppendsPrefix before now (f x) → AppendsPrefix first now (flat_map f xs)
   print_part first before now within here was part =
       subst (AppendsPrefix first now) (lines_cut within here)
-          (prefix_before first now (flat_map f (take i xs) ++ f x) (flat_map f (drop (i + 1) xs)) (prefix_after first before now (flat_map f (take i xs)) (f x) was part))
+      (prefix_before first now (flat_map f (take i xs) ++ f x) (flat_map f (drop (i + 1) xs)) (prefix_after first before now (flat_map f (take i xs)) (f x) was part))
 
 -- records are printed line by line
 pub printed_records : (names : List (List ℕ)) (rs : List Entries) → printed names (map Rec rs) ≡ flat_map (line names) rs

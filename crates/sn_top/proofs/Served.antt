@@ -1,19 +1,18 @@
 -- From why a run stopped to what the call that did it may leave.
-use Rattle.std.proofs.Common.{◌≡◌, ◌≢◌, ℕ, List, [], ◌∷◌, ◌++◌, refl, sym, ap, ◌∙◌, subst, inl, inr, Some, None, Option}
-use Rattle.std.specs.Prelude.{Ok, Err, codes, ◌⊎◌}
+use Rattle.std.proofs.Common.{◌≡◌, ◌≢◌, ℕ, List, refl, sym, ◌∙◌, subst, inl, inr, Some, Option}
+use Rattle.std.specs.Prelude.{Ok, Err, ◌⊎◌}
 use Rattle.sn_io.specs.Told.{appended}
 use Rattle.sn_io.proofs.Told.{appended_none}
 use Rattle.sn_top.specs.declared.words.Command.{Command}
 use Rattle.sn_top.specs.declared.status.Status.{Status}
 use Rattle.sn_top.specs.declared.status.Status.TheVariants as status
-use Rattle.sn_top.specs.declared.status.Refusal.{Refusal}
 use Rattle.sn_top.specs.declared.status.Refusal.TheVariants.{TooLarge, NotBuilt}
 use Rattle.sn_top.specs.declared.status.Stop.{Stop}
 use Rattle.sn_top.specs.declared.status.Stop.TheVariants.{Refused, Unread, Memory, Write}
 use Rattle.sn_top.specs.Status.{stop_status, stop_line}
 use Rattle.sn_top.specs.Words.{source_of, input_of}
 use Rattle.sn_top.specs.Seen.{GotLine}
-use Rattle.sn_top.specs.Answer.{Outside, FindsFor, Finds, WhyStopped, IsAnswered, HasUnread, IsCutShort, IsUnwritten, IsAnsweredFor, OfCommand, IsCutShortFor, GotPart}
+use Rattle.sn_top.specs.Answer.{Outside, FindsFor, WhyStopped, IsAnswered, HasUnread, IsCutShort, IsUnwritten, IsAnsweredFor, OfCommand, IsCutShortFor, GotPart}
 
 module _ (command : Command) (outside : Outside) where
   -- the whole output was printed, and nothing was said on `err`

@@ -1,9 +1,9 @@
 -- From what each step of a run gave to why it stopped, and what it printed.
-use Rattle.std.proofs.Common.{◌≡◌, ℕ, ◌<◌, ◌≤◌, List, [], length, map, Option, None, Some, refl, sym, ap, ◌∙◌, subst, arith, inl, inr}
-use Rattle.std.specs.Prelude.{Ok, Err, IfSome, Result, IfErr}
+use Rattle.std.proofs.Common.{◌≡◌, ℕ, ◌<◌, ◌≤◌, List, length, map, Option, None, Some, refl, sym, ap, ◌∙◌, subst, arith, inl, inr}
+use Rattle.std.specs.Prelude.{Ok, Err, IfSome}
 use Rattle.std.specs.List.{flat_map}
 use Rattle.sn_io.specs.Causes.{Rose}
-use Rattle.sn_io.specs.Told.{appended, AppendsPrefix}
+use Rattle.sn_io.specs.Told.{AppendsPrefix}
 use Rattle.sn_net.specs.Meaning.{Rec}
 use Rattle.sn_top.specs.declared.written.WrittenSource.{WrittenSource}
 use Rattle.sn_top.specs.declared.written.WrittenLine.{WrittenLine}
@@ -13,9 +13,7 @@ use Rattle.sn_top.specs.declared.load.Program.{Program}
 use Rattle.sn_top.specs.declared.load.Answered.{Answered}
 use Rattle.sn_top.specs.declared.print.PrintFault.{PrintFault}
 use Rattle.sn_top.specs.declared.print.PrintFault.TheVariants as print_fault
-use Rattle.sn_top.specs.declared.status.Which.{Which}
 use Rattle.sn_top.specs.declared.status.Which.TheVariants.{Source, Input}
-use Rattle.sn_top.specs.declared.status.Refusal.{Refusal}
 use Rattle.sn_top.specs.declared.status.Refusal.TheVariants.{TooLarge, NotBuilt}
 use Rattle.sn_top.specs.declared.status.Stop.{Stop}
 use Rattle.sn_top.specs.declared.status.Stop.TheVariants.{Refused, Unread, Memory, Write}
@@ -100,9 +98,9 @@ module _ (source input : File) (bytes : List ℕ) (read : HasBytes source SOURCE
   prints : Prints is.source more (flat_map (line answered.names) answered.records)
   prints =
       let routed : IsRouted (names_of is.source) (network_of is.source) more answer.lines =
-          subst (λ names. IsRouted names (network_of is.source) more answer.lines) is.names (subst (λ net. IsRouted program.names net more answer.lines) is.net answer.routed) in
+      subst (λ names. IsRouted names (network_of is.source) more answer.lines) is.names (subst (λ net. IsRouted program.names net more answer.lines) is.net answer.routed) in
       let stream : stream_of (names_of is.source) (network_of is.source) answer.lines ≡ map Rec answered.records =
-          subst (λ names. stream_of names (network_of is.source) answer.lines ≡ map Rec answered.records) is.names (subst (λ net. stream_of program.names net answer.lines ≡ map Rec answered.records) is.net answer.stream) in
+      subst (λ names. stream_of names (network_of is.source) answer.lines ≡ map Rec answered.records) is.names (subst (λ net. stream_of program.names net answer.lines ≡ map Rec answered.records) is.net answer.stream) in
       let names : answered.names ≡ with_lines (names_of is.source) answer.lines = answer.names ∙ ap (λ names. with_lines names answer.lines) is.names in
       record {
         within = has.within;
@@ -115,7 +113,7 @@ module _ (source input : File) (bytes : List ℕ) (read : HasBytes source SOURCE
   pub finds_lines : Finds source.told input.told (Ok (flat_map (line answered.names) answered.records))
   finds_lines =
       of_told source.told bytes (λ t. (s : WrittenSource) × IsAccepted t s × IfSome input.told (λ m. Prints s m (flat_map (line answered.names) answered.records))) read.told
-          (is.source, accepted bytes program is read.within, of_told input.told more (λ m. Prints is.source m (flat_map (line answered.names) answered.records)) has.told prints)
+      (is.source, accepted bytes program is read.within, of_told input.told more (λ m. Prints is.source m (flat_map (line answered.names) answered.records)) has.told prints)
 
   pub not_printed : (out : Sink) (fault : PrintFault) → AppendsPrefix out.before out.now (flat_map (line answered.names) answered.records) → (fault ≡ print_fault.Write → SinkFailed out) → WhyStopped source input out (print_stop fault)
   not_printed out print_fault.Memory part failed = inr (flat_map (line answered.names) answered.records, finds_lines, part)

@@ -1,9 +1,9 @@
 -- What templates, filters and sources spell, and what their pieces are.
-use Rattle.std.proofs.Common.{◌≡◌, ◌≢◌, ℕ, ◌<◌, ◌==◌, Bool, true, false, List, [], ◌∷◌, ◌++◌, length, length-append, lit≤, refl, sym, ap, ◌∙◌, subst, arith}
+use Rattle.std.proofs.Common.{◌≡◌, ◌≢◌, ℕ, false, List, [], ◌∷◌, ◌++◌, length, length-append, lit≤, refl, sym, ap, ◌∙◌, subst, arith}
 use Rattle.std.specs.Prelude.{Ok, Err, codes}
 use Rattle.std.proofs.lemmas.List.{append_cancel_left, append_cancel_right}
 use Rattle.sn_top.specs.declared.reading.ReadFault.{ReadFault}
-use Rattle.sn_top.specs.declared.reading.ReadFault.TheVariants.{NotBuilt, Memory}
+use Rattle.sn_top.specs.declared.reading.ReadFault.TheVariants.{NotBuilt}
 use Rattle.sn_top.specs.declared.written.WrittenLabel.{WrittenLabel}
 use Rattle.sn_top.specs.declared.written.WrittenPart.{WrittenPart}
 use Rattle.sn_top.specs.declared.written.WrittenTemplate.{WrittenTemplate}

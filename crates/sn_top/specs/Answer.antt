@@ -1,5 +1,5 @@
 -- What a command may leave: its status, and what it appends to `out` and to `err`.
-use Rattle.std.specs.Prelude.{◌≡◌, ◌⊎◌, ◌≤◌, ◌<◌, ℕ, List, [], ◌++◌, length, codes, Option, None, Some, Result, Ok, Err, IfSome, MatchOption}
+use Rattle.std.specs.Prelude.{◌≡◌, ◌⊎◌, ◌≤◌, ◌<◌, ℕ, List, [], length, codes, Option, None, Some, Result, Ok, Err, IfSome}
 use Rattle.sn_io.specs.Told.{appended, AppendsPrefix}
 use Rattle.sn_top.specs.declared.words.Command.{Command}
 use Rattle.sn_top.specs.declared.written.WrittenSource.{WrittenSource}

@@ -1,7 +1,5 @@
 -- What the layers below the top calls give: programs, inputs and answers.
 use Rattle.std.specs.Prelude.{◌≡◌, ℕ, List, map, Result, Err, IfOk}
-use Rattle.sn_record.specs.Record.{Entries}
-use Rattle.sn_net.specs.declared.net.Net.{Net}
 use Rattle.sn_net.specs.Net.{AllClosed}
 use Rattle.sn_net.specs.Meaning.{Rec}
 use Rattle.sn_top.specs.declared.written.WrittenSource.{WrittenSource}

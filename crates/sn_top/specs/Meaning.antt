@@ -1,13 +1,10 @@
 -- What a small source does to a small input, and what is printed of it.
-use Rattle.std.specs.Prelude.{◌≡◌, ◌≤◌, ℕ, false, List, [], ◌∷◌, ◌++◌, length, map, All, Result, Err, IfOk}
+use Rattle.std.specs.Prelude.{◌≡◌, ◌≤◌, ℕ, false, List, [], ◌∷◌, ◌++◌, length, map, All}
 use Rattle.std.specs.List.{flat_map}
 use Rattle.sn_net.specs.declared.net.Net.{Net}
-use Rattle.sn_net.specs.Net.{AllClosed}
 use Rattle.sn_net.specs.Meaning.{ModelItem, Rec, Fault, Stuck, holds_stuck, one}
 use Rattle.sn_top.specs.declared.written.WrittenSource.{WrittenSource}
 use Rattle.sn_top.specs.declared.written.WrittenLine.{WrittenLine}
-use Rattle.sn_top.specs.declared.reading.ReadFault.{ReadFault}
-use Rattle.sn_top.specs.declared.reading.ReadFault.TheVariants.{NotBuilt}
 use Rattle.sn_top.specs.Names.{all_entered}
 use Rattle.sn_top.specs.Small.{SpellsSource}
 use Rattle.sn_top.specs.Lines.{SpellsInput}

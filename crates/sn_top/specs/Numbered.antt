@@ -3,7 +3,6 @@ use Rattle.std.specs.Prelude.{◌≡◌, ◌≤◌, ℕ, Bool, true, is_none, �
 use Rattle.std.specs.List.{flat_map}
 use Rattle.std.specs.FinMap.{from_entries, find}
 use Rattle.sn_record.specs.declared.label.Label.{Label}
-use Rattle.sn_record.specs.declared.label.Kind.TheVariants.{Field}
 use Rattle.sn_record.specs.declared.value.Value.{Value}
 use Rattle.sn_record.specs.declared.value.Value.TheVariants.{Int}
 use Rattle.sn_record.specs.Label.{label_cmp}

@@ -1,5 +1,5 @@
 -- What it means to read bytes by a grammar.
-use Rattle.std.specs.Prelude.{◌≡◌, ◌<◌, ◌++◌, codes, length, ℕ, zero, suc, List, [], ◌∷◌, ◌==◌, Bool, false, Result, IfOk, MatchResult}
+use Rattle.std.specs.Prelude.{◌≡◌, ◌<◌, ◌++◌, codes, length, ℕ, zero, suc, List, [], ◌∷◌, ◌==◌, false, Result, IfOk, MatchResult}
 use Rattle.std.specs.List.{All, AllZip, join_with_byte}
 use Rattle.sn_top.specs.declared.reading.ReadFault.{ReadFault}
 use Rattle.sn_top.specs.declared.reading.ReadFault.TheVariants.{Memory}

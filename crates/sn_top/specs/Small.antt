@@ -1,5 +1,5 @@
 -- The small grammar of a source: filters in series, bytes as written, one blank where one stands.
-use Rattle.std.specs.Prelude.{◌≡◌, ℕ, ◌<◌, Bool, ◌&&◌, not, IsTrue, List, [], ◌∷◌, ◌++◌, length, leb, nat_lt, nat_eq, codes}
+use Rattle.std.specs.Prelude.{◌≡◌, ℕ, Bool, ◌&&◌, not, IsTrue, List, [], ◌∷◌, ◌++◌, length, leb, nat_lt, nat_eq, codes}
 use Rattle.std.specs.List.{list_all, list_any}
 use Rattle.std.specs.Cmp.Lexicographic.{pointwise}
 use Rattle.sn_record.specs.declared.label.Kind.{Kind}

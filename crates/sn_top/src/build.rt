@@ -112,11 +112,7 @@ fn templates_of(
 /// The most filters of a source, and the most templates of a filter.
 const MOST: usize = 16;
 
-fn filter_of(
-    alloc: Global,
-    names: &SmallNames,
-    filter: &WrittenFilter,
-) -> Result<Filter, ReadFault>
+fn filter_of(alloc: Global, names: &SmallNames, filter: &WrittenFilter) -> Result<Filter, ReadFault>
     ensures { Builds (IsBuildableFilter names.now filter.now) (number_filter names.now filter.now) result }
 {
     if filter.templates.is_empty() || filter.templates.len() > MOST {
@@ -135,11 +131,7 @@ fn filter_of(
 }
 
 /// The filters in series, grouped to the right. It calls itself for each filter.
-fn chain_of(
-    alloc: Global,
-    names: &SmallNames,
-    filters: &[WrittenFilter],
-) -> Result<Net, ReadFault>
+fn chain_of(alloc: Global, names: &SmallNames, filters: &[WrittenFilter]) -> Result<Net, ReadFault>
     ensures chain { Builds (IsBuildableChain names.now filters.now) (net_of names.now filters.now) result }
     ensures closed { IfOk result AllClosed }
 {

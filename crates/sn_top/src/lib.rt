@@ -17,6 +17,8 @@ mod reading;
 mod serve;
 mod source;
 mod status;
+#[cfg(test)]
+mod tests;
 mod words;
 mod written;
 

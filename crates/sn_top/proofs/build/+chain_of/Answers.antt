@@ -1,4 +1,4 @@
-use Rattle.std.proofs.Common.{◌≡◌, sym, subst, ◌∙◌, ap, arith}
+use Rattle.std.proofs.Common.{sym, subst, ◌∙◌, ap}
 use Rattle.sn_net.specs.declared.net.Net.TheVariants.{Filter as FilterLeaf}
 use Rattle.sn_net.proofs.Closed.{AllClosed-Serial}
 use Rattle.sn_net.specs.Net.{AllClosed}

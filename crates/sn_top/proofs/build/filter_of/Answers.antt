@@ -1,8 +1,7 @@
-use Rattle.std.proofs.Common.{◌≡◌, sym, subst, arith, ◌∙◌}
+use Rattle.std.proofs.Common.{sym, subst, arith, ◌∙◌}
 use Rattle.std.proofs.lemmas.Bool.Decides.{nat_tests}
 use Rattle.std.proofs.lemmas.Bool.{false≢true}
 use Rattle.sn_net.specs.Filter.{IsClosed}
-use Rattle.sn_top.specs.Numbered.{filter_of as number_filter}
 use Rattle.sn_top.proofs.Building.{same_filter}
 use Rattle.sn_top.proofs.build.filter_of.Goals as goal
 

@@ -5,9 +5,8 @@ use Rattle.std.proofs.lemmas.Int.{to_z-of_z}
 use Rattle.std.specs.Option.{is_some}
 use Rattle.std.specs.FinMap as finite
 use Rattle.sn_record.specs.declared.label.Label.{Label}
-use Rattle.sn_record.specs.declared.value.Value.{Value}
 use Rattle.sn_record.specs.declared.value.Value.TheVariants.{Int}
-use Rattle.sn_top.specs.Numbered.{label_of, entry_of, are_distinct}
+use Rattle.sn_top.specs.Numbered.{entry_of, are_distinct}
 use Rattle.sn_top.proofs.Distinct.{grown, clashed}
 use Rattle.sn_top.proofs.build.record_of.Goals as goal
 

@@ -1,5 +1,5 @@
-use Rattle.std.proofs.Common.{◌≡◌, ◌∙◌, sym, ap, subst, map, take, get_or, ◌+◌, ◌∷◌, [], ◌++◌}
-use Rattle.std.proofs.lemmas.List.{take_more, map_push, map_more}
+use Rattle.std.proofs.Common.{◌∙◌, sym, ap, subst, map, take, ◌∷◌, [], ◌++◌}
+use Rattle.std.proofs.lemmas.List.{map_more}
 use Rattle.std.proofs.lemmas.List.Elements.{All-more}
 use Rattle.sn_top.specs.Numbered.{record_of, IsDistinctLine}
 use Rattle.sn_top.proofs.build.records_of.Goals as goal

@@ -1,5 +1,4 @@
-use Rattle.std.proofs.Common.{◌≡◌, ◌∙◌, true, false, not, sym, ap, subst, arith, T}
-use Rattle.std.proofs.lemmas.Grind.{common_steps}
+use Rattle.std.proofs.Common.{◌≡◌, ◌∙◌, true, false, ap}
 use Rattle.std.specs.FinMap as finite
 use Rattle.sn_record.specs.declared.label.Label.{Label}
 use Rattle.sn_record.specs.LabelSet.{contains}

@@ -1,4 +1,4 @@
-use Rattle.std.proofs.Common.{sym, ◌∙◌}
+use Rattle.std.proofs.Common.{◌∙◌}
 use Rattle.std.proofs.lemmas.Result.{err_from_is_err_and}
 use Rattle.sn_top.proofs.Entering.{enter_more, enter_over}
 use Rattle.sn_top.proofs.enter.enter_all.Goals as goal

@@ -1,4 +1,4 @@
-use Rattle.std.proofs.Common.{inl, inr, refl, rules, sym, ◌∙◌}
+use Rattle.std.proofs.Common.{inl, inr, sym, ◌∙◌}
 use Rattle.std.proofs.lemmas.Result.{err_from_is_err_and}
 use Rattle.sn_top.proofs.Labels.{reads_refused, reads_rename, reads_no_label}
 use Rattle.sn_top.proofs.label.read_part.Goals as goal

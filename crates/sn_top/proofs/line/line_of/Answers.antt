@@ -10,7 +10,7 @@ of_parts none opened most all middle a b c d = d ∙ ap (λ t. t ++ codes "}\n")
 
 pub returns : goal.returns
 returns c =
-    let seen : map (λ e. (e.0, e.1.now)) c.as_slice-2.result.now ≡ in_order c.args.names.now c.args.record.now =
+    let seen : map (λ e. (e.0, e.1.now)) c.as_slice-2.result.now ≡ in_order c.args.names.now c.args.shown.now =
     ap (map (λ e. (e.0, e.1.now))) c.as_slice-2.ensures.value
     ∙ c.in_ok-entries.ensures
     ∙ ap (λ es. finite.entries (finite.from_entries {R = by_name c.args.names.now} es)) c.as_slice.ensures.entries in

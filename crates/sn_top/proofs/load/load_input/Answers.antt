@@ -1,8 +1,5 @@
-use Rattle.std.proofs.Common.{◌≡◌, ◌≤◌, length, sym, ap, ◌∙◌, subst, arith}
-use Rattle.std.specs.List.{flat_map}
+use Rattle.std.proofs.Common.{◌≤◌, length, ap, arith}
 use Rattle.std.proofs.lemmas.Result.{err_from_is_err_and}
-use Rattle.sn_top.specs.Names.{Enters}
-use Rattle.sn_top.specs.Numbered.{line_names}
 use Rattle.sn_top.proofs.Loading.{input_unread, input_not_entered, input_not_built, input_loaded}
 use Rattle.sn_top.proofs.load.load_input.Goals as goal
 

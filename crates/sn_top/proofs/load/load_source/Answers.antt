@@ -1,4 +1,4 @@
-use Rattle.std.proofs.Common.{◌≡◌, ◌≤◌, length, sym, ap, ◌∙◌, subst, arith}
+use Rattle.std.proofs.Common.{◌≤◌, length, ap, arith}
 use Rattle.std.proofs.lemmas.Result.{err_from_is_err_and}
 use Rattle.sn_top.proofs.Loading.{source_unread, source_not_entered, source_not_built, source_loaded}
 use Rattle.sn_top.proofs.load.load_source.Goals as goal

@@ -1,8 +1,6 @@
-use Rattle.std.proofs.Common.{◌≡◌, ◌<◌, ◌==◌, ℕ, List, [], length, get_or, map, refl, sym, ap, ◌∙◌, subst, rules, arith}
-use Rattle.std.specs.Prelude.{Err, Ok}
+use Rattle.std.proofs.Common.{rules, arith}
 use Rattle.std.proofs.lemmas.Result.{err_from_is_err_and}
 use Rattle.std.proofs.lemmas.Bool.Decides.{nat_tests}
-use Rattle.sn_top.specs.Reading.{Reads}
 use Rattle.sn_top.proofs.Joined.{read_none, read_failed, read_more, read_all, lent_piece, lent_end}
 use Rattle.sn_top.proofs.reading.read_joined.Goals as goal
 

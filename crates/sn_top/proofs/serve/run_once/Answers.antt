@@ -1,8 +1,8 @@
-use Rattle.std.proofs.Common.{◌≡◌, refl, sym, ap, ◌∙◌, subst}
-use Rattle.std.specs.Prelude.{IfSome, IfErr, Err}
+use Rattle.std.proofs.Common.{◌≡◌, refl, ap, ◌∙◌, subst}
+use Rattle.std.specs.Prelude.{IfSome, Err}
 use Rattle.std.specs.List.{flat_map}
 use Rattle.std.proofs.lemmas.Result.{err_from_is_err_and}
-use Rattle.sn_io.specs.Told.{appended, AppendsPrefix}
+use Rattle.sn_io.specs.Told.{AppendsPrefix}
 use Rattle.sn_top.specs.declared.print.PrintFault.TheVariants.{Write}
 use Rattle.sn_top.specs.Line.{line}
 use Rattle.sn_top.specs.Seen.{File, Sink, seen_file, seen_sink, SinkFailed}
@@ -37,7 +37,7 @@ returns-in_err-input-clause-stopped g c =
     let program : IsProgram c.in_ok-source.source c.in_ok-program.program = rw (c.in_ok-program.was, c.as_slice.ensures) at c.load_source.ensures.ok in
     let between : File = seen_file g.F.Files.bytes_of g.F.Files.faults c.read_file.new.files c.read_file-2.new.files c.args.input_name.now in
     rw (p.1, p.2) (input_unread source input out refl c.in_ok-source.source read c.in_ok-program.program program between
-        (c.read_file.ensures.same c.args.input_name.now) (c.read_file.ensures.later c.args.input_name.now) refl c.in_err-input.field-0.0 c.in_err-input.ensures.unread)
+    (c.read_file.ensures.same c.args.input_name.now) (c.read_file.ensures.later c.args.input_name.now) refl c.in_err-input.field-0.0 c.in_err-input.ensures.unread)
 
 pub returns-in_err-answered-clause-stopped : goal.returns-in_err-answered-clause-stopped
 returns-in_err-answered-clause-stopped g c =

@@ -1,4 +1,4 @@
-use Rattle.std.proofs.Common.{◌≡◌, refl, sym, ap, ◌∙◌, subst}
+use Rattle.std.proofs.Common.{◌≡◌, refl, sym, ◌∙◌}
 use Rattle.sn_top.specs.Answer.{Outside, seen}
 use Rattle.sn_top.specs.Status.{stop_line}
 use Rattle.sn_top.specs.Words.{source_of, input_of}

@@ -1,6 +1,5 @@
-use Rattle.std.proofs.Common.{◌≡◌, refl, sym, ap, ◌∙◌, subst, inl, map}
+use Rattle.std.proofs.Common.{map}
 use Rattle.std.specs.String.{string_bytes}
-use Rattle.sn_io.proofs.Told.{appended_none}
 use Rattle.sn_top.specs.Words.{command_of}
 use Rattle.sn_top.specs.Answer.{Outside, seen, HasUnread, IsUnwritten}
 use Rattle.sn_top.proofs.Served.{answered_for, of_command, cut_short_for}

@@ -1,0 +1,159 @@
+ghost use Rattle.std.specs.Prelude.{IfOk, ◌<◌};
+ghost use Rattle.sn_top.specs.Words.{IsInRange};
+
+use crate::words::{DEFAULT_DEPTH, DEFAULT_FUEL};
+use crate::{Command, Status, serve_plain, serve_words};
+use sn_io::{MemFiles, MemSink, OpenGate};
+use sn_list::{Memory, Seq};
+use std::alloc::Global;
+use std::test::Fail;
+
+const SOURCE: &[u8] = b"net main ({a} -> {}) connect [{a} -> {b=a}];";
+
+const CHAIN: &[u8] = b"net main ({a} -> {}) connect [{a} -> {b=a}] .. [{b} -> {b};{}];";
+
+const INPUT: &[u8] = b"{a=1, <t>=7}\n";
+
+const OUTPUT: &[u8] = b"{b=1, <t>=7}\n";
+
+fn command(alloc: Global) -> Result<Command, Memory>
+    ensures { IfOk result IsInRange }
+{
+    let source = Seq::from_slice(alloc, b"s")?;
+    let input = Seq::from_slice(alloc, b"i")?;
+    Ok(Command::Once {
+        source,
+        input,
+        fuel: DEFAULT_FUEL,
+        depth: DEFAULT_DEPTH,
+    })
+}
+
+fn files(alloc: Global, source: &[u8], input: &[u8]) -> Result<MemFiles, Memory> {
+    let mut files = MemFiles::new(alloc);
+    files.add(b"s", source)?;
+    files.add(b"i", input)?;
+    Ok(files)
+}
+
+fn sink(alloc: Global, piece: usize) -> Result<MemSink, Memory>
+    requires { 0 < piece }
+{
+    let mut sink = MemSink::new(alloc, piece);
+    sink.reserve(256)?;
+    Ok(sink)
+}
+
+#[derive(Drop)]
+struct Served {
+    status: Status,
+    out: MemSink,
+    err: MemSink,
+}
+
+impl Served {
+    fn is(&self, status: Status, out: &[u8], err: &[u8]) -> bool {
+        self.status == status && self.out.held() == out && self.err.held() == err
+    }
+}
+
+fn serve(alloc: Global, mut files: MemFiles, mut out: MemSink) -> Result<Served, Memory> {
+    let command = command(alloc)?;
+    let mut err = sink(alloc, 64)?;
+    let status = serve_plain(alloc, &command, &mut files, &mut out, &mut err);
+    Ok(Served { status, out, err })
+}
+
+#[test]
+fn chains_answer_as_their_filters(rt: HostRuntime) -> Result<(), Fail> {
+    let alloc = rt.alloc();
+    let table: [(&[u8], &[u8], Status, &[u8], &[u8]); 5] = [
+        (SOURCE, INPUT, Status::Ok, OUTPUT, b""),
+        (SOURCE, b"", Status::Ok, b"", b""),
+        (CHAIN, INPUT, Status::Ok, b"{b=1, <t>=7}\n{<t>=7}\n", b""),
+        (SOURCE, b"{c=1}", Status::NotBuilt, b"", b"not built\n"),
+        (b"net main", INPUT, Status::NotBuilt, b"", b"not built\n"),
+    ];
+    for (source, input, status, out, err) in table {
+        let served = serve(alloc, files(alloc, source, input)?, sink(alloc, 5)?)?;
+        assert!(rt; served.is(status, out, err));
+    }
+    Ok(())
+}
+
+#[test]
+fn failed_reads_and_writes_are_told(rt: HostRuntime) -> Result<(), Fail> {
+    let alloc = rt.alloc();
+    for (call, line) in [(1, b"read: s\n"), (2, b"read: i\n")] {
+        let mut failing = files(alloc, SOURCE, INPUT)?;
+        failing.fail_at(call)?;
+        let served = serve(alloc, failing, sink(alloc, 1)?)?;
+        assert!(rt; served.is(Status::Read, b"", line));
+    }
+    let mut out = sink(alloc, 1)?;
+    out.fail_at(4)?;
+    let served = serve(alloc, files(alloc, SOURCE, INPUT)?, out)?;
+    assert!(rt; served.is(Status::Write, b"{b=", b"write\n"));
+    Ok(())
+}
+
+/// What may be left where memory may be wanted: all of the output, or some first bytes of it and of the line.
+fn is_allowed(served: &Served) -> bool {
+    match served.status {
+        Status::Ok => served.out.held() == OUTPUT && served.err.held().is_empty(),
+        Status::Memory => {
+            OUTPUT.starts_with(served.out.held()) && b"memory\n".starts_with(served.err.held())
+        }
+        _ => false,
+    }
+}
+
+/// Run with the first allocation refused, then with the second, and so on. That the test itself finds no memory to
+/// start with is no fault of the call.
+#[test]
+fn wanted_memory_is_told(rt: HostRuntime) -> Result<(), Fail> {
+    let alloc = rt.alloc();
+    let (Ok(files), Ok(out)) = (files(alloc, SOURCE, INPUT), sink(alloc, 64)) else {
+        return Ok(());
+    };
+    let Ok(served) = serve(alloc, files, out) else {
+        return Ok(());
+    };
+    assert!(rt; is_allowed(&served));
+    Ok(())
+}
+
+#[test]
+fn words_are_served(rt: HostRuntime) -> Result<(), Fail> {
+    let alloc = rt.alloc();
+    let mut words = Vec::new(alloc);
+    let mut stored = files(alloc, SOURCE, INPUT)?;
+    let mut out = sink(alloc, 64)?;
+    let mut err = sink(alloc, 256)?;
+    let status = serve_words(
+        &rt,
+        alloc,
+        &words,
+        &mut stored,
+        &mut out,
+        &mut err,
+        &OpenGate,
+    );
+    assert_eq!(rt; status, Status::Usage);
+    assert!(rt; out.held().is_empty() && err.held().starts_with(b"usage: snet run SOURCE INPUT"));
+    for word in ["once", "s", "i"] {
+        words.push(String::from_str(alloc, word)?)?;
+    }
+    let status = serve_words(
+        &rt,
+        alloc,
+        &words,
+        &mut stored,
+        &mut out,
+        &mut err,
+        &OpenGate,
+    );
+    assert_eq!(rt; status, Status::Ok);
+    assert!(rt; out.held() == OUTPUT);
+    Ok(())
+}
