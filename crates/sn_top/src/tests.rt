@@ -8,13 +8,13 @@ use sn_list::{Memory, Seq};
 use std::alloc::Global;
 use std::test::Fail;
 
-const SOURCE: &[u8] = b"net main ({a} -> {}) connect [{a} -> {b=a}];";
+const SOURCE: &[u8] = b"net main ({a} -> {b}) connect [{a} -> {b=a}];";
 
 const CHAIN: &[u8] = b"net main ({a} -> {}) connect [{a} -> {b=a}] .. [{b} -> {b};{}];";
 
-const INPUT: &[u8] = b"{a=1, <t>=7}\n";
+const INPUT: &[u8] = b"{a=1}\n{a=2, <t>=7}\n";
 
-const OUTPUT: &[u8] = b"{b=1, <t>=7}\n";
+const OUTPUT: &[u8] = b"{b=1}\n{b=2, <t>=7}\n";
 
 fn command(alloc: Global) -> Result<Command, Memory>
     ensures { IfOk result IsInRange }
@@ -70,7 +70,13 @@ fn chains_answer_as_their_filters(rt: HostRuntime) -> Result<(), Fail> {
     let table: [(&[u8], &[u8], Status, &[u8], &[u8]); 5] = [
         (SOURCE, INPUT, Status::Ok, OUTPUT, b""),
         (SOURCE, b"", Status::Ok, b"", b""),
-        (CHAIN, INPUT, Status::Ok, b"{b=1, <t>=7}\n{<t>=7}\n", b""),
+        (
+            CHAIN,
+            b"{a=1, <t>=7}",
+            Status::Ok,
+            b"{b=1, <t>=7}\n{<t>=7}\n",
+            b"",
+        ),
         (SOURCE, b"{c=1}", Status::NotBuilt, b"", b"not built\n"),
         (b"net main", INPUT, Status::NotBuilt, b"", b"not built\n"),
     ];
