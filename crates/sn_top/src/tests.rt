@@ -2,7 +2,7 @@ ghost use Rattle.std.specs.Prelude.{IfOk, ◌<◌};
 ghost use Rattle.sn_top.specs.Words.{IsInRange};
 
 use crate::words::{DEFAULT_DEPTH, DEFAULT_FUEL};
-use crate::{Command, Status, serve_plain, serve_words};
+use crate::{Command, INPUT_LIMIT, Status, serve_plain, serve_words};
 use sn_io::{MemFiles, MemSink, OpenGate};
 use sn_list::{Memory, Seq};
 use std::alloc::Global;
@@ -100,6 +100,17 @@ fn failed_reads_and_writes_are_told(rt: HostRuntime) -> Result<(), Fail> {
     out.fail_at(4)?;
     let served = serve(alloc, files(alloc, SOURCE, INPUT)?, out)?;
     assert!(rt; served.is(Status::Write, b"{b=", b"write\n"));
+    Ok(())
+}
+
+#[test]
+fn missing_and_large_files_are_told(rt: HostRuntime) -> Result<(), Fail> {
+    let alloc = rt.alloc();
+    let served = serve(alloc, MemFiles::new(alloc), sink(alloc, 1)?)?;
+    assert!(rt; served.is(Status::Read, b"", b"read: s\n"));
+    let large = vec![in alloc; b' '; INPUT_LIMIT as usize + 1]?;
+    let served = serve(alloc, files(alloc, SOURCE, &large)?, sink(alloc, 1)?)?;
+    assert!(rt; served.is(Status::TooLarge, b"", b"too large: i\n"));
     Ok(())
 }
 
