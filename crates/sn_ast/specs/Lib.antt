@@ -1,0 +1,10 @@
+pub mod BoxExprs
+pub mod Declarations
+pub mod Kept
+pub mod Labels
+pub mod Measures
+pub mod Networks
+pub mod Operators
+pub mod Rows
+pub mod TagExprs
+pub mod Terminals

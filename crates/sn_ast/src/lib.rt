@@ -1,0 +1,22 @@
+//! The syntax trees of a source, with places, and the grammar that says which tokens spell them.
+//!
+//! A place is an offset in bytes from the start of the source.
+#![tactic(auto)]
+
+mod declaration;
+mod label;
+pub mod measure;
+mod network;
+mod box_expr;
+mod tag_expr;
+mod terminal;
+
+pub use box_expr::{BExpr, BForm};
+pub use declaration::{BoxDecl, Decl, FunDecl, NetDecl, Program};
+pub use label::{Ident, LabelAt, Sig, Tuple, TypePart, Variant};
+pub use measure::{Kept, Measured};
+pub use network::{ItemAt, ItemSource, NetExpr, NetForm, TemplateAt};
+pub use sn_list::{Boxed, Seq};
+pub use sn_record::Text;
+pub use tag_expr::{Operator, TExpr, TForm};
+pub use terminal::{Bracket, Infix, Keyword, Sign, Symbol, Terminal};

@@ -1,0 +1,66 @@
+use crate::label::{Ident, LabelAt, Variant};
+use crate::tag_expr::TExpr;
+use sn_list::{Boxed, Seq};
+
+/// A network. Its place is that of the name where it is one, of its opening bracket, of its first `..` or choice
+/// operator, or of the operator of a star or split.
+#[cycle(network)]
+#[derive(PartialEq, Eq, Debug, Drop)]
+pub struct NetExpr {
+    pub at: u32,
+    pub form: NetForm,
+}
+
+#[cycle(network)]
+#[derive(PartialEq, Eq, Debug, Drop)]
+pub enum NetForm {
+    Name(Ident),
+    Identity,
+    Filter {
+        pattern: Variant,
+        templates: Seq<TemplateAt>,
+    },
+    Sync {
+        patterns: Seq<Variant>,
+    },
+    Serial {
+        parts: Seq<NetExpr>,
+    },
+    Choice {
+        det: bool,
+        branches: Seq<NetExpr>,
+    },
+    Star {
+        det: bool,
+        body: Boxed<NetExpr>,
+        exit: Variant,
+        guard: Option<TExpr>,
+    },
+    Split {
+        det: bool,
+        body: Boxed<NetExpr>,
+        tag: Ident,
+    },
+}
+
+/// What a filter emits, and the place of its `{`.
+#[derive(PartialEq, Eq, Debug, Drop)]
+pub struct TemplateAt {
+    pub items: Seq<ItemAt>,
+    pub at: u32,
+}
+
+/// A label of a template, and where its value comes from.
+#[derive(PartialEq, Eq, Debug, Drop)]
+pub struct ItemAt {
+    pub target: LabelAt,
+    pub source: ItemSource,
+}
+
+#[derive(PartialEq, Eq, Debug, Drop)]
+pub enum ItemSource {
+    /// The label of the same name.
+    Same,
+    Field(Ident),
+    Expr(TExpr),
+}

@@ -1,0 +1,157 @@
+ghost use Rattle.std.specs.Prelude.{◌≡◌};
+ghost use Rattle.sn_ast.specs.Terminals.{closing, infix_of, place_of, sign_of};
+
+use crate::label::Ident;
+use crate::tag_expr::Operator;
+use sn_record::Text;
+
+#[derive(Clone, Copy, PartialEq, Eq, Debug)]
+pub enum Keyword {
+    Box,
+    Net,
+    Connect,
+    Type,
+    TypeSig,
+    If,
+    Then,
+    Else,
+    Let,
+    In,
+    Out,
+    Fun,
+}
+
+#[derive(Clone, Copy, PartialEq, Eq, Debug)]
+pub enum Symbol {
+    OpenParen,
+    CloseParen,
+    OpenBrace,
+    CloseBrace,
+    OpenBracket,
+    CloseBracket,
+    OpenSync,
+    CloseSync,
+    Comma,
+    Semicolon,
+    Colon,
+    Assign,
+    Equal,
+    NotEqual,
+    Less,
+    LessEqual,
+    Greater,
+    GreaterEqual,
+    Plus,
+    Minus,
+    Star,
+    Slash,
+    Percent,
+    AndAnd,
+    BarBar,
+    Bar,
+    Bang,
+    BangBang,
+    StarStar,
+    Dots,
+    Arrow,
+    Question,
+}
+
+/// The brackets that labels and arguments stand in.
+#[derive(Clone, Copy, PartialEq, Eq, Debug)]
+pub enum Bracket {
+    Paren,
+    Brace,
+    Square,
+}
+
+/// What stands between two operands, from the tightest to the loosest.
+#[derive(Clone, Copy, PartialEq, Eq, Debug)]
+pub enum Infix {
+    Product(Operator),
+    Sum(Operator),
+    Comparison(Operator),
+    Conjunction,
+    Disjunction,
+}
+
+/// What stands before an operand.
+#[derive(Clone, Copy, PartialEq, Eq, Debug)]
+pub enum Sign {
+    Minus,
+    Not,
+}
+
+impl Bracket {
+    /// The symbol that closes it.
+    pub fn closing(self) -> Symbol
+        ensures { result ≡ closing self }
+    {
+        match self {
+            Bracket::Paren => Symbol::CloseParen,
+            Bracket::Brace => Symbol::CloseBrace,
+            Bracket::Square => Symbol::CloseBracket,
+        }
+    }
+}
+
+impl Symbol {
+    /// What the symbol is between two operands, if it is an operator.
+    pub fn infix(self) -> Option<Infix>
+        ensures { result ≡ infix_of self }
+    {
+        match self {
+            Symbol::Star => Some(Infix::Product(Operator::Mul)),
+            Symbol::Slash => Some(Infix::Product(Operator::Div)),
+            Symbol::Percent => Some(Infix::Product(Operator::Rem)),
+            Symbol::Plus => Some(Infix::Sum(Operator::Add)),
+            Symbol::Minus => Some(Infix::Sum(Operator::Sub)),
+            Symbol::Less => Some(Infix::Comparison(Operator::Lt)),
+            Symbol::LessEqual => Some(Infix::Comparison(Operator::Le)),
+            Symbol::Greater => Some(Infix::Comparison(Operator::Gt)),
+            Symbol::GreaterEqual => Some(Infix::Comparison(Operator::Ge)),
+            Symbol::Equal => Some(Infix::Comparison(Operator::Eq)),
+            Symbol::NotEqual => Some(Infix::Comparison(Operator::Ne)),
+            Symbol::AndAnd => Some(Infix::Conjunction),
+            Symbol::BarBar => Some(Infix::Disjunction),
+            _ => None,
+        }
+    }
+
+    /// What the symbol is before an operand, if it is a sign.
+    pub fn sign(self) -> Option<Sign>
+        ensures { result ≡ sign_of self }
+    {
+        match self {
+            Symbol::Minus => Some(Sign::Minus),
+            Symbol::Bang => Some(Sign::Not),
+            _ => None,
+        }
+    }
+}
+
+/// A token as the grammar sees it: with what it says, and its place.
+#[derive(PartialEq, Eq, Debug, Drop)]
+pub enum Terminal {
+    Name(Ident),
+    Tag(Ident),
+    Number { value: i64, at: u32 },
+    Literal { text: Text, at: u32 },
+    Keyword { keyword: Keyword, at: u32 },
+    Symbol { symbol: Symbol, at: u32 },
+}
+
+impl Terminal {
+    pub fn place(&self) -> u32
+        ensures { result ≡ place_of self.now }
+    {
+        match self {
+            Terminal::Name(name) => name.at,
+            Terminal::Tag(name) => name.at,
+            Terminal::Number { at, .. } => *at,
+            Terminal::Literal { at, .. } => *at,
+            Terminal::Keyword { at, .. } => *at,
+            Terminal::Symbol { at, .. } => *at,
+        }
+    }
+}
