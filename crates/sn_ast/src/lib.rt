@@ -5,6 +5,7 @@
 
 mod declaration;
 mod label;
+pub mod laws;
 pub mod measure;
 mod network;
 mod box_expr;
