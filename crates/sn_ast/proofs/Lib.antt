@@ -1,4 +1,5 @@
 pub mod Keeping
 pub mod Maps
 pub mod TransferBoxes
+pub mod TransferNetworks
 pub mod TransferTags

@@ -1,6 +1,7 @@
--- A map from what one way of putting parts together makes to what another makes, and what it makes of nodes.
-use Rattle.std.proofs.Common.{◌≡◌, refl, ◌∙◌, ap}
+-- A map from what one way of putting parts together makes to what another makes, and what it makes of rows and nodes.
+use Rattle.std.proofs.Common.{List, ◌≡◌, refl, ◌∙◌, ap}
 use Rattle.sn_ast.specs.Measures.{Measuring}
+use Rattle.sn_ast.specs.Rows.{append, with_part}
 
 pub record Map {F G : Type 0 → Type 0} (m : Measuring F) (n : Measuring G) : Type 1 where
   pub map : {A : Type 0} → F A → G A
@@ -18,6 +19,10 @@ module _ {F G : Type 0 → Type 0} (m : Measuring F) (n : Measuring G) (h : Map 
   pub join_of : {A B C : Type 0} {p : F A} {q : F B} {x : G A} {y : G B} (f : A → B → C) → h.map p ≡ x → h.map q ≡ y →
       h.map (m.join f p q) ≡ n.join f x y
   join_of f d e = h.of_join f _ _ ∙ rw (d, e) refl
+
+  pub row_of : {A : Type 0} {p : F (List A)} {e : F A} {x : G (List A)} {y : G A} → h.map p ≡ x → h.map e ≡ y →
+      h.map (with_part m p e) ≡ with_part n x y
+  row_of s t = join_of append s t
 
   pub parens_of : {A : Type 0} {p : F A} {x : G A} → h.map p ≡ x → h.map (m.parens p) ≡ n.parens x
   parens_of e = h.of_parens _ ∙ ap n.parens e

@@ -1,12 +1,12 @@
 -- A map of parts carries the grammar of expressions in a box both ways.
 use Rattle.std.proofs.Common.{ℕ, List, [], ◌∷◌, ◌≡◌, Option, Some, None, refl, ◌∙◌, ap}
-use Rattle.sn_ast.proofs.Maps.{Map, each_of, join_of, pair_of, node_of, parens_of, triple_of}
+use Rattle.sn_ast.proofs.Maps.{Map, row_of, pair_of, node_of, parens_of, triple_of}
 use Rattle.sn_ast.specs.BoxExprs.{Head, applied, bound, conditional, with_binding, with_condition, with_arguments, with_step, sequence_of}
 use Rattle.sn_ast.specs.BoxExprs.{BoxExpr, bind, choose, plain, Disjunction, disjunction, Disjunctions, no_or, or, Conjunction, conjunction, Conjunctions, no_and, and, Comparison, no_compare, compare, Sum, sum, Sums, no_sum, add, Product, product, Products, no_product, multiply, Operand, sign, number, literal, tag, name, call, list, out, parens, Arguments, no_arguments, arguments, MoreArguments, last_argument, more_arguments, Sequence, sequence, Steps, last_step, more_steps}
 use Rattle.sn_ast.specs.BoxExprs.Head.{Function, Variant, Elements}
 use Rattle.sn_ast.specs.Measures.{Measuring}
 use Rattle.sn_ast.specs.Operators.{box_operations, with_sign, with_operator, with_and, with_or}
-use Rattle.sn_ast.specs.Rows.{append, no_parts, with_part}
+use Rattle.sn_ast.specs.Rows.{no_parts, with_part}
 use Rattle.sn_ast.specs.Terminals.{place_of}
 use Rattle.sn_ast.specs.declared.box_expr.BExpr.{BExpr}
 use Rattle.sn_ast.specs.declared.box_expr.BForm.TheVariants as box_form
@@ -19,18 +19,14 @@ module _ {F G : Type 0 → Type 0} (m : Measuring F) (n : Measuring G) (h : Map 
   steps_map None = None
   steps_map (Some p) = Some (h.map p)
 
-  row_of : {p : F (List BExpr)} {e : F BExpr} {x : G (List BExpr)} {y : G BExpr} → h.map p ≡ x → h.map e ≡ y →
-      h.map (with_part m p e) ≡ with_part n x y
-  row_of s t = join_of m n h append s t
-
   of_sequence : (at : ℕ) (o : Option (F (List BExpr))) (e : F BExpr) →
       h.map (sequence_of m at o e) ≡ sequence_of n at (steps_map o) (h.map e)
   of_sequence at None e = refl
-  of_sequence at (Some p) e = node_of m n h (λ es. record { at = at; form = box_form.Seq es }) (row_of refl refl)
+  of_sequence at (Some p) e = node_of m n h (λ es. record { at = at; form = box_form.Seq es }) (row_of m n h refl refl)
 
   of_step : (o : Option (F (List BExpr))) (e : F BExpr) → steps_map (with_step m o e) ≡ with_step n (steps_map o) (h.map e)
-  of_step None e = ap Some (row_of (h.of_leaf []) refl)
-  of_step (Some p) e = ap Some (row_of refl refl)
+  of_step None e = ap Some (row_of m n h (h.of_leaf []) refl)
+  of_step (Some p) e = ap Some (row_of m n h refl refl)
 
   mutual
     pub to_box_expr : {e : F BExpr} {ts us : List Terminal} → BoxExpr m ts e us → BoxExpr n ts (h.map e) us
@@ -178,7 +174,7 @@ module _ {F G : Type 0 → Type 0} (m : Measuring F) (n : Measuring G) (h : Map 
     from_arguments (no_arguments i) = (no_parts m, no_arguments i, h.of_leaf [])
     from_arguments (arguments a d) =
         let p = from_box_expr a in
-        let r = from_more_arguments d (with_part m (no_parts m) p.0) (row_of (h.of_leaf []) p.2) in
+        let r = from_more_arguments d (with_part m (no_parts m) p.0) (row_of m n h (h.of_leaf []) p.2) in
         (r.0, arguments p.1 r.1, r.2)
 
     from_more_arguments : {b : Bracket} {x y : G (List BExpr)} {ts us : List Terminal} → MoreArguments n b x ts y us →
@@ -186,7 +182,7 @@ module _ {F G : Type 0 → Type 0} (m : Measuring F) (n : Measuring G) (h : Map 
     from_more_arguments (last_argument i) so_far s = (so_far, last_argument i, s)
     from_more_arguments (more_arguments a d) so_far s =
         let p = from_box_expr a in
-        let r = from_more_arguments d (with_part m so_far p.0) (row_of s p.2) in
+        let r = from_more_arguments d (with_part m so_far p.0) (row_of m n h s p.2) in
         (r.0, more_arguments p.1 r.1, r.2)
 
     pub from_sequence : {y : G BExpr} {ts us : List Terminal} → Sequence n ts y us → (e : F BExpr) × Sequence m ts e us × (h.map e ≡ y)
