@@ -1,8 +1,8 @@
 -- What is kept of a measured part is put together as the part is.
-use Rattle.std.proofs.Common.{ℕ, ◌+◌, ◌≤◌, Bool, true, false, ◌≡◌, Option, Some, None, ◌&&◌, max, nat_le, nat_lt, if◌then◌else◌, refl, sym, ◌∙◌, ap, arith}
+use Rattle.std.proofs.Common.{◌≡◌, Some, None, refl, arith}
 use Rattle.std.proofs.lemmas.Bool.Decides.{nat_tests}
-use Rattle.sn_ast.specs.Kept.{Kept, keep, kept}
-use Rattle.sn_ast.specs.Measures.{Measuring, measured, IsWithin}
+use Rattle.sn_ast.specs.Kept.{keep, kept}
+use Rattle.sn_ast.specs.Measures.{measured, IsWithin}
 use Rattle.sn_ast.specs.declared.measure.Measured.{Measured}
 use Rattle.sn_ast.proofs.Maps.{Map}
 

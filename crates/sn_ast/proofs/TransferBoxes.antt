@@ -1,13 +1,12 @@
 -- A map of parts carries the grammar of expressions in a box both ways.
-use Rattle.std.proofs.Common.{ℕ, List, [], ◌∷◌, ◌≡◌, Option, Some, None, refl, ◌∙◌, ap}
+use Rattle.std.proofs.Common.{ℕ, List, [], ◌≡◌, Option, Some, None, refl, ◌∙◌, ap}
 use Rattle.sn_ast.proofs.Maps.{Map, row_of, pair_of, node_of, parens_of, triple_of}
-use Rattle.sn_ast.specs.BoxExprs.{Head, applied, bound, conditional, with_binding, with_condition, with_arguments, with_step, sequence_of}
+use Rattle.sn_ast.specs.BoxExprs.{applied, bound, conditional, with_binding, with_condition, with_arguments, with_step, sequence_of}
 use Rattle.sn_ast.specs.BoxExprs.{BoxExpr, bind, choose, plain, Disjunction, disjunction, Disjunctions, no_or, or, Conjunction, conjunction, Conjunctions, no_and, and, Comparison, no_compare, compare, Sum, sum, Sums, no_sum, add, Product, product, Products, no_product, multiply, Operand, sign, number, literal, tag, name, call, list, out, parens, Arguments, no_arguments, arguments, MoreArguments, last_argument, more_arguments, Sequence, sequence, Steps, last_step, more_steps}
 use Rattle.sn_ast.specs.BoxExprs.Head.{Function, Variant, Elements}
 use Rattle.sn_ast.specs.Measures.{Measuring}
 use Rattle.sn_ast.specs.Operators.{box_operations, with_sign, with_operator, with_and, with_or}
 use Rattle.sn_ast.specs.Rows.{no_parts, with_part}
-use Rattle.sn_ast.specs.Terminals.{place_of}
 use Rattle.sn_ast.specs.declared.box_expr.BExpr.{BExpr}
 use Rattle.sn_ast.specs.declared.box_expr.BForm.TheVariants as box_form
 use Rattle.sn_ast.specs.declared.terminal.Bracket.{Bracket}

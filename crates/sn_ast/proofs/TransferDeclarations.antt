@@ -1,5 +1,5 @@
 -- A map of parts carries the grammar of declarations both ways.
-use Rattle.std.proofs.Common.{ℕ, List, [], ◌∷◌, ◌++◌, ◌≡◌, map, Option, refl, ◌∙◌, ap}
+use Rattle.std.proofs.Common.{ℕ, List, [], ◌≡◌, map, refl, ◌∙◌}
 use Rattle.std.proofs.lemmas.List.{map_push}
 use Rattle.sn_ast.proofs.Maps.{Map, each_of, row_of, pair_of}
 use Rattle.sn_ast.proofs.TransferBoxes.{to_box_expr, from_box_expr, to_sequence, from_sequence}

@@ -1,5 +1,5 @@
 -- A map of parts carries the grammar of networks both ways.
-use Rattle.std.proofs.Common.{ℕ, Bool, List, [], ◌∷◌, ◌≡◌, Option, Some, None, refl, ◌∙◌, ap}
+use Rattle.std.proofs.Common.{ℕ, Bool, List, [], ◌≡◌, Option, Some, None, refl, ◌∙◌, ap}
 use Rattle.sn_ast.proofs.Maps.{Map, each_of, row_of, pair_of, node_of, parens_of}
 use Rattle.sn_ast.proofs.TransferTags.{to_tag_expr, from_tag_expr}
 use Rattle.sn_ast.specs.Measures.{Measuring}

@@ -1,5 +1,5 @@
 -- A map of parts carries the grammar of expressions over tags both ways.
-use Rattle.std.proofs.Common.{ℕ, List, [], ◌∷◌, ◌≡◌, refl}
+use Rattle.std.proofs.Common.{List, ◌≡◌}
 use Rattle.sn_ast.proofs.Maps.{Map, pair_of, node_of, parens_of, triple_of}
 use Rattle.sn_ast.specs.Measures.{Measuring}
 use Rattle.sn_ast.specs.Operators.{tag_operations, with_sign, with_operator, with_and, with_or}
