@@ -1,8 +1,8 @@
 ghost use Rattle.std.specs.Prelude.{◌≡◌, ℕ, MatchOption};
+ghost use Rattle.sn_ast.specs.Terminals.{closing, infix_of, label_of, link_of, place_of, sign_of};
 ghost use Rattle.sn_ast.specs.declared.terminal.Terminal.TheVariants as some_terminal;
-ghost use Rattle.sn_ast.specs.Terminals.{closing, infix_of, link_of, place_of, sign_of};
 
-use crate::label::Ident;
+use crate::label::{Ident, LabelAt};
 use crate::tag_expr::Operator;
 use sn_record::Text;
 
@@ -207,6 +207,17 @@ impl Terminal {
             Terminal::Literal { at, .. } => *at,
             Terminal::Keyword { at, .. } => *at,
             Terminal::Symbol { at, .. } => *at,
+        }
+    }
+
+    /// The label that the token is, if it is a name or a tag.
+    pub fn into_label(self) -> Option<LabelAt>
+        ensures { result ≡ label_of self }
+    {
+        match self {
+            Terminal::Name(name) => Some(LabelAt { tag: false, name }),
+            Terminal::Tag(name) => Some(LabelAt { tag: true, name }),
+            _ => None,
         }
     }
 }
