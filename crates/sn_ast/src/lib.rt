@@ -19,4 +19,4 @@ pub use network::{ItemAt, ItemSource, NetExpr, NetForm, TemplateAt};
 pub use sn_list::{Boxed, Seq};
 pub use sn_record::Text;
 pub use tag_expr::{Operator, TExpr, TForm};
-pub use terminal::{Bracket, Infix, Keyword, Sign, Symbol, Terminal};
+pub use terminal::{Bracket, Infix, Keyword, Link, Sign, Symbol, Terminal};

@@ -1,5 +1,5 @@
 ghost use Rattle.std.specs.Prelude.{◌≡◌};
-ghost use Rattle.sn_ast.specs.Terminals.{closing, infix_of, place_of, sign_of};
+ghost use Rattle.sn_ast.specs.Terminals.{closing, infix_of, link_of, place_of, sign_of};
 
 use crate::label::Ident;
 use crate::tag_expr::Operator;
@@ -82,6 +82,15 @@ pub enum Sign {
     Not,
 }
 
+/// What stands between the branches of a choice, or after a part of a network that is repeated. `det` tells the
+/// deterministic form, which is written with the doubled symbol.
+#[derive(Clone, Copy, PartialEq, Eq, Debug)]
+pub enum Link {
+    Branch { det: bool },
+    Star { det: bool },
+    Split { det: bool },
+}
+
 impl Bracket {
     /// The symbol that closes it.
     pub fn closing(self) -> Symbol
@@ -114,6 +123,21 @@ impl Symbol {
             Symbol::NotEqual => Some(Infix::Comparison(Operator::Ne)),
             Symbol::AndAnd => Some(Infix::Conjunction),
             Symbol::BarBar => Some(Infix::Disjunction),
+            _ => None,
+        }
+    }
+
+    /// What the symbol is after a part of a network, if it chooses or repeats.
+    pub fn link(self) -> Option<Link>
+        ensures { result ≡ link_of self }
+    {
+        match self {
+            Symbol::BarBar => Some(Link::Branch { det: true }),
+            Symbol::Bar => Some(Link::Branch { det: false }),
+            Symbol::StarStar => Some(Link::Star { det: true }),
+            Symbol::Star => Some(Link::Star { det: false }),
+            Symbol::BangBang => Some(Link::Split { det: true }),
+            Symbol::Bang => Some(Link::Split { det: false }),
             _ => None,
         }
     }
