@@ -1,7 +1,11 @@
 ghost use Rattle.std.specs.Prelude.{◌≡◌};
+<<<<<<< HEAD
 ghost use Rattle.sn_ast.specs.Terminals.{closing, infix_of, link_of, place_of, sign_of};
+=======
+ghost use Rattle.sn_ast.specs.Terminals.{closing, infix_of, label_of, place_of, sign_of};
+>>>>>>> a578a7039ea70420d95898749e17f41af3c54053
 
-use crate::label::Ident;
+use crate::label::{Ident, LabelAt};
 use crate::tag_expr::Operator;
 use sn_record::Text;
 
@@ -176,6 +180,17 @@ impl Terminal {
             Terminal::Literal { at, .. } => *at,
             Terminal::Keyword { at, .. } => *at,
             Terminal::Symbol { at, .. } => *at,
+        }
+    }
+
+    /// The label that the token is, if it is a name or a tag.
+    pub fn into_label(self) -> Option<LabelAt>
+        ensures { result ≡ label_of self }
+    {
+        match self {
+            Terminal::Name(name) => Some(LabelAt { tag: false, name }),
+            Terminal::Tag(name) => Some(LabelAt { tag: true, name }),
+            _ => None,
         }
     }
 }

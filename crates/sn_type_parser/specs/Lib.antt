@@ -1,0 +1,2 @@
+pub mod LabelResidual
+pub mod Reads
