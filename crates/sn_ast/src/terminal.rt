@@ -1,9 +1,5 @@
 ghost use Rattle.std.specs.Prelude.{◌≡◌};
-<<<<<<< HEAD
-ghost use Rattle.sn_ast.specs.Terminals.{closing, infix_of, link_of, place_of, sign_of};
-=======
-ghost use Rattle.sn_ast.specs.Terminals.{closing, infix_of, label_of, place_of, sign_of};
->>>>>>> a578a7039ea70420d95898749e17f41af3c54053
+ghost use Rattle.sn_ast.specs.Terminals.{closing, infix_of, label_of, link_of, place_of, sign_of};
 
 use crate::label::{Ident, LabelAt};
 use crate::tag_expr::Operator;
