@@ -1,8 +1,6 @@
 -- Where a token stands, and what it can be in the grammar.
-use Rattle.std.specs.Prelude.{ℕ, Bool, true, false, Option, Some, None}
-use Rattle.sn_ast.specs.declared.label.Ident.{Ident}
+use Rattle.std.specs.Prelude.{ℕ, true, false, Option, Some, None}
 use Rattle.sn_ast.specs.declared.label.LabelAt.{LabelAt}
-use Rattle.sn_ast.specs.declared.tag_expr.Operator.{Operator}
 use Rattle.sn_ast.specs.declared.tag_expr.Operator.TheVariants.{Add, Sub, Mul, Div, Rem, Lt, Le, Gt, Ge, Eq, Ne}
 use Rattle.sn_ast.specs.declared.terminal.Bracket.{Bracket}
 use Rattle.sn_ast.specs.declared.terminal.Bracket.TheVariants.{Paren, Brace, Square}

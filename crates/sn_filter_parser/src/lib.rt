@@ -1,0 +1,6 @@
+//! Stub.
+#![tactic(auto)]
+
+mod filter;
+
+pub use filter::{FilterParser, FilterStep, FilterStop};
