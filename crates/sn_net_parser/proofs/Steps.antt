@@ -1,5 +1,5 @@
 -- One token at a time: what completes the state before it begins with it, and goes on as what completes the state after it.
-use Rattle.std.proofs.Common.{ℕ, Bool, List, [], ◌∷◌, ◌++◌, ◌≡◌, ◌↔◌, Option, Some, None, refl, subst}
+use Rattle.std.proofs.Common.{ℕ, Bool, List, [], ◌∷◌, ◌++◌, ◌≡◌, ◌↔◌, Option, Some, None, refl, sym, ◌∙◌, subst}
 use Rattle.sn_ast.specs.Kept.{Kept, kept}
 use Rattle.sn_ast.specs.Labels.{Labels, IsVariant, variant}
 use Rattle.sn_ast.specs.Networks.{Atom, Filter, filter, MorePatterns, Patterns, Post, Posts, Serial, MoreSerial, Network, MoreBranches, GoesOn, name, identity, filtered, sync, parens, patterns, last_pattern, more_patterns, post, bare, star, guarded_star, split, serial, last, dots, network, final, branch, sync_at, with_guarded_star, with_split, with_star}
@@ -16,7 +16,7 @@ use Rattle.sn_ast.specs.declared.terminal.Symbol.TheVariants.{OpenParen, ClosePa
 use Rattle.sn_ast.specs.declared.terminal.Terminal.{Terminal}
 use Rattle.sn_ast.specs.declared.terminal.Terminal.TheVariants.{Name, Tag, Keyword, Symbol}
 use Rattle.sn_net_parser.specs.Levels.{after_bar, after_dots, finished, fresh, identity_node, name_node}
-use Rattle.sn_net_parser.specs.Residual.{Up, Down, Next, AfterBracket, AfterPattern, NextPattern, NextGuard, AfterExit, NextExit, NextTag, Read, read, ends, whole, closed, down, next, closed_bracket, some_filter, after_pattern, next_pattern, next_guard, unguarded, guarded, next_exit, next_tag}
+use Rattle.sn_net_parser.specs.Residual.{Up, Down, Next, AfterBracket, AfterPattern, NextPattern, NextGuard, AfterExit, NextExit, NextTag, Read, read, Ends, semicolon, whole, closed, down, next, closed_bracket, some_filter, after_pattern, next_pattern, next_guard, unguarded, guarded, next_exit, next_tag}
 use Rattle.sn_net_parser.specs.declared.level.Level.{Level}
 use Rattle.sn_net_parser.specs.declared.machine.Repeated.{Repeated}
 
@@ -71,22 +71,23 @@ dots_from (down bare last final u) = elim u [ ]
 dots_from (down bare last (branch e g q o) u) = absurd cc
 dots_from (down (star e v ps) m o u) = absurd cc
 dots_from (down (guarded_star e v g ps) m o u) = absurd cc
+dots_from (down (split e ps) m o u) = absurd cc
 
 pub dots_to : {ls : List Level} {l : Level} {w : List Terminal} {t : Read} {p : Kept NetExpr} {at : ℕ} → Next ls (after_dots l at p) w t → Down ls l p (Symbol Dots at ∷ w) t
 dots_to (next a (down ps m o u)) = down bare (dots (post a ps) m) o u
 
-same_branch : {s : SomeSymbol} {d e : Bool} → link_of s ≡ Some (BranchLink d) → link_of s ≡ Some (BranchLink e) → d ≡ e
-same_branch p q = cc
+same_branch : (s : SomeSymbol) {d e : Bool} → link_of s ≡ Some (BranchLink d) → link_of s ≡ Some (BranchLink e) → d ≡ e
+same_branch s {d} {e} p q = let r : Some (BranchLink d) ≡ Some (BranchLink e) = sym p ∙ q in cc
 
-same_star : {s : SomeSymbol} {d e : Bool} → link_of s ≡ Some (StarLink d) → link_of s ≡ Some (StarLink e) → d ≡ e
-same_star p q = cc
+same_star : (s : SomeSymbol) {d e : Bool} → link_of s ≡ Some (StarLink d) → link_of s ≡ Some (StarLink e) → d ≡ e
+same_star s {d} {e} p q = let r : Some (StarLink d) ≡ Some (StarLink e) = sym p ∙ q in cc
 
-same_split : {s : SomeSymbol} {d e : Bool} → link_of s ≡ Some (SplitLink d) → link_of s ≡ Some (SplitLink e) → d ≡ e
-same_split p q = cc
+same_split : (s : SomeSymbol) {d e : Bool} → link_of s ≡ Some (SplitLink d) → link_of s ≡ Some (SplitLink e) → d ≡ e
+same_split s {d} {e} p q = let r : Some (SplitLink d) ≡ Some (SplitLink e) = sym p ∙ q in cc
 
 pub branch_from : {ls : List Level} {l : Level} {w : List Terminal} {t : Read} {p : Kept NetExpr} {at : ℕ} {s : SomeSymbol} {det : Bool} →
     link_of s ≡ Some (BranchLink det) → Down ls l p (Symbol s at ∷ w) t → GoesOn l.choice det × Next ls (after_bar l det at p) w t
-branch_from i (down bare last (branch e g (serial (post a ps) m) o) u) = rw (same_branch i e) (g, next a (down ps m o u))
+branch_from {s} i (down bare last (branch e g (serial (post a ps) m) o) u) = rw (same_branch s i e) (g, next a (down ps m o u))
 branch_from i (down bare last final whole) = absurd cc
 branch_from i (down bare last final (closed d)) = absurd cc
 branch_from i (down bare (dots q m) o u) = absurd cc
@@ -103,8 +104,8 @@ repeated det at p = record { det = det; at = at; body = p }
 
 pub star_from : {ls : List Level} {l : Level} {w : List Terminal} {t : Read} {p : Kept NetExpr} {at : ℕ} {s : SomeSymbol} {det : Bool} →
     link_of s ≡ Some (StarLink det) → Down ls l p (Symbol s at ∷ w) t → NextExit ls l (repeated det at p) w t
-star_from i (down (star e v ps) m o u) = rw (same_star i e) (next_exit v (unguarded (down ps m o u)))
-star_from i (down (guarded_star e v g ps) m o u) = rw (same_star i e) (next_exit v (guarded (next_guard g (down ps m o u))))
+star_from {s} i (down (star e v ps) m o u) = rw (same_star s i e) (next_exit v (unguarded (down ps m o u)))
+star_from {s} i (down (guarded_star e v g ps) m o u) = rw (same_star s i e) (next_exit v (guarded (next_guard g (down ps m o u))))
 star_from i (down (split e ps) m o u) = absurd cc
 star_from i (down bare last (branch e g q o) u) = absurd cc
 star_from i (down bare last final whole) = absurd cc
@@ -118,7 +119,7 @@ star_to i (next_exit v (guarded (next_guard g (down ps m o u)))) = down (guarded
 
 pub split_from : {ls : List Level} {l : Level} {w : List Terminal} {t : Read} {p : Kept NetExpr} {at : ℕ} {s : SomeSymbol} {det : Bool} →
     link_of s ≡ Some (SplitLink det) → Down ls l p (Symbol s at ∷ w) t → NextTag ls l (repeated det at p) w t
-split_from i (down (split e ps) m o u) = rw (same_split i e) (next_tag (down ps m o u))
+split_from {s} i (down (split e ps) m o u) = rw (same_split s i e) (next_tag (down ps m o u))
 split_from i (down (star e v ps) m o u) = absurd cc
 split_from i (down (guarded_star e v g ps) m o u) = absurd cc
 split_from i (down bare last (branch e g q o) u) = absurd cc
@@ -157,6 +158,7 @@ close_from (down bare last final (closed d)) = d
 close_from (down bare last (branch e g q o) u) = absurd cc
 close_from (down (star e v ps) m o u) = absurd cc
 close_from (down (guarded_star e v g ps) m o u) = absurd cc
+close_from (down (split e ps) m o u) = absurd cc
 
 pub close_to : {ls : List Level} {k l : Level} {w : List Terminal} {p : Kept NetExpr} {t : Read} {at : ℕ} → Down ls k (kept.parens (finished l p)) w t → Down (k ∷ ls) l p (Symbol CloseParen at ∷ w) t
 close_to d = down bare last final (closed d)
@@ -166,15 +168,16 @@ end_from (down bare last final whole) = refl
 end_from (down bare last (branch e g q o) u) = absurd cc
 end_from (down (star e v ps) m o u) = absurd cc
 end_from (down (guarded_star e v g ps) m o u) = absurd cc
+end_from (down (split e ps) m o u) = absurd cc
 
 pub end_to : {l : Level} {w : List Terminal} {p : Kept NetExpr} {t : Read} {at : ℕ} → read (finished l p) (Symbol Semicolon at ∷ w) ≡ t → Down [] l p (Symbol Semicolon at ∷ w) t
 end_to {l} {w} {p} {t} {at} e = let P : Read → Type 0 = λ x. Down [] l p (Symbol Semicolon at ∷ w) x in subst P e (down bare last final whole)
 
-pub start_from : {w us : List Terminal} {n : Kept NetExpr} → Network kept w n us → ends us → Next [] fresh w (read n us)
-start_from {us = Symbol Semicolon at ∷ us} (network (serial (post a ps) m) o) k = next a (down ps m o whole)
+pub start_from : {w us : List Terminal} {n : Kept NetExpr} → Network kept w n us → Ends us → Next [] fresh w (read n us)
+start_from (network (serial (post a ps) m) o) semicolon = next a (down ps m o whole)
 
-pub start_to : {w : List Terminal} {t : Read} → Next [] fresh w t → Network kept w t.network t.rest × ends t.rest
-start_to (next a (down ps m o whole)) = (network (serial (post a ps) m) o, tt)
+pub start_to : {w : List Terminal} {t : Read} → Next [] fresh w t → Network kept w t.network t.rest × Ends t.rest
+start_to (next a (down ps m o whole)) = (network (serial (post a ps) m) o, semicolon)
 
 -- What may not come.
 pub no_next : {ls : List Level} {l : Level} {w : List Terminal} {t : Read} (x : Terminal) → ((i : Ident) → x ≡ Name i → ⊥) → ((s : SomeSymbol) (at : ℕ) → x ≡ Symbol s at → ⊥) →
@@ -217,12 +220,14 @@ no_outer (down bare last final u) = elim u [ ]
 no_outer (down bare last (branch e g q o) u) = absurd cc
 no_outer (down (star e v ps) m o u) = absurd cc
 no_outer (down (guarded_star e v g ps) m o u) = absurd cc
+no_outer (down (split e ps) m o u) = absurd cc
 
 pub no_inside : {ls : List Level} {k l : Level} {w : List Terminal} {p : Kept NetExpr} {t : Read} {at : ℕ} → Down (k ∷ ls) l p (Symbol Semicolon at ∷ w) t → ⊥
 no_inside (down bare last final u) = elim u [ ]
 no_inside (down bare last (branch e g q o) u) = absurd cc
 no_inside (down (star e v ps) m o u) = absurd cc
 no_inside (down (guarded_star e v g ps) m o u) = absurd cc
+no_inside (down (split e ps) m o u) = absurd cc
 
 pub no_pattern : {ls : List Level} {l : Level} {at : ℕ} {so_far : List Variant} {w : List Terminal} {t : Read} (x : Terminal) → ((o : ℕ) → x ≡ Symbol OpenBrace o → ⊥) →
     NextPattern ls l at so_far (x ∷ w) t → ⊥
@@ -239,12 +244,7 @@ no_guard x n (next_guard {at} g d) = n at refl
 pub no_tag : {ls : List Level} {l : Level} {r : Repeated} {w : List Terminal} {t : Read} (x : Terminal) → ((i : Ident) → x ≡ Tag i → ⊥) → NextTag ls l r (x ∷ w) t → ⊥
 no_tag x n (next_tag {tag = i} d) = n i refl
 
-pub no_after_pattern : {ls : List Level} {l : Level} {at : ℕ} {so_far : List Variant} {w : List Terminal} {t : Read} (x : Terminal) → ((s : SomeSymbol) (o : ℕ) → x ≡ Symbol s o → ⊥) →
-    AfterPattern ls l at so_far (x ∷ w) t → ⊥
-no_after_pattern x n (after_pattern (last_pattern {at = o}) d) = n CloseSync o refl
-no_after_pattern x n (after_pattern (more_patterns {at = o} v m) d) = n Comma o refl
-
-pub no_after_symbol : {ls : List Level} {l : Level} {at o : ℕ} {so_far : List Variant} {w : List Terminal} {t : Read} (s : SomeSymbol) → (s ≡ Comma → ⊥) → (s ≡ CloseSync → ⊥) →
-    AfterPattern ls l at so_far (Symbol s o ∷ w) t → ⊥
-no_after_symbol s n m (after_pattern last_pattern d) = m refl
-no_after_symbol s n m (after_pattern (more_patterns v k) d) = n refl
+pub no_after : {ls : List Level} {l : Level} {at : ℕ} {so_far : List Variant} {w : List Terminal} {t : Read} (x : Terminal) →
+    ((o : ℕ) → x ≡ Symbol Comma o → ⊥) → ((o : ℕ) → x ≡ Symbol CloseSync o → ⊥) → AfterPattern ls l at so_far (x ∷ w) t → ⊥
+no_after x n m (after_pattern (last_pattern {at = o}) d) = m o refl
+no_after x n m (after_pattern (more_patterns {at = o} v k) d) = n o refl

@@ -42,9 +42,8 @@ abbrev pub read : Kept NetExpr → List Terminal → Read
 read n us = record { network = n; rest = us }
 
 -- a network is followed by a semicolon
-abbrev pub ends : List Terminal → Type 0
-ends (Symbol Semicolon at ∷ us) = Unit {0}
-ends us = ⊥
+pub data Ends : List Terminal → Type 0 where
+  semicolon : {at : ℕ} {us : List Terminal} → Ends (Symbol Semicolon at ∷ us)
 
 abbrev pub variant_at : ℕ → List LabelAt → Variant
 variant_at at labels = record { labels = labels; at = at }
@@ -163,7 +162,7 @@ Steps s x r = StepsIn s.around s.mode x r
 
 -- the same after a guard, where the symbol s is to close it
 abbrev pub GuardSteps : Around → Repeated → Variant → Kept TExpr → SomeSymbol → Result NetParser NetStop → Type 0
-GuardSteps a star v g s (Ok next) = (s ≡ CloseParen) × ((w : List Terminal) (t : Read) → Down a.outer a.level (with_guarded_star kept star.det star.at star.body v g) w t ↔ Completes next w t)
+GuardSteps a star v g s (Ok state) = (s ≡ CloseParen) × ((w : List Terminal) (t : Read) → Down a.outer a.level (with_guarded_star kept star.det star.at star.body v g) w t ↔ Completes state w t)
 GuardSteps a star v g s (Err Memory) = Unit {0}
 GuardSteps a star v g s (Err Refused) = s ≡ CloseParen → ⊥
 GuardSteps a star v g s (Err (Ended n at)) = ⊥

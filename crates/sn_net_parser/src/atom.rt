@@ -1,4 +1,4 @@
-ghost use Rattle.std.specs.Prelude.{◌≡◌};
+ghost use Rattle.sn_ast.specs.declared.terminal.Symbol.TheVariants as some_symbol;
 ghost use Rattle.sn_net_parser.specs.Residual.{StepsIn};
 ghost use Rattle.sn_net_parser.specs.declared.machine.Mode.TheVariants as some_mode;
 ghost use Rattle.sn_ast.specs.declared.terminal.Terminal.TheVariants as some_token;
@@ -78,18 +78,15 @@ pub fn bracket(
 ) -> Result<NetParser, NetStop>
     ensures { StepsIn around (some_mode.Bracket at) token result }
 {
-    match token {
-        Terminal::Symbol {
-            symbol: Symbol::CloseBracket,
-            ..
-        } => Ok(NetParser {
+    if let Some(_) = token.symbol_at(Symbol::CloseBracket) {
+        return Ok(NetParser {
             around,
             mode: Mode::Have {
                 part: node::identity(at),
             },
-        }),
-        _ => in_filter(alloc, around, FilterParser::start(alloc, at), token),
+        });
     }
+    in_filter(alloc, around, FilterParser::start(alloc, at), token)
 }
 
 /// Takes a token of a filter.
@@ -124,20 +121,17 @@ pub fn pattern(
 ) -> Result<NetParser, NetStop>
     ensures { StepsIn around (some_mode.Pattern cell) token result }
 {
-    match token {
-        Terminal::Symbol {
-            symbol: Symbol::OpenBrace,
-            at,
-        } => Ok(NetParser {
-            around,
-            mode: Mode::InPattern {
-                cell,
-                opening: at,
-                labels: LabelParser::start(alloc, Bracket::Brace),
-            },
-        }),
-        _ => Err(NetStop::Refused),
-    }
+    let Some(opening) = token.symbol_at(Symbol::OpenBrace) else {
+        return Err(NetStop::Refused);
+    };
+    Ok(NetParser {
+        around,
+        mode: Mode::InPattern {
+            cell,
+            opening,
+            labels: LabelParser::start(alloc, Bracket::Brace),
+        },
+    })
 }
 
 /// Takes a token of a pattern, after its opening brace.
@@ -182,20 +176,20 @@ pub fn in_pattern(
 pub fn after_pattern(around: Around, cell: Cell, token: Terminal) -> Result<NetParser, NetStop>
     ensures { StepsIn around (some_mode.AfterPattern cell) token result }
 {
-    let Terminal::Symbol { symbol, .. } = token else {
-        return Err(NetStop::Refused);
-    };
-    match symbol {
-        Symbol::Comma => Ok(NetParser {
+    if let Some(_) = token.symbol_at(Symbol::Comma) {
+        return Ok(NetParser {
             around,
             mode: Mode::Pattern { cell },
-        }),
-        Symbol::CloseSync => Ok(NetParser {
-            around,
-            mode: Mode::Have {
-                part: node::sync(cell.at, cell.patterns),
-            },
-        }),
-        _ => Err(NetStop::Refused),
+        });
     }
+    let Some(_) = token.symbol_at(Symbol::CloseSync) else {
+        return Err(NetStop::Refused);
+    };
+    let Cell { at, patterns } = cell;
+    Ok(NetParser {
+        around,
+        mode: Mode::Have {
+            part: node::sync(at, patterns),
+        },
+    })
 }

@@ -4,9 +4,10 @@
 //! then what completes it after, so a token is refused exactly where no network goes on with it.
 #![tactic(auto)]
 
+mod atom;
 mod level;
-
+mod machine;
 mod node;
+mod post;
 
-pub use level::Level;
-
+pub use machine::{NetParser, NetStop};

@@ -3,7 +3,7 @@ ghost use Rattle.sn_ast.specs.Kept.{Kept as SomeKept, kept};
 ghost use Rattle.sn_ast.specs.Networks.{Network};
 ghost use Rattle.sn_ast.specs.declared.network.NetExpr.{NetExpr as SomeNet};
 ghost use Rattle.sn_ast.specs.declared.terminal.Terminal.{Terminal as SomeTerminal};
-ghost use Rattle.sn_net_parser.specs.Residual.{Completes, Read, Steps, ends, read};
+ghost use Rattle.sn_net_parser.specs.Residual.{Completes, Ends, Read, Steps, read};
 
 use crate::atom;
 use crate::level::Level;
@@ -16,7 +16,7 @@ use sn_type_parser::LabelParser;
 use std::alloc::Global;
 
 /// Why a network is not read on.
-#[derive(Debug, Drop)]
+#[derive(Drop)]
 pub enum NetStop {
     Memory,
     /// No network goes on with the token.
@@ -37,14 +37,14 @@ impl From<Memory> for NetStop {
 }
 
 /// The open levels of parentheses that a part stands in, and the innermost of them.
-#[derive(Debug, Drop)]
+#[derive(Drop)]
 pub struct Around {
     pub outer: Stack<Level>,
     pub level: Level,
 }
 
 /// A star or a split whose operator was read, and the network before it.
-#[derive(Debug, Drop)]
+#[derive(Drop)]
 pub struct Repeated {
     pub det: bool,
     pub at: u32,
@@ -52,14 +52,14 @@ pub struct Repeated {
 }
 
 /// The patterns of a synchrocell so far, and the place of its opening bracket.
-#[derive(Debug, Drop)]
+#[derive(Drop)]
 pub struct Cell {
     pub at: u32,
     pub patterns: Seq<Variant>,
 }
 
 /// What comes next.
-#[derive(Debug, Drop)]
+#[derive(Drop)]
 pub enum Mode {
     /// An atom.
     Want,
@@ -84,7 +84,7 @@ pub enum Mode {
 }
 
 /// A network that is being read.
-#[derive(Debug, Drop)]
+#[derive(Drop)]
 pub struct NetParser {
     pub around: Around,
     pub mode: Mode,
@@ -92,8 +92,8 @@ pub struct NetParser {
 
 impl NetParser {
     pub fn start(alloc: Global) -> NetParser
-        ensures from { (w us : List SomeTerminal) (n : SomeKept SomeNet) → Network kept w n us → ends us → Completes result w (read n us) }
-        ensures to { (w : List SomeTerminal) (t : Read) → Completes result w t → Network kept w t.network t.rest × ends t.rest }
+        ensures from { (w us : List SomeTerminal) (n : SomeKept SomeNet) → Network kept w n us → Ends us → Completes result w (read n us) }
+        ensures to { (w : List SomeTerminal) (t : Read) → Completes result w t → Network kept w t.network t.rest × Ends t.rest }
     {
         NetParser {
             around: Around {

@@ -1,11 +1,15 @@
+ghost use Rattle.std.specs.Prelude.{◌≡◌, Some, None};
+ghost use Rattle.sn_ast.specs.Terminals.{link_of};
+ghost use Rattle.sn_ast.specs.declared.terminal.Link.TheVariants as some_link;
 ghost use Rattle.sn_ast.specs.declared.terminal.Symbol.TheVariants as some_symbol;
 ghost use Rattle.sn_ast.specs.declared.terminal.Terminal.TheVariants as some_token;
-ghost use Rattle.sn_net_parser.specs.Residual.{StepsIn};
+ghost use Rattle.sn_net_parser.specs.Residual.{GuardSteps, StepsIn};
 ghost use Rattle.sn_net_parser.specs.declared.machine.Mode.TheVariants as some_mode;
 
 use crate::machine::{Around, Mode, NetParser, NetStop, Repeated};
 use crate::node;
-use sn_ast::{Bracket, Kept, Keyword, Link, NetExpr, Symbol, Terminal, Variant};
+use sn_ast::measure::parens;
+use sn_ast::{Bracket, Kept, Keyword, Link, NetExpr, Symbol, TExpr, Terminal, Variant};
 use sn_expr_parser::{TagParser, TagStop};
 use sn_type_parser::{LabelParser, LabelStep, LabelStop};
 use std::alloc::Global;
@@ -147,20 +151,17 @@ pub fn exit(
 ) -> Result<NetParser, NetStop>
     ensures { StepsIn around (some_mode.Exit star) token result }
 {
-    match token {
-        Terminal::Symbol {
-            symbol: Symbol::OpenBrace,
-            at,
-        } => Ok(NetParser {
-            around,
-            mode: Mode::InExit {
-                star,
-                opening: at,
-                labels: LabelParser::start(alloc, Bracket::Brace),
-            },
-        }),
-        _ => Err(NetStop::Refused),
-    }
+    let Some(opening) = token.symbol_at(Symbol::OpenBrace) else {
+        return Err(NetStop::Refused);
+    };
+    Ok(NetParser {
+        around,
+        mode: Mode::InExit {
+            star,
+            opening,
+            labels: LabelParser::start(alloc, Bracket::Brace),
+        },
+    })
 }
 
 /// Takes a token of an exit, after its opening brace.
@@ -207,19 +208,14 @@ pub fn after_exit(
 ) -> Result<NetParser, NetStop>
     ensures { StepsIn around (some_mode.AfterExit star exit) token result }
 {
-    match token {
-        Terminal::Keyword {
-            keyword: Keyword::If,
-            ..
-        } => Ok(NetParser {
+    if let Some(_) = token.keyword_at(Keyword::If) {
+        return Ok(NetParser {
             around,
             mode: Mode::Guard { star, exit },
-        }),
-        _ => {
-            let part = node::star(alloc, star.det, star.at, star.body, exit)?;
-            go_on(alloc, around, part, token)
-        }
+        });
     }
+    let part = node::star(alloc, star.det, star.at, star.body, exit)?;
+    go_on(alloc, around, part, token)
 }
 
 /// Takes the token where the opening of a guard comes next.
@@ -232,20 +228,17 @@ pub fn guard(
 ) -> Result<NetParser, NetStop>
     ensures { StepsIn around (some_mode.Guard star exit) token result }
 {
-    match token {
-        Terminal::Symbol {
-            symbol: Symbol::OpenParen,
-            ..
-        } => Ok(NetParser {
-            around,
-            mode: Mode::InGuard {
-                star,
-                exit,
-                guard: TagParser::start(alloc),
-            },
-        }),
-        _ => Err(NetStop::Refused),
-    }
+    let Some(_) = token.symbol_at(Symbol::OpenParen) else {
+        return Err(NetStop::Refused);
+    };
+    Ok(NetParser {
+        around,
+        mode: Mode::InGuard {
+            star,
+            exit,
+            guard: TagParser::start(alloc),
+        },
+    })
 }
 
 /// Takes a token of a guard.
@@ -285,16 +278,14 @@ fn guarded(
 ) -> Result<NetParser, NetStop>
     ensures { GuardSteps around star exit guard symbol result }
 {
-    match symbol {
-        Symbol::CloseParen => {
-            let part = node::guarded_star(alloc, star.det, star.at, star.body, exit, guard)?;
-            Ok(NetParser {
-                around,
-                mode: Mode::Have { part },
-            })
-        }
-        _ => Err(NetStop::Refused),
+    if symbol != Symbol::CloseParen {
+        return Err(NetStop::Refused);
     }
+    let part = node::guarded_star(alloc, star.det, star.at, star.body, exit, guard)?;
+    Ok(NetParser {
+        around,
+        mode: Mode::Have { part },
+    })
 }
 
 /// Takes the token where the tag of a split comes next.
