@@ -1,6 +1,0 @@
-//! Stub.
-#![tactic(auto)]
-
-mod filter;
-
-pub use filter::{FilterParser, FilterStep, FilterStop};
