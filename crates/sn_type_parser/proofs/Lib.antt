@@ -1,2 +1,3 @@
 pub mod LabelSteps
+pub mod TypeSteps
 pub mod Witnesses

@@ -1,2 +1,3 @@
 pub mod LabelResidual
 pub mod Reads
+pub mod TypeResidual

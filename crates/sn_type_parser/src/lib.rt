@@ -5,5 +5,7 @@
 #![tactic(auto)]
 
 mod labels;
+mod types;
 
 pub use labels::{LabelParser, LabelStep, LabelStop};
+pub use types::{TypeParser, TypeStop};
