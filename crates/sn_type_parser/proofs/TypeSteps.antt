@@ -1,7 +1,7 @@
 -- One token of a type at a time: what completes the state before it begins with it, and goes on as what completes the
 -- state after it.
-use Rattle.std.proofs.Common.{ℕ, true, false, List, [], ◌∷◌, ◌++◌, ◌≡◌, ◌≢◌, ◌↔◌, Result, Ok, Err, refl, sym, subst}
-use Rattle.sn_ast.specs.Labels.{Labels, IsVariant, Part as IsPart, MoreParts, Types, variant, set, named, last_part, more_parts, types}
+use Rattle.std.proofs.Common.{ℕ, true, false, List, [], ◌∷◌, ◌++◌, ◌≡◌, ◌≢◌, ◌↔◌, Ok, Err, refl, sym, subst}
+use Rattle.sn_ast.specs.Labels.{Labels, Types, variant, set, named, last_part, more_parts, types}
 use Rattle.sn_ast.specs.declared.label.Ident.{Ident}
 use Rattle.sn_ast.specs.declared.label.LabelAt.{LabelAt}
 use Rattle.sn_ast.specs.declared.label.TypePart.{TypePart}
@@ -10,7 +10,7 @@ use Rattle.sn_ast.specs.declared.terminal.Bracket.TheVariants.{Brace}
 use Rattle.sn_ast.specs.declared.terminal.Symbol.{Symbol as SomeSymbol}
 use Rattle.sn_ast.specs.declared.terminal.Symbol.TheVariants.{OpenBrace, Bar}
 use Rattle.sn_ast.specs.declared.terminal.Terminal.{Terminal}
-use Rattle.sn_ast.specs.declared.terminal.Terminal.TheVariants.{Name, Tag, Number, Literal, Keyword, Symbol}
+use Rattle.sn_ast.specs.declared.terminal.Terminal.TheVariants.{Name, Symbol}
 use Rattle.sn_type_parser.specs.LabelResidual.{Completes as CompletesLabels, Steps as LabelSteps}
 use Rattle.sn_type_parser.specs.Reads.{Read, read}
 use Rattle.sn_type_parser.specs.TypeResidual.{can_follow_type, EndsType, AfterPart, NextPart, InLabels, after_part, next_part, in_labels, Completes, CompletesIn, StepsIn}
@@ -69,9 +69,9 @@ no_part so_far x n k w t (next_part (named {name}) a) = n name refl
 pub labels_more : (so_far : List TypePart) (at : ℕ) (s next : LabelParser) (x : Terminal) → LabelSteps s x (Ok (More next)) →
     (w : List Terminal) (t : Read (List TypePart)) → InLabels so_far at s (x ∷ w) t ↔ InLabels so_far at next w t
 labels_more so_far at s next x k w t = (
-    λ i. elim i [ in_labels labels us c a ↦ in_labels labels us ((k w (read labels us)).0 c) a ],
-    λ i. elim i [ in_labels labels us c a ↦ in_labels labels us ((k w (read labels us)).1 c) a ],
-  )
+  λ i. elim i [ in_labels labels us c a ↦ in_labels labels us ((k w (read labels us)).0 c) a ],
+  λ i. elim i [ in_labels labels us c a ↦ in_labels labels us ((k w (read labels us)).1 c) a ],
+)
 
 done_from : {so_far : List TypePart} {at : ℕ} {s : LabelParser} {x : Terminal} {all : List LabelAt} {w : List Terminal} {t : Read (List TypePart)} →
     ((t : Read (List LabelAt)) → CompletesLabels s (x ∷ w) t → read all w ≡ t) →

@@ -42,10 +42,7 @@ impl From<Memory> for TypeStop {
 enum Mode {
     Part,
     /// What is in a variant, whose opening bracket is at the place.
-    Variant {
-        at: u32,
-        labels: LabelParser,
-    },
+    Variant { at: u32, labels: LabelParser },
     /// A bar, or what follows the type.
     After,
 }
@@ -69,6 +66,8 @@ impl TypeParser {
         }
     }
 
+    /// Takes the next token: ends where the type is whole and the token may follow it, and refuses the token where no
+    /// type goes on with it.
     pub fn step(self, alloc: Global, token: Terminal) -> Result<TypeParser, TypeStop>
         ensures { Steps self token result }
     {
@@ -81,11 +80,7 @@ impl TypeParser {
     }
 }
 
-fn begin_part(
-    alloc: Global,
-    parts: Seq<TypePart>,
-    token: Terminal,
-) -> Result<TypeParser, TypeStop>
+fn begin_part(alloc: Global, parts: Seq<TypePart>, token: Terminal) -> Result<TypeParser, TypeStop>
     ensures { StepsIn parts Part token result }
 {
     match token {
