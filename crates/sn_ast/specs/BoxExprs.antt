@@ -1,6 +1,6 @@
 -- The grammar of expressions in a box: which tokens spell which of them. In each relation the last list is what
 -- follows. The operators of one level group to the left; comparisons do not chain.
-use Rattle.std.specs.Prelude.{ℕ, ℤ, List, [], ◌∷◌, ◌≡◌, Option, Some, None, unsigned_abs}
+use Rattle.std.specs.Prelude.{ℕ, ℤ, List, ◌∷◌, ◌≡◌, Option, Some, None, unsigned_abs}
 use Rattle.sn_ast.specs.Measures.{Measuring}
 use Rattle.sn_ast.specs.Operators.{box_operations, with_sign, with_operator, with_and, with_or}
 use Rattle.sn_ast.specs.Rows.{no_parts, with_part}

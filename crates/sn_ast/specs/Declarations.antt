@@ -7,11 +7,9 @@ use Rattle.sn_ast.specs.Measures.{Measuring}
 use Rattle.sn_ast.specs.Networks.{Network}
 use Rattle.sn_ast.specs.Rows.{append, no_parts, with_part}
 use Rattle.sn_ast.specs.declared.box_expr.BExpr.{BExpr}
-use Rattle.sn_ast.specs.declared.declaration.BoxDecl.{BoxDecl as SomeBox}
 use Rattle.sn_ast.specs.declared.declaration.Decl.{Decl}
 use Rattle.sn_ast.specs.declared.declaration.Decl.TheVariants.{BoxDecl, NetDecl, TypeDecl, SigDecl}
 use Rattle.sn_ast.specs.declared.declaration.FunDecl.{FunDecl}
-use Rattle.sn_ast.specs.declared.declaration.NetDecl.{NetDecl as SomeNet}
 use Rattle.sn_ast.specs.declared.label.Ident.{Ident}
 use Rattle.sn_ast.specs.declared.label.Sig.{Sig}
 use Rattle.sn_ast.specs.declared.label.Tuple.{Tuple}

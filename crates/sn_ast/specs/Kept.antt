@@ -1,5 +1,5 @@
 -- What a parser keeps of a part: the part with its measures, or nothing once it is past a limit.
-use Rattle.std.specs.Prelude.{ℕ, ◌&&◌, nat_le, nat_lt, Option, Some, None, if◌then◌else◌}
+use Rattle.std.specs.Prelude.{ℕ, List, map, ◌&&◌, nat_le, nat_lt, Option, Some, None, if◌then◌else◌}
 use Rattle.std.specs.Option.{option_map}
 use Rattle.sn_ast.specs.Measures.{Measuring, measured}
 use Rattle.sn_ast.specs.declared.measure.Measured.{Measured}
@@ -9,6 +9,10 @@ Kept A = Option (Measured A)
 
 abbrev pub keep : {A : Type 0} → Measured A → Kept A
 keep p = if nat_le p.height 64 && nat_le p.open_at_once 128 then Some p else None
+
+-- the same of parts that each have a place
+abbrev pub keep_all : {A : Type 0} → List (ℕ × Measured A) → List (ℕ × Kept A)
+keep_all parts = map (λ part. (part.0, keep part.1)) parts
 
 abbrev joined : {A B C : Type 0} → (A → B → C) → Kept A → Kept B → Kept C
 joined f (Some p) (Some q) = Some (measured.join f p q)

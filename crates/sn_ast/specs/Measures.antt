@@ -1,5 +1,5 @@
 -- How a part of a source is measured, and when it is within the limits.
-use Rattle.std.specs.Prelude.{ℕ, ◌+◌, ◌≤◌, max}
+use Rattle.std.specs.Prelude.{◌+◌, ◌≤◌, max}
 use Rattle.sn_ast.specs.declared.measure.Measured.{Measured}
 
 -- How what is read is put together. The grammar is over any such way, so that one grammar tells both the tree of

@@ -4,7 +4,7 @@ use Rattle.sn_ast.specs.Labels.{IsVariant}
 use Rattle.sn_ast.specs.Measures.{Measuring}
 use Rattle.sn_ast.specs.Rows.{append, no_parts, with_part}
 use Rattle.sn_ast.specs.TagExprs.{TagExpr}
-use Rattle.sn_ast.specs.Terminals.{label_of}
+use Rattle.sn_ast.specs.Terminals.{label_of, link_of}
 use Rattle.sn_ast.specs.declared.label.Ident.{Ident}
 use Rattle.sn_ast.specs.declared.label.LabelAt.{LabelAt}
 use Rattle.sn_ast.specs.declared.label.Variant.{Variant}
@@ -15,26 +15,11 @@ use Rattle.sn_ast.specs.declared.network.NetForm.TheVariants as net_form
 use Rattle.sn_ast.specs.declared.network.TemplateAt.{TemplateAt}
 use Rattle.sn_ast.specs.declared.tag_expr.TExpr.{TExpr}
 use Rattle.sn_ast.specs.declared.terminal.Keyword.TheVariants.{If}
+use Rattle.sn_ast.specs.declared.terminal.Link.TheVariants.{Branch as BranchLink, Star as StarLink, Split as SplitLink}
 use Rattle.sn_ast.specs.declared.terminal.Symbol.{Symbol as SomeSymbol}
-use Rattle.sn_ast.specs.declared.terminal.Symbol.TheVariants.{OpenParen, CloseParen, OpenBrace, CloseBrace, OpenBracket, CloseBracket, OpenSync, CloseSync, Comma, Semicolon, Assign, Arrow, Dots, Bar, BarBar, Star, StarStar, Bang, BangBang}
+use Rattle.sn_ast.specs.declared.terminal.Symbol.TheVariants.{OpenParen, CloseParen, OpenBrace, CloseBrace, OpenBracket, CloseBracket, OpenSync, CloseSync, Comma, Semicolon, Assign, Arrow, Dots}
 use Rattle.sn_ast.specs.declared.terminal.Terminal.{Terminal}
 use Rattle.sn_ast.specs.declared.terminal.Terminal.TheVariants.{Name, Tag, Keyword, Symbol}
-
--- The symbols of stars, splits and choices: the doubled one is deterministic.
-abbrev pub star_of : SomeSymbol → Option Bool
-star_of StarStar = Some true
-star_of Star = Some false
-star_of symbol = None
-
-abbrev pub split_of : SomeSymbol → Option Bool
-split_of BangBang = Some true
-split_of Bang = Some false
-split_of symbol = None
-
-abbrev pub choice_of : SomeSymbol → Option Bool
-choice_of BarBar = Some true
-choice_of Bar = Some false
-choice_of symbol = None
 
 -- the items of a template
 abbrev pub same_item : LabelAt → ItemAt
@@ -167,14 +152,14 @@ mutual
   pub data Posts {F : Type 0 → Type 0} (m : Measuring F) : F NetExpr → List Terminal → F NetExpr → List Terminal → Type 0 where
     bare : {p : F NetExpr} {us : List Terminal} → Posts m p us p us
     star : {at : ℕ} {s : SomeSymbol} {det : Bool} {exit : Variant} {p q : F NetExpr} {ts us vs : List Terminal} →
-        star_of s ≡ Some det → IsVariant ts exit us → Posts m (with_star m det at p exit) us q vs →
+        link_of s ≡ Some (StarLink det) → IsVariant ts exit us → Posts m (with_star m det at p exit) us q vs →
         Posts m p (Symbol s at ∷ ts) q vs
     guarded_star : {at if_at opening close : ℕ} {s : SomeSymbol} {det : Bool} {exit : Variant} {g : F TExpr} {p q : F NetExpr} {ts us vs ws : List Terminal} →
-        star_of s ≡ Some det → IsVariant ts exit (Keyword If if_at ∷ Symbol OpenParen opening ∷ us) →
+        link_of s ≡ Some (StarLink det) → IsVariant ts exit (Keyword If if_at ∷ Symbol OpenParen opening ∷ us) →
         TagExpr m us g (Symbol CloseParen close ∷ vs) → Posts m (with_guarded_star m det at p exit g) vs q ws →
         Posts m p (Symbol s at ∷ ts) q ws
     split : {at : ℕ} {s : SomeSymbol} {det : Bool} {tag : Ident} {p q : F NetExpr} {us vs : List Terminal} →
-        split_of s ≡ Some det → Posts m (with_split m det at p tag) us q vs → Posts m p (Symbol s at ∷ Tag tag ∷ us) q vs
+        link_of s ≡ Some (SplitLink det) → Posts m (with_split m det at p tag) us q vs → Posts m p (Symbol s at ∷ Tag tag ∷ us) q vs
 
   -- serial = post { ".." post }
   pub data Serial {F : Type 0 → Type 0} (m : Measuring F) : List Terminal → F NetExpr → List Terminal → Type 0 where
@@ -196,5 +181,5 @@ mutual
     final : {so_far : Option (Bool × ℕ × F (List NetExpr))} {s : F NetExpr} {us : List Terminal} →
         MoreBranches m so_far s us (choice_with m so_far s) us
     branch : {at : ℕ} {sym : SomeSymbol} {det : Bool} {so_far : Option (Bool × ℕ × F (List NetExpr))} {s q n : F NetExpr} {ts us vs : List Terminal} →
-        choice_of sym ≡ Some det → GoesOn so_far det → Serial m ts q us → MoreBranches m (branched m so_far det at s) q us n vs →
+        link_of sym ≡ Some (BranchLink det) → GoesOn so_far det → Serial m ts q us → MoreBranches m (branched m so_far det at s) q us n vs →
         MoreBranches m so_far s (Symbol sym at ∷ ts) n vs

@@ -1,6 +1,6 @@
 -- The grammar of expressions over tags: which tokens spell which of them. In each relation the last list is what
 -- follows. The operators of one level group to the left; comparisons do not chain.
-use Rattle.std.specs.Prelude.{ℕ, ℤ, List, [], ◌∷◌, ◌≡◌, Some}
+use Rattle.std.specs.Prelude.{ℕ, ℤ, List, ◌∷◌, ◌≡◌, Some}
 use Rattle.sn_ast.specs.Measures.{Measuring}
 use Rattle.sn_ast.specs.Operators.{tag_operations, with_sign, with_operator, with_and, with_or}
 use Rattle.sn_ast.specs.Terminals.{infix_of, sign_of}

@@ -1,17 +1,17 @@
 -- Where a token stands, and what it can be in the grammar.
-use Rattle.std.specs.Prelude.{ℕ, Bool, true, false, Option, Some, None}
-use Rattle.sn_ast.specs.declared.label.Ident.{Ident}
+use Rattle.std.specs.Prelude.{ℕ, true, false, Option, Some, None}
 use Rattle.sn_ast.specs.declared.label.LabelAt.{LabelAt}
-use Rattle.sn_ast.specs.declared.tag_expr.Operator.{Operator}
 use Rattle.sn_ast.specs.declared.tag_expr.Operator.TheVariants.{Add, Sub, Mul, Div, Rem, Lt, Le, Gt, Ge, Eq, Ne}
 use Rattle.sn_ast.specs.declared.terminal.Bracket.{Bracket}
 use Rattle.sn_ast.specs.declared.terminal.Bracket.TheVariants.{Paren, Brace, Square}
 use Rattle.sn_ast.specs.declared.terminal.Infix.{Infix}
 use Rattle.sn_ast.specs.declared.terminal.Infix.TheVariants.{Product, Sum, Comparison, Conjunction, Disjunction}
+use Rattle.sn_ast.specs.declared.terminal.Link.{Link}
+use Rattle.sn_ast.specs.declared.terminal.Link.TheVariants.{Branch, Star as StarLink, Split}
 use Rattle.sn_ast.specs.declared.terminal.Sign.{Sign}
 use Rattle.sn_ast.specs.declared.terminal.Sign.TheVariants.{Minus as Negative, Not}
 use Rattle.sn_ast.specs.declared.terminal.Symbol.{Symbol}
-use Rattle.sn_ast.specs.declared.terminal.Symbol.TheVariants.{Equal, NotEqual, Less, LessEqual, Greater, GreaterEqual, Plus, Minus, Star, Slash, Percent, AndAnd, BarBar, Bang, CloseParen, CloseBrace, CloseBracket}
+use Rattle.sn_ast.specs.declared.terminal.Symbol.TheVariants.{Equal, NotEqual, Less, LessEqual, Greater, GreaterEqual, Plus, Minus, Star, Slash, Percent, AndAnd, BarBar, Bar, Bang, BangBang, StarStar, CloseParen, CloseBrace, CloseBracket}
 use Rattle.sn_ast.specs.declared.terminal.Terminal.{Terminal}
 use Rattle.sn_ast.specs.declared.terminal.Terminal.TheVariants as terminal
 
@@ -45,6 +45,16 @@ abbrev pub sign_of : Symbol → Option Sign
 sign_of Minus = Some Negative
 sign_of Bang = Some Not
 sign_of symbol = None
+
+-- what a symbol is after a part of a network: the doubled one is deterministic
+abbrev pub link_of : Symbol → Option Link
+link_of BarBar = Some (Branch true)
+link_of Bar = Some (Branch false)
+link_of StarStar = Some (StarLink true)
+link_of Star = Some (StarLink false)
+link_of BangBang = Some (Split true)
+link_of Bang = Some (Split false)
+link_of symbol = None
 
 -- a name is the label of a field, and a tag that of a tag
 abbrev pub label_of : Terminal → Option LabelAt

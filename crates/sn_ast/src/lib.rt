@@ -3,11 +3,12 @@
 //! A place is an offset in bytes from the start of the source.
 #![tactic(auto)]
 
+mod box_expr;
 mod declaration;
 mod label;
+pub mod laws;
 pub mod measure;
 mod network;
-mod box_expr;
 mod tag_expr;
 mod terminal;
 
@@ -19,4 +20,7 @@ pub use network::{ItemAt, ItemSource, NetExpr, NetForm, TemplateAt};
 pub use sn_list::{Boxed, Seq};
 pub use sn_record::Text;
 pub use tag_expr::{Operator, TExpr, TForm};
-pub use terminal::{Bracket, Infix, Keyword, Sign, Symbol, Terminal};
+pub use terminal::{Bracket, Infix, Keyword, Link, Sign, Symbol, Terminal};
+
+#[cfg(test)]
+mod tests;

@@ -1,5 +1,6 @@
-ghost use Rattle.std.specs.Prelude.{◌≡◌};
-ghost use Rattle.sn_ast.specs.Terminals.{closing, infix_of, label_of, place_of, sign_of};
+ghost use Rattle.std.specs.Prelude.{◌≡◌, ℕ, MatchOption};
+ghost use Rattle.sn_ast.specs.declared.terminal.Terminal.TheVariants as some_terminal;
+ghost use Rattle.sn_ast.specs.Terminals.{closing, infix_of, label_of, link_of, place_of, sign_of};
 
 use crate::label::{Ident, LabelAt};
 use crate::tag_expr::Operator;
@@ -82,6 +83,15 @@ pub enum Sign {
     Not,
 }
 
+/// What stands between the branches of a choice, or after a part of a network that is repeated. `det` tells the
+/// deterministic form, which is written with the doubled symbol.
+#[derive(Clone, Copy, PartialEq, Eq, Debug)]
+pub enum Link {
+    Branch { det: bool },
+    Star { det: bool },
+    Split { det: bool },
+}
+
 impl Bracket {
     /// The symbol that closes it.
     pub fn closing(self) -> Symbol
@@ -118,6 +128,21 @@ impl Symbol {
         }
     }
 
+    /// What the symbol is after a part of a network, if it chooses or repeats.
+    pub fn link(self) -> Option<Link>
+        ensures { result ≡ link_of self }
+    {
+        match self {
+            Symbol::BarBar => Some(Link::Branch { det: true }),
+            Symbol::Bar => Some(Link::Branch { det: false }),
+            Symbol::StarStar => Some(Link::Star { det: true }),
+            Symbol::Star => Some(Link::Star { det: false }),
+            Symbol::BangBang => Some(Link::Split { det: true }),
+            Symbol::Bang => Some(Link::Split { det: false }),
+            _ => None,
+        }
+    }
+
     /// What the symbol is before an operand, if it is a sign.
     pub fn sign(self) -> Option<Sign>
         ensures { result ≡ sign_of self }
@@ -142,6 +167,36 @@ pub enum Terminal {
 }
 
 impl Terminal {
+    /// The token's place, if it is this symbol.
+    pub fn symbol_at(&self, symbol: Symbol) -> Option<u32>
+        ensures { MatchOption result ((at : ℕ) → self.now ≡ some_terminal.Symbol symbol at → ⊥) (λ at. self.now ≡ some_terminal.Symbol symbol at) }
+    {
+        match self {
+            Terminal::Symbol { symbol: this, at } => {
+                if *this == symbol {
+                    return Some(*at);
+                }
+                None
+            }
+            _ => None,
+        }
+    }
+
+    /// The token's place, if it is this keyword.
+    pub fn keyword_at(&self, keyword: Keyword) -> Option<u32>
+        ensures { MatchOption result ((at : ℕ) → self.now ≡ some_terminal.Keyword keyword at → ⊥) (λ at. self.now ≡ some_terminal.Keyword keyword at) }
+    {
+        match self {
+            Terminal::Keyword { keyword: this, at } => {
+                if *this == keyword {
+                    return Some(*at);
+                }
+                None
+            }
+            _ => None,
+        }
+    }
+
     pub fn place(&self) -> u32
         ensures { result ≡ place_of self.now }
     {
