@@ -350,3 +350,12 @@ innermost_steps fs gs e f o k x r h i j = through (Up fs e) (Up (k ∷ gs) f) x 
 pub top_steps : (fs gs : List Frame) (e f : Kept TExpr) (o : Option Frame) (x : Terminal) (r : Result TagParser TagStop) →
     Innermost fs e o gs f → o ≡ None → StepsFrom (Up [] f) x r → StepsFrom (Up fs e) x r
 top_steps fs gs e f o x r h i j = through (Up fs e) (Up [] f) x r (λ w t. rw i at (h.same (x ∷ w) t)) j
+
+pub start_from : {w us : List Terminal} {e : Kept TExpr} → TagExpr kept w e us → ends us → Next [] fresh w (read e us)
+start_from x k = begin_from (next_tag x (whole k))
+
+started : {w : List Terminal} {t : Read} → NextTag [] w t → TagExpr kept w t.part t.rest × ends t.rest
+started (next_tag x (whole k)) = (x, k)
+
+pub start_to : {w : List Terminal} {t : Read} → Next [] fresh w t → TagExpr kept w t.part t.rest × ends t.rest
+start_to y = started (begin_to y)
