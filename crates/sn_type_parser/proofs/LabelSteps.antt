@@ -9,7 +9,7 @@ use Rattle.sn_ast.specs.declared.terminal.Bracket.TheVariants.{Paren, Brace, Squ
 use Rattle.sn_ast.specs.declared.terminal.Symbol.{Symbol as SomeSymbol}
 use Rattle.sn_ast.specs.declared.terminal.Symbol.TheVariants.{Comma}
 use Rattle.sn_ast.specs.declared.terminal.Terminal.{Terminal}
-use Rattle.sn_ast.specs.declared.terminal.Terminal.TheVariants.{Name, Tag, Number, Literal, Keyword, Symbol}
+use Rattle.sn_ast.specs.declared.terminal.Terminal.TheVariants.{Name, Symbol}
 use Rattle.sn_type_parser.specs.LabelResidual.{closes, NextLabel, FirstLabel, next_label, no_label, some_label, Completes, CompletesIn, StepsIn}
 use Rattle.sn_type_parser.specs.Reads.{Read, read}
 use Rattle.sn_type_parser.proofs.Witnesses.{a_name}
