@@ -1,0 +1,2 @@
+pub mod FilterSteps
+pub mod ItemSteps

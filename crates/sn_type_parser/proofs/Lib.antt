@@ -1,0 +1,4 @@
+pub mod LabelSteps
+pub mod SigSteps
+pub mod TypeSteps
+pub mod Witnesses
