@@ -13,7 +13,7 @@ use Rattle.sn_ast.specs.declared.terminal.Bracket.TheVariants.{Brace}
 use Rattle.sn_ast.specs.declared.terminal.Symbol.TheVariants.{OpenBrace, CloseBrace, CloseBracket, Semicolon, Arrow as ArrowSign}
 use Rattle.sn_ast.specs.declared.terminal.Terminal.{Terminal}
 use Rattle.sn_ast.specs.declared.terminal.Terminal.TheVariants.{Symbol}
-use Rattle.sn_filter_parser.proofs.ItemSteps.{no_end as no_end_items, completable as completable_items}
+use Rattle.sn_filter_parser.proofs.ItemLaws.{no_end as no_end_items, completable as completable_items}
 use Rattle.sn_filter_parser.specs.FilterResidual.{Row, with_template, AfterTemplate, NextTemplate, InItems, NextArrow, InPattern, after_template, next_template, in_items, next_arrow, in_pattern, Completes, CompletesIn, StepsIn}
 use Rattle.sn_filter_parser.specs.ItemResidual.{Completes as CompletesItems, Steps as ItemSteps}
 use Rattle.sn_filter_parser.specs.declared.filter.FilterParser.{FilterParser}
@@ -22,7 +22,7 @@ use Rattle.sn_filter_parser.specs.declared.filter.Mode.TheVariants.{Open, Patter
 use Rattle.sn_filter_parser.specs.declared.items.ItemParser.{ItemParser}
 use Rattle.sn_filter_parser.specs.declared.items.ItemStep.TheVariants.{More as ItemMore, Done as ItemDone}
 use Rattle.sn_filter_parser.specs.declared.items.ItemStop.TheVariants.{Refused as ItemRefused}
-use Rattle.sn_type_parser.proofs.LabelSteps.{no_end as no_end_labels, completable as completable_labels}
+use Rattle.sn_type_parser.proofs.LabelLaws.{no_end as no_end_labels, completable as completable_labels}
 use Rattle.sn_type_parser.specs.LabelResidual.{Completes as CompletesLabels, Steps as LabelSteps}
 use Rattle.sn_type_parser.specs.Reads.{Read, read}
 use Rattle.sn_type_parser.specs.declared.labels.LabelParser.{LabelParser}
@@ -73,22 +73,14 @@ pub labels_done : (at opening : ℕ) (s : LabelParser) (x : Terminal) (all : Lis
     (w : List Terminal) (t : Read (Kept NetExpr)) → InPattern at opening s (x ∷ w) t ↔ NextArrow at (record { labels = all; at = opening }) w t
 labels_done at opening s x all k w t = (labels_from (λ r. (k w r).0), λ a. in_pattern all w ((k w (read all w)).1 refl) a)
 
-pub labels_refused : (at opening : ℕ) (s : LabelParser) (x : Terminal) → LabelSteps s x (Err LabelRefused) →
-    (w : List Terminal) (t : Read (Kept NetExpr)) → InPattern at opening s (x ∷ w) t → ⊥
-labels_refused at opening s x k w t (in_pattern labels us c a) = k w (read labels us) c
-
 -- The arrow after the pattern.
 arrow_from : {at arrow : ℕ} {pattern : Variant} {w : List Terminal} {t : Read (Kept NetExpr)} →
     NextArrow at pattern (Symbol ArrowSign arrow ∷ w) t → NextTemplate at pattern (no_parts kept) w t
 arrow_from (next_arrow n) = n
 
-pub arrow_step : (at arrow : ℕ) (pattern : Variant) (none : Row) (x : Terminal) → x ≡ Symbol ArrowSign arrow → none ≡ no_parts kept →
-    (w : List Terminal) (t : Read (Kept NetExpr)) → NextArrow at pattern (x ∷ w) t ↔ NextTemplate at pattern none w t
-arrow_step at arrow pattern none x e f w t = rw (e, f) (arrow_from, λ n. next_arrow n)
-
-pub no_arrow : (at : ℕ) (pattern : Variant) (x : Terminal) → ((arrow : ℕ) → x ≡ Symbol ArrowSign arrow → ⊥) →
-    (w : List Terminal) (t : Read (Kept NetExpr)) → NextArrow at pattern (x ∷ w) t → ⊥
-no_arrow at pattern x h w t (next_arrow {arrow} n) = h arrow refl
+pub arrow_step : (at arrow : ℕ) (pattern : Variant) (first : Row) (x : Terminal) → x ≡ Symbol ArrowSign arrow → first ≡ no_parts kept →
+    (w : List Terminal) (t : Read (Kept NetExpr)) → NextArrow at pattern (x ∷ w) t ↔ NextTemplate at pattern first w t
+arrow_step at arrow pattern first x e f w t = rw (e, f) (arrow_from, λ n. next_arrow n)
 
 -- A template begins.
 template_from : {at opening : ℕ} {pattern : Variant} {so_far : Row} {s : ItemParser} {w : List Terminal} {t : Read (Kept NetExpr)} →
@@ -132,10 +124,6 @@ pub items_done : (at opening : ℕ) (pattern : Variant) (so_far next : Row) (s :
 items_done at opening pattern so_far next s x all k e w t =
     rw e (items_from (λ r. (k w r).0), λ a. in_items all w ((k w (read all w)).1 refl) a)
 
-pub items_refused : (at opening : ℕ) (pattern : Variant) (so_far : Row) (s : ItemParser) (x : Terminal) → ItemSteps s x (Err ItemRefused) →
-    (w : List Terminal) (t : Read (Kept NetExpr)) → InItems at pattern so_far opening s (x ∷ w) t → ⊥
-items_refused at opening pattern so_far s x k w t (in_items items us c a) = k w (read items us) c
-
 -- After a template.
 close_from : {at close : ℕ} {pattern : Variant} {so_far : Row} {w : List Terminal} {t : Read (Kept NetExpr)} →
     AfterTemplate at pattern so_far (Symbol CloseBracket close ∷ w) t → read (kept.each (filter_at at pattern) so_far) w ≡ t
@@ -168,56 +156,3 @@ pub no_more : (at : ℕ) (pattern : Variant) (so_far : Row) (x : Terminal) → (
     ((semicolon : ℕ) → x ≡ Symbol Semicolon semicolon → ⊥) → (w : List Terminal) (t : Read (Kept NetExpr)) → AfterTemplate at pattern so_far (x ∷ w) t → ⊥
 no_more at pattern so_far x h k w t (after_template (last_template {at = close})) = h close refl
 no_more at pattern so_far x h k w t (after_template (more_templates {at = semicolon} e m)) = k semicolon refl
-
--- No state is complete without a further token.
-no_filter_end : {at : ℕ} {n : Kept NetExpr} {us : List Terminal} → Filter kept at [] n us → ⊥
-no_filter_end (filter v e m) = elim v [ ]
-
-no_end_in : (at : ℕ) (m : Mode) (t : Read (Kept NetExpr)) → CompletesIn at m [] t → ⊥
-no_end_in at Open t f = no_filter_end f
-no_end_in at (Pattern opening s) t (in_pattern labels us c a) = no_end_labels s (read labels us) c
-no_end_in at (Arrow pattern) t a = elim a [ ]
-no_end_in at (Template pattern so_far) t (next_template e a) = elim e [ ]
-no_end_in at (Items pattern so_far opening s) t (in_items items us c a) = no_end_items s (read items us) c
-no_end_in at (After pattern so_far) t (after_template m) = elim m [ ]
-
-pub no_end : (s : FilterParser) (t : Read (Kept NetExpr)) → Completes s [] t → ⊥
-no_end s t h = no_end_in s.at s.mode t h
-
--- Each state can be completed, whatever follows: by `->`, `{}` and `]` as far as they are wanted.
-abbrev last_tokens : List Terminal → List Terminal
-last_tokens us = Symbol OpenBrace 0 ∷ Symbol CloseBrace 0 ∷ Symbol CloseBracket 0 ∷ us
-
-abbrev last_row : Row → Row
-last_row so_far = with_template so_far 0 (no_parts kept)
-
-completable_template : (at : ℕ) (pattern : Variant) (so_far : Row) (us : List Terminal) →
-    NextTemplate at pattern so_far (last_tokens us) (read (kept.each (filter_at at pattern) (last_row so_far)) us)
-completable_template at pattern so_far us = next_template (template no_items) (after_template last_template)
-
-completable_in : (at : ℕ) (m : Mode) (us : List Terminal) → (w : List Terminal) × (n : Kept NetExpr) × CompletesIn at m w (read n us)
-completable_in at Open us = (
-  Symbol OpenBrace 0 ∷ Symbol CloseBrace 0 ∷ Symbol ArrowSign 0 ∷ last_tokens us,
-  kept.each (filter_at at (record { labels = []; at = 0 })) (last_row (no_parts kept)),
-  filter (variant (no_labels refl)) (template no_items) last_template,
-)
-completable_in at (Pattern opening s) us =
-    let vs : List Terminal = Symbol ArrowSign 0 ∷ last_tokens us in
-    let r = completable_labels s vs in
-    let pattern : Variant = record { labels = r.1; at = opening } in
-    (r.0, kept.each (filter_at at pattern) (last_row (no_parts kept)), in_pattern r.1 vs r.2 (next_arrow (completable_template at pattern (no_parts kept) us)))
-completable_in at (Arrow pattern) us = (
-  Symbol ArrowSign 0 ∷ last_tokens us,
-  kept.each (filter_at at pattern) (last_row (no_parts kept)),
-  next_arrow (completable_template at pattern (no_parts kept) us),
-)
-completable_in at (Template pattern so_far) us =
-    (last_tokens us, kept.each (filter_at at pattern) (last_row so_far), completable_template at pattern so_far us)
-completable_in at (Items pattern so_far opening s) us =
-    let vs : List Terminal = Symbol CloseBracket 0 ∷ us in
-    let r = completable_items s vs in
-    (r.0, kept.each (filter_at at pattern) (with_template so_far opening r.1), in_items r.1 vs r.2 (after_template last_template))
-completable_in at (After pattern so_far) us = (Symbol CloseBracket 0 ∷ us, kept.each (filter_at at pattern) so_far, after_template last_template)
-
-pub completable : (s : FilterParser) (us : List Terminal) → (w : List Terminal) × (n : Kept NetExpr) × Completes s w (read n us)
-completable s us = completable_in s.at s.mode us

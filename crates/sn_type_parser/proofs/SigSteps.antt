@@ -12,15 +12,13 @@ use Rattle.sn_ast.specs.declared.terminal.Symbol.TheVariants.{Semicolon, ClosePa
 use Rattle.sn_ast.specs.declared.terminal.Terminal.{Terminal}
 use Rattle.sn_ast.specs.declared.terminal.Terminal.TheVariants.{Name, Symbol}
 use Rattle.sn_type_parser.specs.Reads.{Read, read}
-use Rattle.sn_type_parser.specs.SigResidual.{can_follow_sig, EndsSig, lone_name, AfterType, InType, to_output, by_name, whole, in_type, Completes, StepsFrom}
+use Rattle.sn_type_parser.specs.SigResidual.{can_follow_sig, EndsSig, lone_name, AfterType, InType, to_output, by_name, whole, in_type, StepsFrom}
 use Rattle.sn_type_parser.specs.TypeResidual.{can_follow_type, EndsType, Completes as CompletesTypes, Steps as TypeSteps}
 use Rattle.sn_type_parser.specs.declared.signatures.SigParser.{SigParser}
 use Rattle.sn_type_parser.specs.declared.signatures.SigStop.{SigStop}
 use Rattle.sn_type_parser.specs.declared.signatures.SigStop.TheVariants.{Memory, Refused, Ended}
 use Rattle.sn_type_parser.specs.declared.types.TypeParser.{TypeParser}
 use Rattle.sn_type_parser.specs.declared.types.TypeStop.TheVariants.{Refused as TypeRefused, Ended as TypeEnded}
-use Rattle.sn_type_parser.proofs.TypeSteps.{no_end as no_end_types, completable as completable_types}
-use Rattle.sn_type_parser.proofs.Witnesses.{a_name}
 
 -- What may follow a signature may follow a type.
 symbol_follows : (s : SomeSymbol) → can_follow_sig s ≡ true → can_follow_type s ≡ true
@@ -154,21 +152,3 @@ arrow_ended input output b at f = (refl, λ w t. (whole_from, whole_to f))
 pub not_ended : (input output : List TypePart) (b : SomeSymbol) (at : ℕ) → can_follow_sig b ≡ false → (w : List Terminal) (t : Read Sig) →
     AfterType (Some input) output (Symbol b at ∷ w) t → ⊥
 not_ended input output b at h w t (whole e) = absurd cc
-
--- No state is complete without a further token.
-pub no_end : (s : SigParser) (t : Read Sig) → Completes s [] t → ⊥
-no_end s t (in_type parts us c a) = no_end_types s.types (read parts us) c
-
--- Each state can be completed, whatever follows a signature.
-completable_in : (input : Option (List TypePart)) (s : TypeParser) (us : List Terminal) → EndsSig us →
-    (w : List Terminal) × (sig : Sig) × InType input s w (read sig us)
-completable_in None s us e =
-    let vs : List Terminal = Symbol Arrow 0 ∷ Name a_name ∷ us in
-    let r = completable_types s vs refl in
-    (r.0, ArrowSig r.1 (Named a_name ∷ []), in_type r.1 vs r.2 (to_output (types named last_part) e))
-completable_in (Some input) s us e =
-    let r = completable_types s us (type_ends us e) in
-    (r.0, ArrowSig input r.1, in_type r.1 us r.2 (whole e))
-
-pub completable : (s : SigParser) (us : List Terminal) → EndsSig us → (w : List Terminal) × (sig : Sig) × Completes s w (read sig us)
-completable s us e = completable_in s.input s.types us e

@@ -13,16 +13,11 @@ use Rattle.sn_ast.specs.declared.terminal.Terminal.{Terminal}
 use Rattle.sn_ast.specs.declared.terminal.Terminal.TheVariants.{Name, Symbol}
 use Rattle.sn_type_parser.specs.LabelResidual.{Completes as CompletesLabels, Steps as LabelSteps}
 use Rattle.sn_type_parser.specs.Reads.{Read, read}
-use Rattle.sn_type_parser.specs.TypeResidual.{can_follow_type, EndsType, AfterPart, NextPart, InLabels, after_part, next_part, in_labels, Completes, CompletesIn, StepsIn}
+use Rattle.sn_type_parser.specs.TypeResidual.{can_follow_type, EndsType, AfterPart, NextPart, InLabels, after_part, next_part, in_labels, StepsIn}
 use Rattle.sn_type_parser.specs.declared.labels.LabelParser.{LabelParser}
 use Rattle.sn_type_parser.specs.declared.labels.LabelStep.TheVariants.{More, Done}
-use Rattle.sn_type_parser.specs.declared.labels.LabelStop.TheVariants.{Refused as LabelRefused}
-use Rattle.sn_type_parser.specs.declared.types.Mode.{Mode}
-use Rattle.sn_type_parser.specs.declared.types.Mode.TheVariants.{Part, Variant as InVariant, After}
-use Rattle.sn_type_parser.specs.declared.types.TypeParser.{TypeParser}
+use Rattle.sn_type_parser.specs.declared.types.Mode.TheVariants.{After}
 use Rattle.sn_type_parser.specs.declared.types.TypeStop.TheVariants.{Ended}
-use Rattle.sn_type_parser.proofs.LabelSteps.{no_end as no_end_labels, completable as completable_labels}
-use Rattle.sn_type_parser.proofs.Witnesses.{a_name}
 
 pub start_from : {w us : List Terminal} {all : List TypePart} → Types w all us → EndsType us → NextPart [] w (read all us)
 start_from (types p m) e = next_part p (after_part m e)
@@ -86,10 +81,6 @@ pub labels_done : (so_far next : List TypePart) (at : ℕ) (s : LabelParser) (x 
 labels_done so_far next at s x all k e w t =
     rw e (done_from (λ r. (k w r).0), λ a. in_labels all w ((k w (read all w)).1 refl) a)
 
-pub labels_refused : (so_far : List TypePart) (at : ℕ) (s : LabelParser) (x : Terminal) → LabelSteps s x (Err LabelRefused) →
-    (w : List Terminal) (t : Read (List TypePart)) → InLabels so_far at s (x ∷ w) t → ⊥
-labels_refused so_far at s x k w t (in_labels labels us c a) = k w (read labels us) c
-
 bar_from : {so_far : List TypePart} {at : ℕ} {w : List Terminal} {t : Read (List TypePart)} → AfterPart so_far (Symbol Bar at ∷ w) t → NextPart so_far w t
 bar_from (after_part last_part e) = absurd cc
 bar_from (after_part (more_parts p m) e) = next_part p (after_part m e)
@@ -129,33 +120,3 @@ pub no_symbol : (so_far : List TypePart) (x : Terminal) → ((s : SomeSymbol) (a
     (w : List Terminal) (t : Read (List TypePart)) → AfterPart so_far (x ∷ w) t → ⊥
 no_symbol so_far x n w t (after_part last_part e) = no_type_ends x w n e
 no_symbol so_far x n w t (after_part (more_parts {at} p m) e) = n Bar at refl
-
--- No state is complete without a further token.
-no_end_part : {so_far : List TypePart} {t : Read (List TypePart)} → NextPart so_far [] t → ⊥
-no_end_part (next_part (set v) a) = elim v [ ]
-
-no_end_labels_in : {so_far : List TypePart} {at : ℕ} {s : LabelParser} {t : Read (List TypePart)} → InLabels so_far at s [] t → ⊥
-no_end_labels_in {s = s} (in_labels labels us c a) = no_end_labels s (read labels us) c
-
-no_end_after : {so_far : List TypePart} {t : Read (List TypePart)} → AfterPart so_far [] t → ⊥
-no_end_after (after_part last_part e) = e
-
-no_end_in : (so_far : List TypePart) (m : Mode) (t : Read (List TypePart)) → CompletesIn so_far m [] t → ⊥
-no_end_in so_far Part t h = no_end_part h
-no_end_in so_far (InVariant at s) t h = no_end_labels_in h
-no_end_in so_far After t h = no_end_after h
-
-pub no_end : (s : TypeParser) (t : Read (List TypePart)) → Completes s [] t → ⊥
-no_end s t h = no_end_in s.parts s.mode t h
-
--- Each state can be completed, whatever follows a type.
-completable_in : (so_far : List TypePart) (m : Mode) (us : List Terminal) → EndsType us →
-    (w : List Terminal) × (all : List TypePart) × CompletesIn so_far m w (read all us)
-completable_in so_far Part us e = (Name a_name ∷ us, so_far ++ (Named a_name ∷ []), next_part named (after_part last_part e))
-completable_in so_far (InVariant at s) us e =
-    let r = completable_labels s us in
-    (r.0, so_far ++ (Set (record { labels = r.1; at = at }) ∷ []), in_labels r.1 us r.2 (after_part last_part e))
-completable_in so_far After us e = (us, so_far, after_part last_part e)
-
-pub completable : (s : TypeParser) (us : List Terminal) → EndsType us → (w : List Terminal) × (all : List TypePart) × Completes s w (read all us)
-completable s us e = completable_in s.parts s.mode us e
