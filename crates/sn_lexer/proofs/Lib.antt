@@ -1,1 +1,3 @@
+pub mod Heads
+pub mod Tables
 pub mod Widths

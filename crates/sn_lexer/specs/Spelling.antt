@@ -10,7 +10,7 @@ use Rattle.sn_lexer.specs.declared.token.TokenKind.TheVariants.{Ident, Keyword, 
 
 -- the word stands in the table
 abbrev pub is_among : List (List ℕ) → List ℕ → Bool
-is_among table word = list_any (λ entry. pointwise nat_eq word entry) table
+is_among table word = list_any (λ entry. pointwise nat_eq entry word) table
 
 -- a letter as Unicode has it, or an underscore
 abbrev pub starts_name : ℕ → Bool
@@ -38,7 +38,8 @@ pub record IsTag (word : List ℕ) : Type 0 where
 
 -- one digit or more
 abbrev pub is_numeral : List ℕ → Bool
-is_numeral word = nat_lt 0 (length word) && list_all is_ascii_digit word
+is_numeral [] = false
+is_numeral (c ∷ cs) = list_all is_ascii_digit (c ∷ cs)
 
 abbrev pub is_printable : ℕ → Bool
 is_printable c = nat_le 32 c && nat_le c 126

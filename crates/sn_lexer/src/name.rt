@@ -17,7 +17,7 @@ const KEYWORDS: [&str; 12] = [
 fn is_keyword(word: &[u8]) -> bool
     ensures { result ≡ is_among keywords word.now }
 {
-    KEYWORDS.iter().any(|keyword| word == keyword.as_bytes())
+    KEYWORDS.iter().any(|keyword| keyword.as_bytes() == word)
 }
 
 fn starts_name(c: char) -> bool
