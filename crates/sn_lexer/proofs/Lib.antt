@@ -1,3 +1,5 @@
 pub mod Heads
+pub mod WordKinds
+pub mod Runs
 pub mod Tables
 pub mod Widths
