@@ -1,4 +1,6 @@
+pub mod Contents
 pub mod Heads
+pub mod Longest
 pub mod WordKinds
 pub mod Runs
 pub mod Tables

@@ -19,22 +19,22 @@ no_empty Number s = false≢true s
 no_empty Text s = let e = s.written in cc
 no_empty Symbol s = symbol_filled s
 
-digit_is : (c : ℕ) (cs : List ℕ) → is_numeral (c ∷ cs) ≡ true → is_ascii_digit c ≡ true
+pub digit_is : (c : ℕ) (cs : List ℕ) → is_numeral (c ∷ cs) ≡ true → is_ascii_digit c ≡ true
 digit_is c cs h = (and_parts (is_ascii_digit c) (list_all is_ascii_digit cs) h).0
 
-digit_below : (c : ℕ) → is_ascii_digit c ≡ true → c ≤ 57
+pub digit_below : (c : ℕ) → is_ascii_digit c ≡ true → c ≤ 57
 digit_below c h = grind (arith, nat_tests)
 
-digit_above : (c : ℕ) → is_ascii_digit c ≡ true → 48 ≤ c
+pub digit_above : (c : ℕ) → is_ascii_digit c ≡ true → 48 ≤ c
 digit_above c h = grind (arith, nat_tests)
 
-name_starts : (c : ℕ) (cs : List ℕ) → is_name (c ∷ cs) ≡ true → starts_name c ≡ true
+pub name_starts : (c : ℕ) (cs : List ℕ) → is_name (c ∷ cs) ≡ true → starts_name c ≡ true
 name_starts c cs h = (and_parts (starts_name c) _ h).0
 
-identifier_name : (word : List ℕ) → is_identifier word ≡ true → is_name word ≡ true
+pub identifier_name : (word : List ℕ) → is_identifier word ≡ true → is_name word ≡ true
 identifier_name word h = (and_parts (is_name word) (not (is_keyword word)) h).0
 
-name_filled : (word : List ℕ) → is_name word ≡ true → 0 < length word
+pub name_filled : (word : List ℕ) → is_name word ≡ true → 0 < length word
 name_filled [] h = absurd (false≢true h)
 name_filled (c ∷ cs) h = omega arith
 
@@ -88,7 +88,7 @@ mark_at Number c cs s starts digit quote = absurd (false≢true (sym digit ∙ d
 mark_at Text c cs s starts digit quote = absurd (quote (text_opens c cs s))
 mark_at Symbol c cs s starts digit quote = inr s
 
-fails : (b : Bool) → (b ≡ true → ⊥) → b ≡ false
+pub fails : (b : Bool) → (b ≡ true → ⊥) → b ≡ false
 fails true h = absurd (h refl)
 fails false h = refl
 
