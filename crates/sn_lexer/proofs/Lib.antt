@@ -3,5 +3,8 @@ pub mod Heads
 pub mod Longest
 pub mod WordKinds
 pub mod Runs
+pub mod Symbols
 pub mod Tables
+pub mod Tags
+pub mod Tokens
 pub mod Widths

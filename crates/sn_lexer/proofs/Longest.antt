@@ -93,11 +93,7 @@ symbol_longest (c ∷ word) rest symbol longest no_tag kind (d ∷ other) more s
       | inr is_one ↦ longest (d ∷ other) more is_one same
     ]
 
--- a symbol of two characters
-pub pair_longest : (c d : ℕ) (other : List ℕ) → is_symbol other ≡ true → length other ≤ length (c ∷ d ∷ [])
-pair_longest c d other symbol = symbol_short other symbol
-
-cons_parts : (c d : ℕ) (xs ys : List ℕ) → c ∷ xs ≡ d ∷ ys → (c ≡ d) × (xs ≡ ys)
+pub cons_parts : (c d : ℕ) (xs ys : List ℕ) → c ∷ xs ≡ d ∷ ys → (c ≡ d) × (xs ≡ ys)
 cons_parts c d xs ys same = (cc, cc)
 
 tag_second : (d : ℕ) (rest name more : List ℕ) → starts_name d ≡ false → is_name name ≡ true → d ∷ rest ≡ (name ++ 62 ∷ []) ++ more → ⊥

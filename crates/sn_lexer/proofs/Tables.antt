@@ -1,9 +1,11 @@
 -- Words that stand in a table.
 use Rattle.std.proofs.Common.{◌≡◌, ℕ, ◌&&◌, ◌||◌, Bool, true, false, nat_eq, nat_le, List, [], ◌∷◌, length, map, refl, sym, ap, ◌∙◌, subst}
+use Rattle.std.specs.Prelude.{encode_utf8_all}
 use Rattle.std.specs.List.{list_any, list_all}
+use Rattle.std.proofs.lemmas.Str.{encodes_same}
 use Rattle.std.specs.Cmp.Lexicographic.{pointwise, bytes_decides}
-use Rattle.std.proofs.lemmas.Bool.{false≢true, and_parts, eqb-true}
-use Rattle.sn_lexer.specs.Spelling.{is_among, lone_symbols, paired_symbols, is_symbol}
+use Rattle.std.proofs.lemmas.Bool.{false≢true, and_parts, eqb-true, eq-eqb}
+use Rattle.sn_lexer.specs.Spelling.{is_among, keywords, is_keyword, lone_symbols, paired_symbols, is_symbol}
 
 -- lists that are equal by test are one
 pub same_words : (xs ys : List ℕ) → pointwise nat_eq xs ys ≡ true → xs ≡ ys
@@ -74,3 +76,36 @@ unfolding is_symbol has_length
 pair_is a b =
     let no_single : is_among (map (λ x. x ∷ []) lone_symbols) (a ∷ b ∷ []) ≡ false = among_not (has_length 1) (map (λ x. x ∷ []) lone_symbols) (a ∷ b ∷ []) refl refl in
     ap (λ t. t || is_among paired_symbols (a ∷ b ∷ [])) no_single ∙ pairs_are a b symbol_pairs
+
+-- a list equals itself by test
+pub word_same : (xs : List ℕ) → pointwise nat_eq xs xs ≡ true
+word_same [] = refl
+word_same (x ∷ xs) = λ i. eq-eqb x x refl i && word_same xs i
+
+same_tests : (a b : Bool) → (a ≡ true → b ≡ true) → (b ≡ true → a ≡ true) → a ≡ b
+same_tests true true f g = refl
+same_tests true false f g = sym (f refl)
+same_tests false true f g = g refl
+same_tests false false f g = refl
+
+is_plain : List ℕ → Bool
+is_plain word = pointwise nat_eq (encode_utf8_all word) word
+
+-- a word's bytes stand in a table of plain words where the word does
+among_bytes : (table : List (List ℕ)) (word : List ℕ) → list_all is_plain table ≡ true → is_among table (encode_utf8_all word) ≡ is_among table word
+unfolding is_plain
+among_bytes [] word plain = refl
+among_bytes (entry ∷ table) word plain =
+    let parts = and_parts (is_plain entry) (list_all is_plain table) plain in
+    let bytes = same_words (encode_utf8_all entry) entry parts.0 in
+    let there : pointwise nat_eq entry (encode_utf8_all word) ≡ true → pointwise nat_eq entry word ≡ true =
+        λ h. let one = encodes_same entry word (bytes ∙ same_words entry (encode_utf8_all word) h) in
+        ap (pointwise nat_eq entry) (sym one) ∙ word_same entry in
+    let back : pointwise nat_eq entry word ≡ true → pointwise nat_eq entry (encode_utf8_all word) ≡ true =
+        λ h. let one = ap encode_utf8_all (sym (same_words entry word h)) ∙ bytes in
+        ap (pointwise nat_eq entry) one ∙ word_same entry in
+    λ i. same_tests _ _ there back i || among_bytes table word parts.1 i
+
+pub keyword_bytes : (word : List ℕ) → is_among keywords (encode_utf8_all word) ≡ is_keyword word
+unfolding is_keyword is_plain lib.Utf8.encode
+keyword_bytes word = among_bytes keywords word refl
