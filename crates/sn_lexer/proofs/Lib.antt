@@ -2,6 +2,8 @@ pub mod Contents
 pub mod Heads
 pub mod Longest
 pub mod WordKinds
+pub mod Names
+pub mod Options
 pub mod Runs
 pub mod Symbols
 pub mod Tables
