@@ -1,8 +1,10 @@
+pub mod Comments
 pub mod Contents
 pub mod Heads
 pub mod Longest
 pub mod WordKinds
 pub mod Names
+pub mod Numbers
 pub mod Options
 pub mod Runs
 pub mod Symbols
