@@ -6,6 +6,7 @@ pub mod WordKinds
 pub mod Names
 pub mod Numbers
 pub mod Options
+pub mod Passing
 pub mod Runs
 pub mod Symbols
 pub mod Tables
