@@ -7,6 +7,7 @@ pub mod Names
 pub mod Numbers
 pub mod Options
 pub mod Passing
+pub mod Pieces
 pub mod Runs
 pub mod Symbols
 pub mod Tables

@@ -22,7 +22,7 @@ use Rattle.sn_lexer.proofs.WordKinds.{no_empty, mark_at, name_starts, identifier
 use Rattle.sn_lexer.proofs.Contents.{written}
 use Rattle.sn_lexer.proofs.Longest.{name_longest, numeral_longest, text_longest, tag_longest, symbol_longest}
 
-not_slash : (c : ℕ) (cs : List ℕ) → (c ≡ 47 → ⊥) → opens_comment (c ∷ cs) ≡ false
+pub not_slash : (c : ℕ) (cs : List ℕ) → (c ≡ 47 → ⊥) → opens_comment (c ∷ cs) ≡ false
 not_slash c [] other = refl
 not_slash c (d ∷ cs) other = ap (λ b. b && ((d == 47) || (d == 42))) (ne_eqb c 47 other)
 

@@ -38,10 +38,10 @@ pub name_filled : (word : List ℕ) → is_name word ≡ true → 0 < length wor
 name_filled [] h = absurd (false≢true h)
 name_filled (c ∷ cs) h = omega arith
 
-tag_opens : (c : ℕ) (cs : List ℕ) → IsTag (c ∷ cs) → c ≡ 60
+pub tag_opens : (c : ℕ) (cs : List ℕ) → IsTag (c ∷ cs) → c ≡ 60
 tag_opens c cs s = let e = s.written in cc
 
-text_opens : (c : ℕ) (cs : List ℕ) → IsText (c ∷ cs) → c ≡ 34
+pub text_opens : (c : ℕ) (cs : List ℕ) → IsText (c ∷ cs) → c ≡ 34
 text_opens c cs s = let e = s.written in cc
 
 -- a tag is longer than any symbol
