@@ -5,6 +5,7 @@ pub mod Longest
 pub mod WordKinds
 pub mod Names
 pub mod Numbers
+pub mod Once
 pub mod Options
 pub mod Passing
 pub mod Pieces
