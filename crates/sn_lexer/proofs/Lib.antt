@@ -9,6 +9,7 @@ pub mod Once
 pub mod Options
 pub mod Passing
 pub mod Pieces
+pub mod Places
 pub mod Runs
 pub mod Symbols
 pub mod Tables

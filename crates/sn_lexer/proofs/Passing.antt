@@ -68,7 +68,7 @@ gap_passed (c ∷ cs) rest (blank b) = passed_of c cs rest record { word = []; f
 gap_passed (c ∷ d ∷ cs) rest (line_comment past) = passed_of c (d ∷ cs) rest (end_behind d cs rest (subst (IsEnd cs) (sym past) (line_end cs)))
 gap_passed (c ∷ d ∷ cs) rest (block_comment closed) = passed_of c (d ∷ cs) rest (end_behind d cs rest (closing_end cs rest closed))
 
-word_filled : (kind : TokenKind) (word : List ℕ) → Spells kind word → 0 < length word
+pub word_filled : (kind : TokenKind) (word : List ℕ) → Spells kind word → 0 < length word
 word_filled kind [] s = absurd (no_empty kind s)
 word_filled kind (c ∷ word) s = omega arith
 
