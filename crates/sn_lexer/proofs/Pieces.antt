@@ -77,7 +77,7 @@ Cases total [] p = ⊥
 Cases total (c ∷ cs) p =
     MatchBool (is_blank c) (p ≡ gap cs)
     (MatchBool (opens_comment (c ∷ cs)) (p ≡ comment_piece total (c ∷ cs))
-      (MatchBool (c == 34) (TextCase total (c ∷ cs) p) (WordCase total (c ∷ cs) p ⊎ NoCase total (c ∷ cs) p)))
+    (MatchBool (c == 34) (TextCase total (c ∷ cs) p) (WordCase total (c ∷ cs) p ⊎ NoCase total (c ∷ cs) p)))
 
 text_once : (total : ℕ) (cs : List ℕ) (p q : Piece) → TextCase total cs p → TextCase total cs q → p ≡ q
 text_once total cs p q s t =
@@ -108,7 +108,7 @@ cases_once total [] p q h h' = absurd h
 cases_once total (c ∷ cs) p q h h' =
     both_cases (is_blank c) p q (λ e f. e ∙ sym f)
     (both_cases (opens_comment (c ∷ cs)) p q (λ e f. e ∙ sym f)
-      (both_cases (c == 34) p q (text_once total (c ∷ cs) p q) (either_once total (c ∷ cs) p q))) h h'
+    (both_cases (c == 34) p q (text_once total (c ∷ cs) p q) (either_once total (c ∷ cs) p q))) h h'
 
 -- no word begins with a blank
 no_blank : (kind : TokenKind) (c : ℕ) (cs : List ℕ) → Spells kind (c ∷ cs) → is_blank c ≡ false
@@ -209,7 +209,7 @@ nothing_case : (total : ℕ) (cs : List ℕ) → BeginsNothing cs → Cases tota
 nothing_case total cs n =
     subst (λ xs. Cases total xs (fault (BadChar (place total xs)))) (sym n.written)
     (word_case total n.first n.rest _ n.no_blank (not_slash n.first n.rest (λ slash. n.no_word Symbol (47 ∷ []) n.rest slash_symbol (n.written ∙ ap (λ x. x ∷ n.rest) slash))) n.no_quote
-      (inr record { no_word = λ kind w more s same. n.no_word kind w more s (n.written ∙ same); is = refl }))
+    (inr record { no_word = λ kind w more s same. n.no_word kind w more s (n.written ∙ same); is = refl }))
 
 wrong_cases : (total : ℕ) (cs : List ℕ) (f : LexFault) → IsWrong total cs f → Cases total cs (fault f)
 wrong_cases total (c ∷ d ∷ cs) f (open_comment none) = sym (ap (closing_piece total (47 ∷ 42 ∷ cs)) none)

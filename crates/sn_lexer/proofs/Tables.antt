@@ -99,11 +99,11 @@ among_bytes (entry ∷ table) word plain =
     let parts = and_parts (is_plain entry) (list_all is_plain table) plain in
     let bytes = same_words (encode_utf8_all entry) entry parts.0 in
     let there : pointwise nat_eq entry (encode_utf8_all word) ≡ true → pointwise nat_eq entry word ≡ true =
-        λ h. let one = encodes_same entry word (bytes ∙ same_words entry (encode_utf8_all word) h) in
-        ap (pointwise nat_eq entry) (sym one) ∙ word_same entry in
+    λ h. let one = encodes_same entry word (bytes ∙ same_words entry (encode_utf8_all word) h) in
+    ap (pointwise nat_eq entry) (sym one) ∙ word_same entry in
     let back : pointwise nat_eq entry word ≡ true → pointwise nat_eq entry (encode_utf8_all word) ≡ true =
-        λ h. let one = ap encode_utf8_all (sym (same_words entry word h)) ∙ bytes in
-        ap (pointwise nat_eq entry) one ∙ word_same entry in
+    λ h. let one = ap encode_utf8_all (sym (same_words entry word h)) ∙ bytes in
+    ap (pointwise nat_eq entry) one ∙ word_same entry in
     λ i. same_tests _ _ there back i || among_bytes table word parts.1 i
 
 pub keyword_bytes : (word : List ℕ) → is_among keywords (encode_utf8_all word) ≡ is_keyword word

@@ -15,3 +15,6 @@ mod token;
 
 pub use lexing::lex;
 pub use token::{LexFault, Token, TokenKind};
+
+#[cfg(test)]
+mod tests;

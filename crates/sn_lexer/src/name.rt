@@ -50,7 +50,11 @@ pub fn read_name(text: &str) -> Option<(TokenKind, &str)>
     }
     let rest = after_name(inside);
     let name = &text.as_bytes()[..text.len() - rest.len()];
-    let kind = if is_keyword(name) { TokenKind::Keyword } else { TokenKind::Ident };
+    let kind = if is_keyword(name) {
+        TokenKind::Keyword
+    } else {
+        TokenKind::Ident
+    };
     Some((kind, rest))
 }
 

@@ -6,7 +6,8 @@ ghost use Rattle.sn_lexer.specs.Fronts.{BeginsNoSymbol, IsSymbolUpTo};
 use crate::text::split_first;
 
 const LONE: [char; 20] = [
-    '(', ')', '{', '}', '[', ']', ',', ';', ':', '=', '<', '>', '+', '-', '*', '/', '%', '|', '!', '?',
+    '(', ')', '{', '}', '[', ']', ',', ';', ':', '=', '<', '>', '+', '-', '*', '/', '%', '|', '!',
+    '?',
 ];
 
 const PAIRS: [(char, char); 12] = [
