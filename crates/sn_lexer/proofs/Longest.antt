@@ -106,4 +106,4 @@ tag_second d rest (e ∷ name) more no_start named same =
 pub pair_no_tag : (c d : ℕ) (rest : List ℕ) → is_symbol (c ∷ d ∷ []) ≡ true → BeginsNoTag (c ∷ d ∷ rest)
 pair_no_tag c d rest symbol word more tag same =
     let tail = (cons_parts c 60 (d ∷ rest) ((tag.name ++ 62 ∷ []) ++ more) (same ∙ ap (λ xs. xs ++ more) tag.written)).1 in
-    tag_second d rest tag.name more (symbol_second c d [] symbol) (identifier_name tag.name tag.identifier) tail
+    tag_second d rest tag.name more ((symbol_second c d [] symbol).starts) (identifier_name tag.name tag.identifier) tail

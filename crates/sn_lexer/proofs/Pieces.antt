@@ -143,7 +143,7 @@ gap_cases total (c ∷ d ∷ cs) rest (line_comment past) = ap gap past
 gap_cases total (c ∷ d ∷ cs) rest (block_comment closed) = sym (ap (closing_piece total (47 ∷ 42 ∷ cs)) closed)
 
 -- a text that was read, as its content up to the closing quote
-text_up_to : (w cs rest : List ℕ) → IsText w → cs ≡ w ++ rest → IsTextUpTo cs (34 ∷ rest)
+pub text_up_to : (w cs rest : List ℕ) → IsText w → cs ≡ w ++ rest → IsTextUpTo cs (34 ∷ rest)
 text_up_to w cs rest t is = record {
   content = t.content;
   printable = t.printable;

@@ -34,7 +34,7 @@ is_identifier word = is_name word && not (is_keyword word)
 pub record IsTag (word : List ℕ) : Type 0 where
   pub name : List ℕ
   pub identifier : IsTrue (is_identifier name)
-  pub written : word ≡ 60 ∷ (name ++ 62 ∷ [])
+  pub written : word ≡ codes "<" ++ (name ++ codes ">")
 
 -- one digit or more
 abbrev pub is_numeral : List ℕ → Bool
