@@ -1,21 +1,18 @@
 -- Words and what follows them: what a printer needs to show that its text has given tokens.
-use Rattle.std.proofs.Common.{◌≡◌, ℕ, ◌<◌, ◌≤◌, ◌&&◌, ◌||◌, ◌==◌, Bool, true, false, not, IsTrue, List, [], ◌∷◌, ◌++◌, append_assoc, refl, sym, ap, ◌∙◌, subst, arith}
-use Rattle.std.specs.Prelude.{if◌then◌else◌}
+use Rattle.std.proofs.Common.{◌≡◌, ℕ, ◌≤◌, ◌==◌, true, false, not, List, [], ◌∷◌, ◌++◌, append_assoc, refl, sym, ap, ◌∙◌, arith}
 use Rattle.std.specs.Char.{is_ascii_digit}
-use Rattle.std.proofs.lemmas.Bool.{false≢true, and_parts, not-true, eqb-true, eq-eqb, ne_eqb}
+use Rattle.std.proofs.lemmas.Bool.{false≢true, and_parts, not-true, eqb-true}
 use Rattle.std.proofs.lemmas.Bool.Decides.{nat_tests}
 use Rattle.unicode_ident.specs.Ident.{is_xid_continue}
 use Rattle.unicode_ident.proofs.IdentLemmas.{is_xid_continue-ascii}
 use Rattle.sn_lexer.specs.declared.token.TokenKind.{TokenKind}
 use Rattle.sn_lexer.specs.declared.token.TokenKind.TheVariants.{Ident, Keyword, Tag, Number, Text, Symbol}
-use Rattle.sn_lexer.specs.Spelling.{Spells, IsWithinLimit, IsTag, starts_name, is_name, is_keyword, is_symbol, is_identifier}
-use Rattle.sn_lexer.specs.Gaps.{is_blank, opens_comment, IsGap}
-use Rattle.sn_lexer.specs.Gaps.IsGap.{blank}
+use Rattle.sn_lexer.specs.Spelling.{Spells, IsWithinLimit, starts_name, is_name, is_keyword, is_symbol, is_identifier}
+use Rattle.sn_lexer.specs.Gaps.{is_blank, opens_comment}
 use Rattle.sn_lexer.specs.Lexes.{IsToken}
-use Rattle.sn_lexer.specs.Fronts.{Stops, BeginsNoTag, IsNameUpTo}
+use Rattle.sn_lexer.specs.Fronts.{Stops, BeginsNoTag}
 use Rattle.sn_lexer.proofs.Heads.{keyword_name, starts_above, symbol_second, symbol_filled, symbol_short, pair_no_comment}
 use Rattle.sn_lexer.proofs.WordKinds.{digit_above, fails}
-use Rattle.sn_lexer.proofs.Contents.{written}
 use Rattle.sn_lexer.proofs.Longest.{pair_no_tag}
 use Rattle.sn_lexer.proofs.Symbols.{NoPair, pair_symbol, lone_symbol}
 use Rattle.sn_lexer.proofs.Tags.{no_tag_open, no_tag_name}

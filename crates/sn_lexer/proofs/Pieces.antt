@@ -1,23 +1,21 @@
 -- What stands first in characters is one thing: a gap, a token or a refusal.
-use Rattle.std.proofs.Common.{◌≡◌, ℕ, ◌+◌, ◌<◌, ◌≤◌, ◌&&◌, ◌||◌, ◌==◌, Bool, true, false, not, IsTrue, List, [], ◌∷◌, ◌++◌, append_assoc, length, leb, refl, sym, ap, ◌∙◌, subst, inl, inr, arith}
+use Rattle.std.proofs.Common.{◌≡◌, ℕ, ◌<◌, ◌==◌, Bool, true, false, List, [], ◌∷◌, ◌++◌, append_assoc, refl, sym, ap, ◌∙◌, subst, inl, inr, arith}
 use Rattle.std.specs.Prelude.{Option, Some, None, ◌⊎◌, nat_le, MatchBool, if◌then◌else◌}
-use Rattle.std.specs.List.{list_all}
-use Rattle.std.specs.Char.{is_ascii_digit}
 use Rattle.std.specs.Str.Parse.{digits_value}
-use Rattle.std.proofs.lemmas.Bool.{false≢true, and_parts, eq-eqb, ne_eqb, eqb-true, eqb-false, le-leb, lt-leb}
+use Rattle.std.proofs.lemmas.Bool.{eq-eqb, ne_eqb, eqb-true, eqb-false, le-leb, lt-leb}
 use Rattle.std.proofs.lemmas.Bool.Decides.{nat_tests}
 use Rattle.sn_lexer.specs.declared.token.TokenKind.{TokenKind}
 use Rattle.sn_lexer.specs.declared.token.TokenKind.TheVariants.{Ident, Keyword, Tag, Number, Text, Symbol}
 use Rattle.sn_lexer.specs.declared.token.LexFault.{LexFault}
 use Rattle.sn_lexer.specs.declared.token.LexFault.TheVariants.{BadChar, NumberTooWide, TextOpen}
-use Rattle.sn_lexer.specs.Spelling.{Spells, IsWithinLimit, IsText, is_name, is_printable, is_symbol}
+use Rattle.sn_lexer.specs.Spelling.{Spells, IsWithinLimit, IsText, is_symbol}
 use Rattle.sn_lexer.specs.Gaps.{is_blank, opens_comment, from_line_end, after_first, after_closing, IsGap}
 use Rattle.sn_lexer.specs.Gaps.IsGap.{blank, line_comment, block_comment}
 use Rattle.sn_lexer.specs.Lexes.{place, Leads, IsToken, IsTextUpTo, IsBadEscape, BeginsNothing, IsWrong, leaves_open}
 use Rattle.sn_lexer.specs.Lexes.IsWrong.{open_comment, open_text, bad_escape, too_wide, bad_char}
 use Rattle.sn_lexer.proofs.Heads.{starts_above, symbol_head}
 use Rattle.sn_lexer.proofs.Tables.{lone_is}
-use Rattle.sn_lexer.proofs.WordKinds.{no_empty, name_starts, identifier_name, digit_is, digit_below, digit_above, text_at, tag_opens, text_opens, spelled_once}
+use Rattle.sn_lexer.proofs.WordKinds.{no_empty, name_starts, identifier_name, digit_is, digit_above, text_at, tag_opens, text_opens, spelled_once}
 use Rattle.sn_lexer.proofs.Heads.{keyword_name}
 use Rattle.sn_lexer.proofs.Runs.{same_front}
 use Rattle.sn_lexer.proofs.Contents.{written, goes_on, content_once, open_stops, wrong_stops}

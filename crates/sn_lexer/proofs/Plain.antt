@@ -1,12 +1,12 @@
 -- Words that are their own bytes: all but names and tags.
-use Rattle.std.proofs.Common.{◌≡◌, ℕ, ◌<◌, ◌&&◌, ◌||◌, ◌==◌, Bool, true, false, IsTrue, List, [], ◌∷◌, ◌++◌, refl, sym, ap, ◌∙◌, arith}
+use Rattle.std.proofs.Common.{◌≡◌, ℕ, ◌&&◌, Bool, true, false, List, [], ◌∷◌, ◌++◌, refl, sym, ap, ◌∙◌, arith}
 use Rattle.std.specs.Prelude.{encode_utf8_all, if◌then◌else◌}
-use Rattle.std.specs.List.{list_all, flat_map}
+use Rattle.std.specs.List.{list_all}
 use Rattle.std.specs.Char.{is_ascii_digit}
 use Rattle.std.proofs.lemmas.Bool.{and_parts, ltb-true}
 use Rattle.std.proofs.lemmas.Bool.Decides.{nat_tests}
 use Rattle.std.proofs.lemmas.Str.{encode_ascii, encodes_same}
-use Rattle.sn_lexer.specs.Spelling.{IsText, is_keyword, is_numeral, is_symbol, is_printable, is_escapable, escaped, quoted}
+use Rattle.sn_lexer.specs.Spelling.{IsText, is_keyword, is_numeral, is_symbol, is_printable, is_escapable, escaped}
 use Rattle.sn_lexer.proofs.Heads.{is_ascii, symbol_ascii, keyword_ascii}
 use Rattle.sn_lexer.proofs.Contents.{written}
 
