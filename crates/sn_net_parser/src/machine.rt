@@ -11,7 +11,8 @@ use crate::post;
 use sn_ast::{Kept, NetExpr, Seq, Terminal, Variant};
 use sn_expr_parser::TagParser;
 use sn_filter_parser::FilterParser;
-use sn_list::{Memory, Stack};
+use sn_list::Memory;
+use sn_stack::Stack;
 use sn_type_parser::LabelParser;
 use std::alloc::Global;
 

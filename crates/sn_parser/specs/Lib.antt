@@ -1,2 +1,0 @@
-pub mod Residual
-pub mod Scopes
