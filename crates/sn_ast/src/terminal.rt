@@ -1,6 +1,6 @@
 ghost use Rattle.std.specs.Prelude.{◌≡◌, ℕ, MatchOption};
-ghost use Rattle.sn_ast.specs.declared.terminal.Terminal.TheVariants as some_terminal;
 ghost use Rattle.sn_ast.specs.Terminals.{closing, infix_of, label_of, link_of, place_of, sign_of};
+ghost use Rattle.sn_ast.specs.declared.terminal.Terminal.TheVariants as some_terminal;
 
 use crate::label::{Ident, LabelAt};
 use crate::tag_expr::Operator;

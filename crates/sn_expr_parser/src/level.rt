@@ -6,7 +6,8 @@ ghost use Rattle.sn_expr_parser.specs.Levels.{fresh, signed, operated, conjoined
 
 use sn_ast::measure::{boxed, join, raise};
 use sn_ast::{Boxed, Infix, Kept, Measured, Operator, Sign};
-use sn_list::{Memory, Stack};
+use sn_list::Memory;
+use sn_stack::Stack;
 use std::alloc::Global;
 
 /// An expression that signs and operators make greater ones of.

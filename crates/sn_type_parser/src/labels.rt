@@ -101,7 +101,7 @@ fn label(bracket: Bracket, labels: Seq<LabelAt>, token: Terminal) -> Result<Labe
         return Err(LabelStop::Refused);
     };
     let mut labels = labels;
-    labels.append(label)?;
+    sn_stack::append(&mut labels, label)?;
     Ok(LabelStep::More(LabelParser {
         bracket,
         labels,

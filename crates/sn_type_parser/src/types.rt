@@ -140,7 +140,7 @@ fn after(parts: Seq<TypePart>, part: TypePart) -> Result<TypeParser, Memory>
     ensures { IfOk result (λ s. s ≡ record { parts = parts ++ part ∷ []; mode = After }) }
 {
     let mut parts = parts;
-    parts.append(part)?;
+    sn_stack::append(&mut parts, part)?;
     Ok(TypeParser {
         parts,
         mode: Mode::After,
