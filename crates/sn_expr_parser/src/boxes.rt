@@ -17,7 +17,8 @@ use crate::box_node::{Head, binding, conditional, next_step, sequence};
 use crate::level::Level;
 use sn_ast::measure::{append, leaf, no_row, parens};
 use sn_ast::{BExpr, BForm, Ident, Infix, Kept, Keyword, Seq, Symbol, Terminal};
-use sn_list::{Memory, Stack};
+use sn_list::Memory;
+use sn_stack::Stack;
 use std::alloc::Global;
 
 /// Why a step answers no parser: memory was wanted and not had, or no expression goes on with the token, or the

@@ -86,7 +86,7 @@ pub fn bracket(
             },
         });
     }
-    in_filter(alloc, around, FilterParser::start(alloc, at), token)
+    in_filter(alloc, around, FilterParser::start(at), token)
 }
 
 /// Takes a token of a filter.
