@@ -1,7 +1,8 @@
-ghost use Rattle.std.specs.Prelude.{◌≡◌};
-ghost use Rattle.sn_ast.specs.Terminals.{closing, infix_of, link_of, place_of, sign_of};
+ghost use Rattle.std.specs.Prelude.{◌≡◌, ℕ, MatchOption};
+ghost use Rattle.sn_ast.specs.Terminals.{closing, infix_of, label_of, link_of, place_of, sign_of};
+ghost use Rattle.sn_ast.specs.declared.terminal.Terminal.TheVariants as some_terminal;
 
-use crate::label::Ident;
+use crate::label::{Ident, LabelAt};
 use crate::tag_expr::Operator;
 use sn_record::Text;
 
@@ -166,6 +167,36 @@ pub enum Terminal {
 }
 
 impl Terminal {
+    /// The token's place, if it is this symbol.
+    pub fn symbol_at(&self, symbol: Symbol) -> Option<u32>
+        ensures { MatchOption result ((at : ℕ) → self.now ≡ some_terminal.Symbol symbol at → ⊥) (λ at. self.now ≡ some_terminal.Symbol symbol at) }
+    {
+        match self {
+            Terminal::Symbol { symbol: this, at } => {
+                if *this == symbol {
+                    return Some(*at);
+                }
+                None
+            }
+            _ => None,
+        }
+    }
+
+    /// The token's place, if it is this keyword.
+    pub fn keyword_at(&self, keyword: Keyword) -> Option<u32>
+        ensures { MatchOption result ((at : ℕ) → self.now ≡ some_terminal.Keyword keyword at → ⊥) (λ at. self.now ≡ some_terminal.Keyword keyword at) }
+    {
+        match self {
+            Terminal::Keyword { keyword: this, at } => {
+                if *this == keyword {
+                    return Some(*at);
+                }
+                None
+            }
+            _ => None,
+        }
+    }
+
     pub fn place(&self) -> u32
         ensures { result ≡ place_of self.now }
     {
@@ -176,6 +207,17 @@ impl Terminal {
             Terminal::Literal { at, .. } => *at,
             Terminal::Keyword { at, .. } => *at,
             Terminal::Symbol { at, .. } => *at,
+        }
+    }
+
+    /// The label that the token is, if it is a name or a tag.
+    pub fn into_label(self) -> Option<LabelAt>
+        ensures { result ≡ label_of self }
+    {
+        match self {
+            Terminal::Name(name) => Some(LabelAt { tag: false, name }),
+            Terminal::Tag(name) => Some(LabelAt { tag: true, name }),
+            _ => None,
         }
     }
 }

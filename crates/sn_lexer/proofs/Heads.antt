@@ -1,15 +1,17 @@
 -- What the first character of a word says of its kind.
-use Rattle.std.proofs.Common.{◌≡◌, ℕ, ◌<◌, ◌≤◌, ◌&&◌, ◌||◌, ◌==◌, Bool, true, false, not, nat_eq, nat_lt, nat_le, List, [], ◌∷◌, ◌++◌, length, map, refl, sym, ap, ◌∙◌, subst, inl, inr, arith}
-use Rattle.std.specs.Prelude.{◌⊎◌}
+use Rattle.std.proofs.Common.{◌≡◌, ℕ, ◌<◌, ◌≤◌, ◌&&◌, ◌||◌, ◌==◌, Bool, true, false, not, nat_lt, List, [], ◌∷◌, length, map, refl, sym, ap, ◌∙◌, inl, inr, arith}
 use Rattle.std.specs.List.{list_all}
-use Rattle.std.specs.Char.{is_ascii_alphabetic, is_ascii_alphanumeric, is_ascii_digit, is_ascii_lowercase}
-use Rattle.std.proofs.lemmas.Bool.{false≢true, and_parts, cases_lt}
+use Rattle.std.specs.Char.{is_ascii_alphabetic, is_ascii_digit, is_ascii_lowercase}
+use Rattle.std.proofs.lemmas.Bool.{false≢true, and_parts, not-true, cases_lt}
 use Rattle.std.proofs.lemmas.Bool.Decides.{nat_tests}
-use Rattle.unicode_ident.specs.Ident.{is_xid_start, is_xid_continue}
+use Rattle.unicode_ident.specs.Ident.{is_xid_continue}
 use Rattle.unicode_ident.proofs.IdentLemmas.{is_xid_start-ascii, is_xid_continue-ascii}
 use Rattle.sn_lexer.specs.Spelling.{starts_name, is_name, is_keyword, keywords, is_symbol, lone_symbols, paired_symbols, is_among}
-use Rattle.sn_lexer.specs.Gaps.{is_blank}
+use Rattle.sn_lexer.specs.Gaps.{is_blank, opens_comment}
 use Rattle.sn_lexer.proofs.Tables.{among_then}
+
+abbrev pub is_ascii : ℕ → Bool
+is_ascii c = nat_lt c 128
 
 -- below 128 a name begins with a letter or an underscore
 pub starts_name_ascii : (c : ℕ) → c < 128 → starts_name c ≡ (is_ascii_alphabetic c || (c == 95))
@@ -75,28 +77,44 @@ mark_is c h =
       blank = grind (arith, nat_tests);
     }
 
--- a symbol is one or two characters, the first a mark, and the second begins no name
+-- a symbol is one mark or two
 abbrev is_symbol_form : List ℕ → Bool
 is_symbol_form [] = false
 is_symbol_form (a ∷ []) = is_mark a
 is_symbol_form (a ∷ b ∷ []) = is_mark a && is_mark b
 is_symbol_form _ = false
 
-symbol_form : (word : List ℕ) → is_symbol word ≡ true → is_symbol_form word ≡ true
+-- what holds of each symbol of the tables holds of a symbol
+symbol_then : (P : List ℕ → Bool) (word : List ℕ) → is_symbol word ≡ true → list_all P (map (λ c. c ∷ []) lone_symbols) ≡ true → list_all P paired_symbols ≡ true → P word ≡ true
 unfolding is_symbol
-symbol_form word h =
-    elim (is_among (map (λ c. c ∷ []) lone_symbols) word) as (λ b. is_among (map (λ c. c ∷ []) lone_symbols) word ≡ b → (b || is_among paired_symbols word) ≡ true → is_symbol_form word ≡ true) [
-      | true ↦ λ e s. among_then is_symbol_form (map (λ c. c ∷ []) lone_symbols) word e refl
-      | false ↦ λ e s. among_then is_symbol_form paired_symbols word s refl
+symbol_then P word h lone paired =
+    elim (is_among (map (λ c. c ∷ []) lone_symbols) word) as (λ b. is_among (map (λ c. c ∷ []) lone_symbols) word ≡ b → (b || is_among paired_symbols word) ≡ true → P word ≡ true) [
+      | true ↦ λ e s. among_then P (map (λ c. c ∷ []) lone_symbols) word e lone
+      | false ↦ λ e s. among_then P paired_symbols word s paired
     ] refl h
+
+symbol_form : (word : List ℕ) → is_symbol word ≡ true → is_symbol_form word ≡ true
+symbol_form word h = symbol_then is_symbol_form word h refl refl
+
+-- no symbol of two characters opens a comment
+pub pair_no_comment : (a b : ℕ) (rest : List ℕ) → is_symbol (a ∷ b ∷ []) ≡ true → opens_comment (a ∷ b ∷ rest) ≡ false
+pair_no_comment a b rest h = not-true (opens_comment (a ∷ b ∷ [])) (symbol_then (λ word. not (opens_comment word)) (a ∷ b ∷ []) h refl refl)
+
+-- a symbol's characters are ASCII
+pub symbol_ascii : (word : List ℕ) → is_symbol word ≡ true → list_all is_ascii word ≡ true
+symbol_ascii word h = symbol_then (list_all is_ascii) word h refl refl
+
+pub keyword_ascii : (word : List ℕ) → is_keyword word ≡ true → list_all is_ascii word ≡ true
+unfolding is_keyword
+keyword_ascii word h = among_then (list_all is_ascii) keywords word h refl
 
 pub symbol_head : (c : ℕ) (cs : List ℕ) → is_symbol (c ∷ cs) ≡ true → IsMark c
 symbol_head c [] h = mark_is c (symbol_form (c ∷ []) h)
 symbol_head c (d ∷ []) h = mark_is c (and_parts (is_mark c) (is_mark d) (symbol_form (c ∷ d ∷ []) h)).0
 symbol_head c (d ∷ e ∷ cs) h = absurd (false≢true (symbol_form (c ∷ d ∷ e ∷ cs) h))
 
-pub symbol_second : (c d : ℕ) (cs : List ℕ) → is_symbol (c ∷ d ∷ cs) ≡ true → starts_name d ≡ false
-symbol_second c d [] h = (mark_is d (and_parts (is_mark c) (is_mark d) (symbol_form (c ∷ d ∷ []) h)).1).starts
+pub symbol_second : (c d : ℕ) (cs : List ℕ) → is_symbol (c ∷ d ∷ cs) ≡ true → IsMark d
+symbol_second c d [] h = mark_is d (and_parts (is_mark c) (is_mark d) (symbol_form (c ∷ d ∷ []) h)).1
 symbol_second c d (e ∷ cs) h = absurd (false≢true (symbol_form (c ∷ d ∷ e ∷ cs) h))
 
 pub symbol_filled : is_symbol [] ≡ true → ⊥

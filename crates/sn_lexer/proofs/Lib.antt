@@ -1,5 +1,6 @@
 pub mod Comments
 pub mod Contents
+pub mod Followed
 pub mod Heads
 pub mod Longest
 pub mod WordKinds
@@ -10,6 +11,7 @@ pub mod Options
 pub mod Passing
 pub mod Pieces
 pub mod Places
+pub mod Plain
 pub mod Runs
 pub mod Symbols
 pub mod Tables

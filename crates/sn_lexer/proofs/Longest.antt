@@ -1,17 +1,17 @@
 -- The words that are the longest in front of characters: what was read goes on as far as it may.
-use Rattle.std.proofs.Common.{◌≡◌, ℕ, suc, ◌+◌, ◌<◌, ◌≤◌, ◌&&◌, ◌||◌, ◌==◌, Bool, true, false, not, IsTrue, List, [], ◌∷◌, ◌++◌, length, length-append, append_assoc, refl, sym, ap, ◌∙◌, subst, inl, inr, arith}
+use Rattle.std.proofs.Common.{◌≡◌, ℕ, ◌≤◌, true, false, List, [], ◌∷◌, ◌++◌, length, length-append, append_assoc, refl, sym, ap, ◌∙◌, subst, inl, inr, arith}
 use Rattle.std.specs.Prelude.{◌⊎◌}
-use Rattle.std.specs.List.{list_all, flat_map}
+use Rattle.std.specs.List.{list_all}
 use Rattle.std.specs.Char.{is_ascii_digit}
 use Rattle.std.proofs.lemmas.Bool.{false≢true, and_parts}
 use Rattle.unicode_ident.specs.Ident.{is_xid_continue}
 use Rattle.sn_lexer.specs.declared.token.TokenKind.{TokenKind}
-use Rattle.sn_lexer.specs.Spelling.{Spells, IsTag, IsText, starts_name, is_name, is_numeral, is_symbol, is_identifier, is_printable, escaped, quoted}
+use Rattle.sn_lexer.specs.Spelling.{Spells, IsTag, starts_name, is_name, is_numeral, is_symbol, is_identifier, is_printable, quoted}
 use Rattle.sn_lexer.specs.Lexes.{IsLongest}
 use Rattle.sn_lexer.specs.Fronts.{Stops, BeginsNoTag}
 use Rattle.sn_lexer.proofs.Heads.{IsMark, symbol_head, symbol_second, symbol_filled, symbol_short, starts_name_ascii, angle_stops}
-use Rattle.sn_lexer.proofs.WordKinds.{no_empty, name_at, numeral_at, text_at, mark_at, identifier_name, name_starts, name_filled}
-use Rattle.sn_lexer.proofs.Runs.{run_longest, run_once}
+use Rattle.sn_lexer.proofs.WordKinds.{name_at, numeral_at, text_at, mark_at, identifier_name, name_starts, name_filled}
+use Rattle.sn_lexer.proofs.Runs.{run_longest}
 use Rattle.sn_lexer.proofs.Contents.{written, content_once}
 
 name_continues : (c : ℕ) (cs : List ℕ) → is_name (c ∷ cs) ≡ true → list_all is_xid_continue cs ≡ true
@@ -106,4 +106,4 @@ tag_second d rest (e ∷ name) more no_start named same =
 pub pair_no_tag : (c d : ℕ) (rest : List ℕ) → is_symbol (c ∷ d ∷ []) ≡ true → BeginsNoTag (c ∷ d ∷ rest)
 pair_no_tag c d rest symbol word more tag same =
     let tail = (cons_parts c 60 (d ∷ rest) ((tag.name ++ 62 ∷ []) ++ more) (same ∙ ap (λ xs. xs ++ more) tag.written)).1 in
-    tag_second d rest tag.name more (symbol_second c d [] symbol) (identifier_name tag.name tag.identifier) tail
+    tag_second d rest tag.name more ((symbol_second c d [] symbol).starts) (identifier_name tag.name tag.identifier) tail

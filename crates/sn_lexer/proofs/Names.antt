@@ -1,13 +1,12 @@
 -- The name in front.
-use Rattle.std.proofs.Common.{◌≡◌, ℕ, ◌-◌, ◌≤◌, ◌&&◌, Bool, true, false, IsTrue, List, [], ◌∷◌, ◌++◌, length, take, refl, sym, ap, ◌∙◌, subst}
-use Rattle.std.specs.Prelude.{if◌then◌else◌, encode_utf8_all}
-use Rattle.std.specs.List.{list_all}
+use Rattle.std.proofs.Common.{◌≡◌, ℕ, ◌-◌, ◌≤◌, ◌&&◌, Bool, true, List, ◌∷◌, ◌++◌, length, take, sym, ap, ◌∙◌, subst}
+use Rattle.std.specs.Prelude.{if◌then◌else◌}
 use Rattle.std.specs.Str.{IsUtf8, chars}
 use Rattle.unicode_ident.specs.Ident.{is_xid_continue}
 use Rattle.sn_lexer.specs.declared.token.TokenKind.{TokenKind}
 use Rattle.sn_lexer.specs.declared.token.TokenKind.TheVariants.{Ident, Keyword}
-use Rattle.sn_lexer.specs.Spelling.{starts_name, is_name, is_keyword, keywords, is_among}
-use Rattle.sn_lexer.specs.Fronts.{past, Stops, IsNameUpTo}
+use Rattle.sn_lexer.specs.Spelling.{starts_name, keywords, is_among}
+use Rattle.sn_lexer.specs.Fronts.{past, IsNameUpTo}
 use Rattle.sn_lexer.proofs.Runs.{IsRun, run_past}
 use Rattle.sn_lexer.proofs.Tables.{keyword_bytes}
 use Rattle.sn_lexer.proofs.Widths.{rest_shorter, word_bytes}

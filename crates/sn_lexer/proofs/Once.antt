@@ -1,7 +1,7 @@
 -- A source has one answer: its tokens, or one refusal.
-use Rattle.std.proofs.Common.{◌≡◌, ℕ, List, [], ◌∷◌, length, refl, sym, ap, ◌∙◌, subst, inl, inr}
+use Rattle.std.proofs.Common.{◌≡◌, ℕ, List, [], ◌∷◌, length, refl, sym, subst, inl, inr}
 use Rattle.std.specs.Prelude.{Result, Ok, Err, MatchResult, ◌⊎◌}
-use Rattle.std.specs.Str.{IsUtf8, chars}
+use Rattle.std.specs.Str.{chars}
 use Rattle.sn_lexer.specs.declared.token.TokenKind.{TokenKind}
 use Rattle.sn_lexer.specs.declared.token.Token.{Token}
 use Rattle.sn_lexer.specs.declared.token.LexFault.{LexFault}
@@ -11,7 +11,7 @@ use Rattle.sn_lexer.specs.Lexes.{IsToken, IsWrong, token_at, Lexes, Refuses}
 use Rattle.sn_lexer.specs.Lexes.Lexes.{end, gap as gap_then, token as token_then}
 use Rattle.sn_lexer.specs.Lexes.Refuses.{here, after_gap, after_token}
 use Rattle.sn_lexer.specs.Answer.{LexesAs, IsRefused, IsFault}
-use Rattle.sn_lexer.proofs.Pieces.{First, first_once, nothing_first}
+use Rattle.sn_lexer.proofs.Pieces.{first_once, nothing_first}
 use Rattle.sn_lexer.proofs.Pieces.Piece.{gap, word, fault}
 
 module _ (total : ℕ) (cs : List ℕ) where

@@ -1,6 +1,6 @@
 -- What is passed in front, and what was passed so far.
-use Rattle.std.proofs.Common.{◌≡◌, ℕ, zero, suc, ◌+◌, ◌<◌, ◌≤◌, ◌==◌, Bool, true, false, IsTrue, List, [], ◌∷◌, ◌++◌, append_assoc, append-nil, length, length-append, refl, sym, ap, ◌∙◌, subst, inl, inr, arith}
-use Rattle.std.specs.Prelude.{Option, Some, None, ◌⊎◌, if◌then◌else◌}
+use Rattle.std.proofs.Common.{◌≡◌, ℕ, ◌<◌, ◌==◌, true, false, List, [], ◌∷◌, ◌++◌, append_assoc, append-nil, length, length-append, refl, sym, ap, ◌∙◌, subst, inl, inr, arith}
+use Rattle.std.specs.Prelude.{Some, if◌then◌else◌}
 use Rattle.std.specs.Str.{IsUtf8, chars}
 use Rattle.sn_lexer.specs.declared.token.TokenKind.{TokenKind}
 use Rattle.sn_lexer.specs.declared.token.Token.{Token}
@@ -9,13 +9,12 @@ use Rattle.sn_lexer.specs.declared.token.LexFault.TheVariants.{BadUtf8, BadChar,
 use Rattle.sn_lexer.specs.Spelling.{Spells}
 use Rattle.sn_lexer.specs.Gaps.{is_blank, from_line_end, closes_comment, after_first, after_closing, IsGap}
 use Rattle.sn_lexer.specs.Gaps.IsGap.{blank, line_comment, block_comment}
-use Rattle.sn_lexer.specs.Lexes.{place, IsToken, IsWrong, token_at, Lexes, Refuses}
+use Rattle.sn_lexer.specs.Lexes.{place, IsToken, token_at, Lexes, Refuses}
 use Rattle.sn_lexer.specs.Lexes.Lexes.{end, gap, token}
 use Rattle.sn_lexer.specs.Lexes.Refuses.{here, after_gap, after_token}
-use Rattle.sn_lexer.specs.Lexes.IsWrong.{open_comment, open_text, bad_escape, too_wide, bad_char}
 use Rattle.sn_lexer.specs.Fronts.{Advances, IsStopped}
 use Rattle.sn_lexer.specs.Fronts.Advances.{past_gap, past_token}
-use Rattle.sn_lexer.specs.Answer.{IsRefused, IsFault}
+use Rattle.sn_lexer.specs.Answer.{IsFault}
 use Rattle.sn_lexer.proofs.WordKinds.{no_empty}
 
 pub blank_gap : (cs : List ℕ) (c : ℕ) (rest : List ℕ) → cs ≡ c ∷ rest → is_blank c ≡ true → IsGap cs rest

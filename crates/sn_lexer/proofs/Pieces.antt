@@ -1,23 +1,21 @@
 -- What stands first in characters is one thing: a gap, a token or a refusal.
-use Rattle.std.proofs.Common.{◌≡◌, ℕ, ◌+◌, ◌<◌, ◌≤◌, ◌&&◌, ◌||◌, ◌==◌, Bool, true, false, not, IsTrue, List, [], ◌∷◌, ◌++◌, append_assoc, length, leb, refl, sym, ap, ◌∙◌, subst, inl, inr, arith}
+use Rattle.std.proofs.Common.{◌≡◌, ℕ, ◌<◌, ◌==◌, Bool, true, false, List, [], ◌∷◌, ◌++◌, append_assoc, refl, sym, ap, ◌∙◌, subst, inl, inr, arith}
 use Rattle.std.specs.Prelude.{Option, Some, None, ◌⊎◌, nat_le, MatchBool, if◌then◌else◌}
-use Rattle.std.specs.List.{list_all}
-use Rattle.std.specs.Char.{is_ascii_digit}
 use Rattle.std.specs.Str.Parse.{digits_value}
-use Rattle.std.proofs.lemmas.Bool.{false≢true, and_parts, eq-eqb, ne_eqb, eqb-true, eqb-false, le-leb, lt-leb}
+use Rattle.std.proofs.lemmas.Bool.{eq-eqb, ne_eqb, eqb-true, eqb-false, le-leb, lt-leb}
 use Rattle.std.proofs.lemmas.Bool.Decides.{nat_tests}
 use Rattle.sn_lexer.specs.declared.token.TokenKind.{TokenKind}
 use Rattle.sn_lexer.specs.declared.token.TokenKind.TheVariants.{Ident, Keyword, Tag, Number, Text, Symbol}
 use Rattle.sn_lexer.specs.declared.token.LexFault.{LexFault}
 use Rattle.sn_lexer.specs.declared.token.LexFault.TheVariants.{BadChar, NumberTooWide, TextOpen}
-use Rattle.sn_lexer.specs.Spelling.{Spells, IsWithinLimit, IsText, is_name, is_printable, is_symbol}
+use Rattle.sn_lexer.specs.Spelling.{Spells, IsWithinLimit, IsText, is_symbol}
 use Rattle.sn_lexer.specs.Gaps.{is_blank, opens_comment, from_line_end, after_first, after_closing, IsGap}
 use Rattle.sn_lexer.specs.Gaps.IsGap.{blank, line_comment, block_comment}
 use Rattle.sn_lexer.specs.Lexes.{place, Leads, IsToken, IsTextUpTo, IsBadEscape, BeginsNothing, IsWrong, leaves_open}
 use Rattle.sn_lexer.specs.Lexes.IsWrong.{open_comment, open_text, bad_escape, too_wide, bad_char}
 use Rattle.sn_lexer.proofs.Heads.{starts_above, symbol_head}
 use Rattle.sn_lexer.proofs.Tables.{lone_is}
-use Rattle.sn_lexer.proofs.WordKinds.{no_empty, name_starts, identifier_name, digit_is, digit_below, digit_above, text_at, tag_opens, text_opens, spelled_once}
+use Rattle.sn_lexer.proofs.WordKinds.{no_empty, name_starts, identifier_name, digit_is, digit_above, text_at, tag_opens, text_opens, spelled_once}
 use Rattle.sn_lexer.proofs.Heads.{keyword_name}
 use Rattle.sn_lexer.proofs.Runs.{same_front}
 use Rattle.sn_lexer.proofs.Contents.{written, goes_on, content_once, open_stops, wrong_stops}
@@ -77,7 +75,7 @@ Cases total [] p = ⊥
 Cases total (c ∷ cs) p =
     MatchBool (is_blank c) (p ≡ gap cs)
     (MatchBool (opens_comment (c ∷ cs)) (p ≡ comment_piece total (c ∷ cs))
-      (MatchBool (c == 34) (TextCase total (c ∷ cs) p) (WordCase total (c ∷ cs) p ⊎ NoCase total (c ∷ cs) p)))
+    (MatchBool (c == 34) (TextCase total (c ∷ cs) p) (WordCase total (c ∷ cs) p ⊎ NoCase total (c ∷ cs) p)))
 
 text_once : (total : ℕ) (cs : List ℕ) (p q : Piece) → TextCase total cs p → TextCase total cs q → p ≡ q
 text_once total cs p q s t =
@@ -108,7 +106,7 @@ cases_once total [] p q h h' = absurd h
 cases_once total (c ∷ cs) p q h h' =
     both_cases (is_blank c) p q (λ e f. e ∙ sym f)
     (both_cases (opens_comment (c ∷ cs)) p q (λ e f. e ∙ sym f)
-      (both_cases (c == 34) p q (text_once total (c ∷ cs) p q) (either_once total (c ∷ cs) p q))) h h'
+    (both_cases (c == 34) p q (text_once total (c ∷ cs) p q) (either_once total (c ∷ cs) p q))) h h'
 
 -- no word begins with a blank
 no_blank : (kind : TokenKind) (c : ℕ) (cs : List ℕ) → Spells kind (c ∷ cs) → is_blank c ≡ false
@@ -143,7 +141,7 @@ gap_cases total (c ∷ d ∷ cs) rest (line_comment past) = ap gap past
 gap_cases total (c ∷ d ∷ cs) rest (block_comment closed) = sym (ap (closing_piece total (47 ∷ 42 ∷ cs)) closed)
 
 -- a text that was read, as its content up to the closing quote
-text_up_to : (w cs rest : List ℕ) → IsText w → cs ≡ w ++ rest → IsTextUpTo cs (34 ∷ rest)
+pub text_up_to : (w cs rest : List ℕ) → IsText w → cs ≡ w ++ rest → IsTextUpTo cs (34 ∷ rest)
 text_up_to w cs rest t is = record {
   content = t.content;
   printable = t.printable;
@@ -209,7 +207,7 @@ nothing_case : (total : ℕ) (cs : List ℕ) → BeginsNothing cs → Cases tota
 nothing_case total cs n =
     subst (λ xs. Cases total xs (fault (BadChar (place total xs)))) (sym n.written)
     (word_case total n.first n.rest _ n.no_blank (not_slash n.first n.rest (λ slash. n.no_word Symbol (47 ∷ []) n.rest slash_symbol (n.written ∙ ap (λ x. x ∷ n.rest) slash))) n.no_quote
-      (inr record { no_word = λ kind w more s same. n.no_word kind w more s (n.written ∙ same); is = refl }))
+    (inr record { no_word = λ kind w more s same. n.no_word kind w more s (n.written ∙ same); is = refl }))
 
 wrong_cases : (total : ℕ) (cs : List ℕ) (f : LexFault) → IsWrong total cs f → Cases total cs (fault f)
 wrong_cases total (c ∷ d ∷ cs) f (open_comment none) = sym (ap (closing_piece total (47 ∷ 42 ∷ cs)) none)

@@ -1,12 +1,11 @@
 -- The tokens that were found, in the bytes of their source.
-use Rattle.std.proofs.Common.{◌≡◌, ℕ, ◌+◌, ◌-◌, ◌<◌, ◌≤◌, Bool, true, List, [], ◌∷◌, ◌++◌, append_assoc, length, length-append, take, drop, refl, sym, ap, ◌∙◌, subst, arith}
-use Rattle.std.specs.Prelude.{Result, Ok, Err, IfOk, encode_utf8_all}
-use Rattle.std.specs.Str.{IsUtf8, chars}
+use Rattle.std.proofs.Common.{◌≡◌, ℕ, ◌+◌, ◌-◌, ◌≤◌, List, [], ◌∷◌, ◌++◌, append_assoc, length, length-append, take, drop, refl, sym, ap, ◌∙◌, subst, arith}
+use Rattle.std.specs.Prelude.{encode_utf8_all}
+use Rattle.std.specs.Str.{chars}
 use Rattle.std.proofs.lemmas.Str.{encodes-chars, encodes-append, length-le-encodes}
 use Rattle.std.proofs.lemmas.List.{take_at, drop_at}
 use Rattle.sn_lexer.specs.declared.token.TokenKind.{TokenKind}
 use Rattle.sn_lexer.specs.declared.token.Token.{Token}
-use Rattle.sn_lexer.specs.declared.token.LexFault.{LexFault}
 use Rattle.sn_lexer.specs.Lexes.{width, place, IsToken, token_at, Lexes}
 use Rattle.sn_lexer.specs.Lexes.Lexes.{end, gap, token}
 use Rattle.sn_lexer.specs.Placed.{IsPlaced, ArePlaced}

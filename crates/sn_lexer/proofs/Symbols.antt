@@ -1,5 +1,5 @@
 -- The longest symbol in front.
-use Rattle.std.proofs.Common.{◌≡◌, ℕ, suc, ◌≤◌, Bool, true, false, List, [], ◌∷◌, ◌++◌, length, refl, sym, ap, ◌∙◌, subst, arith}
+use Rattle.std.proofs.Common.{◌≡◌, ℕ, true, false, List, [], ◌∷◌, ◌++◌, length, sym, ap, ◌∙◌, arith}
 use Rattle.std.proofs.lemmas.Bool.{false≢true}
 use Rattle.sn_lexer.specs.Spelling.{is_symbol}
 use Rattle.sn_lexer.specs.Fronts.{BeginsNoSymbol, IsSymbolUpTo}

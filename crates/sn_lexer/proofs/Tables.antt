@@ -1,9 +1,9 @@
 -- Words that stand in a table.
-use Rattle.std.proofs.Common.{◌≡◌, ℕ, ◌&&◌, ◌||◌, Bool, true, false, nat_eq, nat_le, List, [], ◌∷◌, length, map, refl, sym, ap, ◌∙◌, subst}
+use Rattle.std.proofs.Common.{◌≡◌, ℕ, ◌&&◌, ◌||◌, Bool, true, false, nat_eq, List, [], ◌∷◌, length, map, refl, sym, ap, ◌∙◌}
 use Rattle.std.specs.Prelude.{encode_utf8_all}
 use Rattle.std.specs.List.{list_any, list_all}
 use Rattle.std.proofs.lemmas.Str.{encodes_same}
-use Rattle.std.specs.Cmp.Lexicographic.{pointwise, bytes_decides}
+use Rattle.std.specs.Cmp.Lexicographic.{pointwise}
 use Rattle.std.proofs.lemmas.Bool.{false≢true, and_parts, eqb-true, eq-eqb}
 use Rattle.sn_lexer.specs.Spelling.{is_among, keywords, is_keyword, lone_symbols, paired_symbols, is_symbol}
 
@@ -99,11 +99,11 @@ among_bytes (entry ∷ table) word plain =
     let parts = and_parts (is_plain entry) (list_all is_plain table) plain in
     let bytes = same_words (encode_utf8_all entry) entry parts.0 in
     let there : pointwise nat_eq entry (encode_utf8_all word) ≡ true → pointwise nat_eq entry word ≡ true =
-        λ h. let one = encodes_same entry word (bytes ∙ same_words entry (encode_utf8_all word) h) in
-        ap (pointwise nat_eq entry) (sym one) ∙ word_same entry in
+    λ h. let one = encodes_same entry word (bytes ∙ same_words entry (encode_utf8_all word) h) in
+    ap (pointwise nat_eq entry) (sym one) ∙ word_same entry in
     let back : pointwise nat_eq entry word ≡ true → pointwise nat_eq entry (encode_utf8_all word) ≡ true =
-        λ h. let one = ap encode_utf8_all (sym (same_words entry word h)) ∙ bytes in
-        ap (pointwise nat_eq entry) one ∙ word_same entry in
+    λ h. let one = ap encode_utf8_all (sym (same_words entry word h)) ∙ bytes in
+    ap (pointwise nat_eq entry) one ∙ word_same entry in
     λ i. same_tests _ _ there back i || among_bytes table word parts.1 i
 
 pub keyword_bytes : (word : List ℕ) → is_among keywords (encode_utf8_all word) ≡ is_keyword word

@@ -1,8 +1,7 @@
 -- Whether a tag is in front.
-use Rattle.std.proofs.Common.{◌≡◌, ℕ, suc, ◌+◌, ◌≤◌, ◌&&◌, ◌==◌, Bool, true, false, not, List, [], ◌∷◌, ◌++◌, length, append_assoc, refl, sym, ap, ◌∙◌, subst, arith}
+use Rattle.std.proofs.Common.{◌≡◌, ℕ, ◌==◌, Bool, true, false, not, List, [], ◌∷◌, ◌++◌, append_assoc, refl, sym, ap, ◌∙◌, subst, arith}
 use Rattle.std.specs.Prelude.{if◌then◌else◌}
-use Rattle.std.proofs.lemmas.Bool.{false≢true, and_parts, not-true}
-use Rattle.unicode_ident.specs.Ident.{is_xid_continue}
+use Rattle.std.proofs.lemmas.Bool.{false≢true, and_parts}
 use Rattle.sn_lexer.specs.declared.token.TokenKind.{TokenKind}
 use Rattle.sn_lexer.specs.declared.token.TokenKind.TheVariants.{Ident, Keyword, Tag}
 use Rattle.sn_lexer.specs.Spelling.{IsTag, starts_name, is_name, is_keyword, is_identifier}

@@ -1,24 +1,22 @@
 -- What stands in front, as a token or as a refusal.
 --
 -- A word, followed by something that does not continue it, is the token: these lemmas say so kind by kind.
-use Rattle.std.proofs.Common.{◌≡◌, ℕ, ◌+◌, ◌-◌, ◌^◌, ◌<◌, ◌≤◌, min, ◌&&◌, ◌||◌, ◌==◌, Bool, true, false, not, IsTrue, List, [], ◌∷◌, ◌++◌, length, length-append, append_assoc, refl, sym, ap, ◌∙◌, subst, inl, inr, arith}
-use Rattle.std.specs.Prelude.{◌⊎◌, if◌then◌else◌}
-use Rattle.std.specs.List.{list_all, flat_map}
+use Rattle.std.proofs.Common.{◌≡◌, ℕ, ◌<◌, ◌≤◌, ◌&&◌, ◌||◌, ◌==◌, Bool, true, false, not, List, [], ◌∷◌, ◌++◌, append_assoc, refl, sym, ap, ◌∙◌, subst, inl, inr, arith}
+use Rattle.std.specs.Prelude.{if◌then◌else◌}
+use Rattle.std.specs.List.{list_all}
 use Rattle.std.specs.Char.{is_ascii_digit}
 use Rattle.std.specs.Str.Parse.{digits_value}
-use Rattle.std.proofs.lemmas.Bool.{false≢true, and_parts, not-true, ne_eqb, eqb-true, eqb-false}
-use Rattle.unicode_ident.specs.Ident.{is_xid_continue}
+use Rattle.std.proofs.lemmas.Bool.{false≢true, and_parts, not-true, ne_eqb, eqb-false}
 use Rattle.sn_lexer.specs.declared.token.TokenKind.{TokenKind}
 use Rattle.sn_lexer.specs.declared.token.TokenKind.TheVariants.{Ident, Keyword, Tag, Number, Text, Symbol}
-use Rattle.sn_lexer.specs.declared.token.LexFault.{LexFault}
-use Rattle.sn_lexer.specs.declared.token.LexFault.TheVariants.{BadChar, NumberTooWide, TextOpen}
-use Rattle.sn_lexer.specs.Spelling.{Spells, IsWithinLimit, IsTag, IsText, starts_name, is_name, is_keyword, is_numeral, is_symbol, is_identifier, is_printable, escaped, quoted}
+use Rattle.sn_lexer.specs.declared.token.LexFault.TheVariants.{BadChar, NumberTooWide}
+use Rattle.sn_lexer.specs.Spelling.{Spells, IsWithinLimit, starts_name, is_name, is_keyword, is_numeral, is_identifier, quoted}
 use Rattle.sn_lexer.specs.Gaps.{is_blank, opens_comment}
-use Rattle.sn_lexer.specs.Lexes.{place, IsLongest, Leads, IsToken, IsTextUpTo, BeginsNothing, IsWrong}
+use Rattle.sn_lexer.specs.Lexes.{place, IsLongest, IsToken, IsTextUpTo, IsWrong}
 use Rattle.sn_lexer.specs.Lexes.IsWrong.{bad_char, too_wide}
 use Rattle.sn_lexer.specs.Fronts.{Stops, BeginsNot, BeginsNoTag, BeginsNoSymbol, IsNameUpTo, IsNumeralUpTo, IsSymbolUpTo, is_at_word}
 use Rattle.sn_lexer.proofs.Heads.{starts_above}
-use Rattle.sn_lexer.proofs.WordKinds.{no_empty, mark_at, name_starts, identifier_name, digit_above}
+use Rattle.sn_lexer.proofs.WordKinds.{no_empty, mark_at, name_starts, digit_above}
 use Rattle.sn_lexer.proofs.Contents.{written}
 use Rattle.sn_lexer.proofs.Longest.{name_longest, numeral_longest, text_longest, tag_longest, symbol_longest}
 

@@ -1,5 +1,5 @@
 -- How the words of each kind are spelled, as lists of characters.
-use Rattle.std.specs.Prelude.{◌≡◌, ℕ, ◌≤◌, Bool, true, false, ◌&&◌, ◌||◌, ◌==◌, nat_eq, nat_lt, nat_le, not, IsTrue, List, [], ◌∷◌, ◌++◌, length, map, codes, if◌then◌else◌}
+use Rattle.std.specs.Prelude.{◌≡◌, ℕ, ◌≤◌, Bool, false, ◌&&◌, ◌||◌, ◌==◌, nat_eq, nat_le, not, IsTrue, List, [], ◌∷◌, ◌++◌, map, codes, if◌then◌else◌}
 use Rattle.std.specs.List.{list_any, list_all, flat_map}
 use Rattle.std.specs.Char.{is_ascii_digit}
 use Rattle.std.specs.Cmp.Lexicographic.{pointwise}
@@ -34,7 +34,7 @@ is_identifier word = is_name word && not (is_keyword word)
 pub record IsTag (word : List ℕ) : Type 0 where
   pub name : List ℕ
   pub identifier : IsTrue (is_identifier name)
-  pub written : word ≡ 60 ∷ (name ++ 62 ∷ [])
+  pub written : word ≡ codes "<" ++ (name ++ codes ">")
 
 -- one digit or more
 abbrev pub is_numeral : List ℕ → Bool

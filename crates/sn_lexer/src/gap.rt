@@ -29,7 +29,8 @@ fn after_line(text: &str) -> &str
 
 /// What follows the first `*/`.
 fn after_closing(text: &str) -> Option<&str>
-    ensures { MatchOption result (after_close (chars text.now) ≡ None) (λ rest. after_close (chars text.now) ≡ Some (chars rest.now)) }
+    ensures { MatchOption result (after_close (chars text.now) ≡ None)
+        (λ rest. after_close (chars text.now) ≡ Some (chars rest.now)) }
 {
     let mut rest = text;
     while let Some((c, next)) = split_first(rest) {
@@ -43,10 +44,13 @@ fn after_closing(text: &str) -> Option<&str>
     None
 }
 
-/// What follows the comment in front.
+/// What follows the comment in front, if one opens there.
 pub fn after_comment(total: usize, text: &str) -> Result<Option<&str>, LexFault>
     requires { total ≤ 1048576 }
-    ensures { MatchResult result (λ found. MatchOption found (opens_comment (chars text.now) ≡ false) (λ rest. IsGap (chars text.now) (chars rest.now))) (λ fault. IsWrong total (chars text.now) fault) }
+    ensures { MatchResult result
+        (λ found. MatchOption found (opens_comment (chars text.now) ≡ false)
+        (λ rest. IsGap (chars text.now) (chars rest.now)))
+        (IsWrong total (chars text.now)) }
 {
     let Some(opening) = after(text, '/') else {
         return Ok(None);

@@ -25,7 +25,8 @@ fn read_plain(total: usize, text: &str) -> Result<(TokenKind, &str), LexFault>
     requires word { IsTrue (is_at_word (chars text.now)) }
     requires no_quote { BeginsNot 34 (chars text.now) }
     requires no_digit { Stops is_ascii_digit (chars text.now) }
-    ensures { MatchResult result (λ p. IsToken p.0 (chars text.now) (chars p.1.now)) (λ fault. IsWrong total (chars text.now) fault) }
+    ensures { MatchResult result (λ p. IsToken p.0 (chars text.now) (chars p.1.now))
+        (IsWrong total (chars text.now)) }
 {
     if let Some((kind, rest)) = read_name(text) {
         return Ok((kind, rest));
@@ -43,7 +44,8 @@ fn read_plain(total: usize, text: &str) -> Result<(TokenKind, &str), LexFault>
 fn read_token(total: usize, text: &str) -> Result<(TokenKind, &str), LexFault>
     requires small { total ≤ 1048576 }
     requires word { IsTrue (is_at_word (chars text.now)) }
-    ensures { MatchResult result (λ p. IsToken p.0 (chars text.now) (chars p.1.now)) (λ fault. IsWrong total (chars text.now) fault) }
+    ensures { MatchResult result (λ p. IsToken p.0 (chars text.now) (chars p.1.now))
+        (IsWrong total (chars text.now)) }
 {
     if let Some(rest) = read_text(total, text)? {
         return Ok((TokenKind::Text, rest));
@@ -61,7 +63,10 @@ fn read_next<'a>(
     tokens: &mut Seq<Token>,
 ) -> Result<Option<&'a str>, LexFault>
     requires { total ≤ 1048576 }
-    ensures { MatchResult result (λ found. MatchOption found ((chars text.now ≡ []) × (tokens.new ≡ tokens.old)) (λ rest. Advances total (chars text.now) tokens.old tokens.new (chars rest.now))) (λ fault. IsStopped total (chars text.now) fault) }
+    ensures { MatchResult result
+        (λ found. MatchOption found ((chars text.now ≡ []) × (tokens.new ≡ tokens.old))
+        (λ rest. Advances total (chars text.now) tokens.old tokens.new (chars rest.now)))
+        (IsStopped total (chars text.now)) }
 {
     let Some((first, rest)) = split_first(text) else {
         return Ok(None);
@@ -106,9 +111,14 @@ pub fn lex(alloc: Global, source: &[u8]) -> Result<Seq<Token>, LexFault>
     ensures answer { MatchResult result (LexesAs source.now) (IsFault source.now) }
 
     // What is right is answered, unless memory is wanted.
-    ensures tokens { (tokens : List Token) → LexesAs source.now tokens → MatchResult result (λ found. found ≡ tokens) (λ fault. fault ≡ LexFault.Memory) }
-    ensures refused { (fault : LexFault) → IsRefused source.now fault → MatchResult result (λ _. ⊥) (λ found. (found ≡ fault) ⊎ (found ≡ LexFault.Memory)) }
-    ensures bad_utf8 { ¬ (IsUtf8 source.now) → result ≡ Err (LexFault.BadUtf8 (utf8_valid_len source.now)) }
+    ensures tokens { (tokens : List Token) → LexesAs source.now tokens →
+        MatchResult result (λ found. found ≡ tokens) (λ fault. fault ≡ LexFault.Memory) }
+    ensures refused { (fault : LexFault) → IsRefused source.now fault →
+        MatchResult result (λ _. ⊥) (λ found. (found ≡ fault) ⊎ (found ≡ LexFault.Memory)) }
+    ensures bad_utf8 { ¬ (IsUtf8 source.now) →
+        result ≡ Err (LexFault.BadUtf8 (utf8_valid_len source.now)) }
+
+    // Where the tokens stand in the bytes, which follows from `answer`.
     ensures placed { IfOk result (ArePlaced source.now 0) }
 {
     match str::from_utf8(source) {

@@ -42,7 +42,8 @@ fn after_name(text: &str) -> &str
 
 /// The name in front, as an identifier or a keyword, and what follows it.
 pub fn read_name(text: &str) -> Option<(TokenKind, &str)>
-    ensures { MatchOption result (Stops starts_name (chars text.now)) (λ p. IsNameUpTo p.0 (chars text.now) (chars p.1.now)) }
+    ensures { MatchOption result (Stops starts_name (chars text.now))
+        (λ p. IsNameUpTo p.0 (chars text.now) (chars p.1.now)) }
 {
     let (first, inside) = split_first(text)?;
     if !starts_name(first) {
@@ -50,13 +51,18 @@ pub fn read_name(text: &str) -> Option<(TokenKind, &str)>
     }
     let rest = after_name(inside);
     let name = &text.as_bytes()[..text.len() - rest.len()];
-    let kind = if is_keyword(name) { TokenKind::Keyword } else { TokenKind::Ident };
+    let kind = if is_keyword(name) {
+        TokenKind::Keyword
+    } else {
+        TokenKind::Ident
+    };
     Some((kind, rest))
 }
 
 /// What follows the tag in front.
 pub fn read_tag(text: &str) -> Option<&str>
-    ensures { MatchOption result (BeginsNoTag (chars text.now)) (λ rest. IsToken TokenKind.Tag (chars text.now) (chars rest.now)) }
+    ensures { MatchOption result (BeginsNoTag (chars text.now))
+        (λ rest. IsToken TokenKind.Tag (chars text.now) (chars rest.now)) }
 {
     let inside = after(text, '<')?;
     let (kind, rest) = read_name(inside)?;

@@ -26,10 +26,13 @@ fn read_digits(text: &str) -> (u64, &str)
     (value, rest)
 }
 
-/// What follows the number in front.
+/// What follows the number in front, if a digit is there.
 pub fn read_number(total: usize, text: &str) -> Result<Option<&str>, LexFault>
     requires { total ≤ 1048576 }
-    ensures { MatchResult result (λ found. MatchOption found (Stops is_ascii_digit (chars text.now)) (λ rest. IsToken TokenKind.Number (chars text.now) (chars rest.now))) (λ fault. IsWrong total (chars text.now) fault) }
+    ensures { MatchResult result
+        (λ found. MatchOption found (Stops is_ascii_digit (chars text.now))
+        (λ rest. IsToken TokenKind.Number (chars text.now) (chars rest.now)))
+        (IsWrong total (chars text.now)) }
 {
     let Some((first, _)) = split_first(text) else {
         return Ok(None);

@@ -42,10 +42,13 @@ fn step(text: &str) -> Inside<'_>
     }
 }
 
-/// What follows the text in front.
+/// What follows the text in front, if a quote is there.
 pub fn read_text(total: usize, text: &str) -> Result<Option<&str>, LexFault>
     requires { total ≤ 1048576 }
-    ensures { MatchResult result (λ found. MatchOption found (BeginsNot 34 (chars text.now)) (λ rest. IsToken TokenKind.Text (chars text.now) (chars rest.now))) (λ fault. IsWrong total (chars text.now) fault) }
+    ensures { MatchResult result
+        (λ found. MatchOption found (BeginsNot 34 (chars text.now))
+        (λ rest. IsToken TokenKind.Text (chars text.now) (chars rest.now)))
+        (IsWrong total (chars text.now)) }
 {
     let Some(inside) = after(text, '"') else {
         return Ok(None);

@@ -6,7 +6,8 @@ ghost use Rattle.sn_lexer.specs.Fronts.{BeginsNoSymbol, IsSymbolUpTo};
 use crate::text::split_first;
 
 const LONE: [char; 20] = [
-    '(', ')', '{', '}', '[', ']', ',', ';', ':', '=', '<', '>', '+', '-', '*', '/', '%', '|', '!', '?',
+    '(', ')', '{', '}', '[', ']', ',', ';', ':', '=', '<', '>', '+', '-', '*', '/', '%', '|', '!',
+    '?',
 ];
 
 const PAIRS: [(char, char); 12] = [
@@ -38,7 +39,8 @@ fn is_pair(first: char, second: char) -> bool
 
 /// What follows the longest symbol in front.
 pub fn read_symbol(text: &str) -> Option<&str>
-    ensures { MatchOption result (BeginsNoSymbol (chars text.now)) (λ rest. IsSymbolUpTo (chars text.now) (chars rest.now)) }
+    ensures { MatchOption result (BeginsNoSymbol (chars text.now))
+        (λ rest. IsSymbolUpTo (chars text.now) (chars rest.now)) }
 {
     let (first, rest) = split_first(text)?;
     if let Some((second, after_both)) = split_first(rest) {

@@ -1,4 +1,3 @@
-use Rattle.std.proofs.Common.{sym, ◌∙◌, ap}
 use Rattle.sn_lexer.proofs.Comments.{line_gap, block_gap, comment_open}
 use Rattle.sn_lexer.proofs.gap.after_comment.Goals as goal
 

@@ -1,4 +1,3 @@
-use Rattle.std.proofs.Common.{rules}
 use Rattle.std.proofs.lemmas.Result.{MatchResult-weaker}
 use Rattle.sn_lexer.proofs.Once.{only_tokens, only_refusal}
 use Rattle.sn_lexer.proofs.Places.{source_placed}

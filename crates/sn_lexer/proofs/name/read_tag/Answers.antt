@@ -5,7 +5,7 @@ use Rattle.sn_lexer.specs.contracts.token.TokenKind.{the_type}
 use Rattle.std.proofs.lemmas.Bool.{false≢true, not-false}
 use Rattle.sn_lexer.specs.Fronts.{IsNameUpTo}
 use Rattle.sn_lexer.proofs.Options.{MatchOption-weaker}
-use Rattle.sn_lexer.proofs.Tags.{no_tag_open, no_tag_name, no_tag_keyword, no_tag_close, tag_closed}
+use Rattle.sn_lexer.proofs.Tags.{no_tag_keyword, no_tag_close, tag_closed}
 use Rattle.sn_lexer.proofs.name.read_tag.Goals as goal
 
 pub returns-then-ne : goal.returns-then-ne

@@ -1,0 +1,347 @@
+//! What stands before an operand, in either expression language.
+ghost use Rattle.std.specs.Prelude.{◌≡◌, IfOk};
+ghost use Rattle.sn_ast.specs.Kept.{kept, pair};
+ghost use Rattle.sn_ast.specs.Operators.{Operations, with_sign, with_operator, with_and, with_or};
+ghost use Rattle.sn_expr_parser.specs.Levels.{fresh, signed, operated, conjoined, disjoined, sum_of, or_in, with_next_sign, after_product, after_sum, after_comparison, after_and, after_or, after};
+
+use sn_ast::measure::{boxed, join, raise};
+use sn_ast::{Boxed, Infix, Kept, Measured, Operator, Sign};
+use sn_list::Memory;
+use sn_stack::Stack;
+use std::alloc::Global;
+
+/// An expression that signs and operators make greater ones of.
+pub trait Expression: Sized + Drop {
+    ghost operations: { Operations Self };
+
+    fn sign(sign: Sign, at: u32, operand: Boxed<Self>) -> Self
+        ensures { result ≡ operations.sign sign at operand };
+
+    fn operator(operator: Operator, at: u32, left: Boxed<Self>, right: Boxed<Self>) -> Self
+        ensures { result ≡ operations.op operator at left right };
+
+    fn and(at: u32, left: Boxed<Self>, right: Boxed<Self>) -> Self
+        ensures { result ≡ operations.and at left right };
+
+    fn or(at: u32, left: Boxed<Self>, right: Boxed<Self>) -> Self
+        ensures { result ≡ operations.or at left right };
+}
+
+/// What waits for its right side, with its operator and the operator's place.
+pub type Waiting<E> = Option<(Kept<E>, Operator, u32)>;
+
+/// What stands before an operand: a finished left side for each kind of operator, from the loosest to the tightest,
+/// and the signs, the last one first.
+#[derive(Drop)]
+pub struct Level<E> {
+    pub or: Option<(Kept<E>, u32)>,
+    pub and: Option<(Kept<E>, u32)>,
+    pub comparison: Waiting<E>,
+    pub sum: Waiting<E>,
+    pub product: Waiting<E>,
+    pub signs: Stack<(Sign, u32)>,
+}
+
+fn with_sign<E: Expression>(
+    alloc: Global,
+    sign: Sign,
+    at: u32,
+    part: Kept<E>,
+) -> Result<Kept<E>, Memory>
+    ensures { IfOk result (λ r. r ≡ with_sign kept E.operations sign at part) }
+{
+    let Some(part) = boxed(alloc, part)? else {
+        return Ok(None);
+    };
+    Ok(raise(Some(Measured {
+        value: E::sign(sign, at, part.value),
+        height: part.height,
+        open_at_once: part.open_at_once,
+    })))
+}
+
+/// The operand with the signs.
+fn with_signs<E: Expression>(
+    alloc: Global,
+    signs: Stack<(Sign, u32)>,
+    part: Kept<E>,
+) -> Result<Kept<E>, Memory>
+    ensures { IfOk result (λ r. r ≡ signed E.operations signs part) }
+{
+    let mut signs = signs;
+    let mut part = part;
+    while let Some((sign, at)) = signs.pop() {
+        part = with_sign(alloc, sign, at, part)?;
+    }
+    Ok(part)
+}
+
+fn both_boxed<E: Drop>(
+    alloc: Global,
+    left: Kept<E>,
+    right: Kept<E>,
+) -> Result<Kept<(Boxed<E>, Boxed<E>)>, Memory>
+    ensures { IfOk result (λ r. r ≡ kept.join pair left right) }
+{
+    let left = boxed(alloc, left)?;
+    let right = boxed(alloc, right)?;
+    Ok(join(left, right))
+}
+
+fn operated<E: Expression>(
+    alloc: Global,
+    left: Waiting<E>,
+    right: Kept<E>,
+) -> Result<Kept<E>, Memory>
+    ensures { IfOk result (λ r. r ≡ operated E.operations left right) }
+{
+    let Some((left, operator, at)) = left else {
+        return Ok(right);
+    };
+    let Some(both) = both_boxed(alloc, left, right)? else {
+        return Ok(None);
+    };
+    let (left, right) = both.value;
+    Ok(raise(Some(Measured {
+        value: E::operator(operator, at, left, right),
+        height: both.height,
+        open_at_once: both.open_at_once,
+    })))
+}
+
+fn conjoined<E: Expression>(
+    alloc: Global,
+    left: Option<(Kept<E>, u32)>,
+    right: Kept<E>,
+) -> Result<Kept<E>, Memory>
+    ensures { IfOk result (λ r. r ≡ conjoined E.operations left right) }
+{
+    let Some((left, at)) = left else {
+        return Ok(right);
+    };
+    let Some(both) = both_boxed(alloc, left, right)? else {
+        return Ok(None);
+    };
+    let (left, right) = both.value;
+    Ok(raise(Some(Measured {
+        value: E::and(at, left, right),
+        height: both.height,
+        open_at_once: both.open_at_once,
+    })))
+}
+
+fn disjoined<E: Expression>(
+    alloc: Global,
+    left: Option<(Kept<E>, u32)>,
+    right: Kept<E>,
+) -> Result<Kept<E>, Memory>
+    ensures { IfOk result (λ r. r ≡ disjoined E.operations left right) }
+{
+    let Some((left, at)) = left else {
+        return Ok(right);
+    };
+    let Some(both) = both_boxed(alloc, left, right)? else {
+        return Ok(None);
+    };
+    let (left, right) = both.value;
+    Ok(raise(Some(Measured {
+        value: E::or(at, left, right),
+        height: both.height,
+        open_at_once: both.open_at_once,
+    })))
+}
+
+impl<E: Expression> Level<E> {
+    /// The level where an expression begins.
+    pub fn new(alloc: Global) -> Level<E>
+        ensures { result ≡ fresh }
+    {
+        Level {
+            or: None,
+            and: None,
+            comparison: None,
+            sum: None,
+            product: None,
+            signs: Stack::new(alloc),
+        }
+    }
+
+    /// The level after one more sign.
+    pub fn with_next_sign(self, sign: Sign, at: u32) -> Result<Level<E>, Memory>
+        ensures { IfOk result (λ l. l ≡ with_next_sign self sign at) }
+    {
+        let mut level = self;
+        level.signs.push((sign, at))?;
+        Ok(level)
+    }
+
+    /// The level after the operand `part` and an operator. Nothing where the operator may not follow, since
+    /// comparisons do not chain.
+    pub fn after(
+        self,
+        alloc: Global,
+        between: Infix,
+        at: u32,
+        part: Kept<E>,
+    ) -> Result<Option<Level<E>>, Memory>
+        ensures { IfOk result (λ l. l ≡ after E.operations self between at part) }
+    {
+        match between {
+            Infix::Product(operator) => Ok(Some(self.after_product(alloc, operator, at, part)?)),
+            Infix::Sum(operator) => Ok(Some(self.after_sum(alloc, operator, at, part)?)),
+            Infix::Comparison(operator) => self.after_comparison(alloc, operator, at, part),
+            Infix::Conjunction => Ok(Some(self.after_and(alloc, at, part)?)),
+            Infix::Disjunction => Ok(Some(self.after_or(alloc, at, part)?)),
+        }
+    }
+
+    fn after_product(
+        self,
+        alloc: Global,
+        operator: Operator,
+        at: u32,
+        part: Kept<E>,
+    ) -> Result<Level<E>, Memory>
+        ensures { IfOk result (λ l. l ≡ after_product E.operations self operator at part) }
+    {
+        let Level {
+            or,
+            and,
+            comparison,
+            sum,
+            product,
+            signs,
+        } = self;
+        let part = with_signs(alloc, signs, part)?;
+        let part = operated(alloc, product, part)?;
+        Ok(Level {
+            or,
+            and,
+            comparison,
+            sum,
+            product: Some((part, operator, at)),
+            signs: Stack::new(alloc),
+        })
+    }
+
+    fn after_sum(
+        self,
+        alloc: Global,
+        operator: Operator,
+        at: u32,
+        part: Kept<E>,
+    ) -> Result<Level<E>, Memory>
+        ensures { IfOk result (λ l. l ≡ after_sum E.operations self operator at part) }
+    {
+        let Level {
+            or,
+            and,
+            comparison,
+            sum,
+            product,
+            signs,
+        } = self;
+        let part = sum_of(alloc, sum, product, signs, part)?;
+        Ok(Level {
+            or,
+            and,
+            comparison,
+            sum: Some((part, operator, at)),
+            product: None,
+            signs: Stack::new(alloc),
+        })
+    }
+
+    fn after_comparison(
+        self,
+        alloc: Global,
+        operator: Operator,
+        at: u32,
+        part: Kept<E>,
+    ) -> Result<Option<Level<E>>, Memory>
+        ensures { IfOk result (λ l. l ≡ after_comparison E.operations self operator at part) }
+    {
+        let Level {
+            or,
+            and,
+            comparison,
+            sum,
+            product,
+            signs,
+        } = self;
+        if comparison.is_some() {
+            return Ok(None);
+        }
+        let part = sum_of(alloc, sum, product, signs, part)?;
+        Ok(Some(Level {
+            or,
+            and,
+            comparison: Some((part, operator, at)),
+            sum: None,
+            product: None,
+            signs: Stack::new(alloc),
+        }))
+    }
+
+    fn after_and(self, alloc: Global, at: u32, part: Kept<E>) -> Result<Level<E>, Memory>
+        ensures { IfOk result (λ l. l ≡ after_and E.operations self at part) }
+    {
+        let Level {
+            or,
+            and,
+            comparison,
+            sum,
+            product,
+            signs,
+        } = self;
+        let part = sum_of(alloc, sum, product, signs, part)?;
+        let part = operated(alloc, comparison, part)?;
+        let part = conjoined(alloc, and, part)?;
+        let mut level = Level::new(alloc);
+        level.or = or;
+        level.and = Some((part, at));
+        Ok(level)
+    }
+
+    fn after_or(self, alloc: Global, at: u32, part: Kept<E>) -> Result<Level<E>, Memory>
+        ensures { IfOk result (λ l. l ≡ after_or E.operations self at part) }
+    {
+        let part = self.finished(alloc, part)?;
+        let mut level = Level::new(alloc);
+        level.or = Some((part, at));
+        Ok(level)
+    }
+
+    /// The disjunction that the operand `part` completes.
+    pub fn finished(self, alloc: Global, part: Kept<E>) -> Result<Kept<E>, Memory>
+        ensures { IfOk result (λ r. r ≡ or_in E.operations self part) }
+    {
+        let Level {
+            or,
+            and,
+            comparison,
+            sum,
+            product,
+            signs,
+        } = self;
+        let part = sum_of(alloc, sum, product, signs, part)?;
+        let part = operated(alloc, comparison, part)?;
+        let part = conjoined(alloc, and, part)?;
+        disjoined(alloc, or, part)
+    }
+}
+
+/// The sum that the operand `part` completes.
+fn sum_of<E: Expression>(
+    alloc: Global,
+    sum: Waiting<E>,
+    product: Waiting<E>,
+    signs: Stack<(Sign, u32)>,
+    part: Kept<E>,
+) -> Result<Kept<E>, Memory>
+    ensures { IfOk result (λ r. r ≡ sum_of E.operations sum product signs part) }
+{
+    let part = with_signs(alloc, signs, part)?;
+    let part = operated(alloc, product, part)?;
+    operated(alloc, sum, part)
+}

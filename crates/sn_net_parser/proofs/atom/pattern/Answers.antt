@@ -1,0 +1,9 @@
+use Rattle.sn_net_parser.proofs.Embedded.{pattern_start}
+use Rattle.sn_net_parser.proofs.Steps.{no_pattern}
+use Rattle.sn_net_parser.proofs.atom.pattern.Goals as goal
+
+pub returns-in_default : goal.returns-in_default
+returns-in_default c = λ w t. no_pattern _ c.in_default.ensures
+
+pub returns : goal.returns
+returns c = rw c.in-Some.ensures (pattern_start _ _ _ _ _ _ c.start.ensures.from c.start.ensures.to)

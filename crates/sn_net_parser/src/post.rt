@@ -1,0 +1,308 @@
+ghost use Rattle.std.specs.Prelude.{◌≡◌, Some, None};
+ghost use Rattle.sn_ast.specs.Terminals.{link_of};
+ghost use Rattle.sn_ast.specs.declared.terminal.Link.TheVariants as some_link;
+ghost use Rattle.sn_ast.specs.declared.terminal.Symbol.TheVariants as some_symbol;
+ghost use Rattle.sn_ast.specs.declared.terminal.Terminal.TheVariants as some_token;
+ghost use Rattle.sn_net_parser.specs.Residual.{GuardSteps, StepsIn};
+ghost use Rattle.sn_net_parser.specs.declared.machine.Mode.TheVariants as some_mode;
+
+use crate::machine::{Around, Mode, NetParser, NetStop, Repeated};
+use crate::node;
+use sn_ast::measure::parens;
+use sn_ast::{Bracket, Kept, Keyword, Link, NetExpr, Symbol, TExpr, Terminal, Variant};
+use sn_expr_parser::{TagParser, TagStop};
+use sn_type_parser::{LabelParser, LabelStep, LabelStop};
+use std::alloc::Global;
+
+/// Takes the token after a part.
+pub fn go_on(
+    alloc: Global,
+    around: Around,
+    part: Kept<NetExpr>,
+    token: Terminal,
+) -> Result<NetParser, NetStop>
+    ensures { StepsIn around (some_mode.Have part) token result }
+{
+    let Terminal::Symbol { symbol, at } = token else {
+        return Err(NetStop::Refused);
+    };
+    match symbol.link() {
+        Some(Link::Branch { det }) => branch(alloc, around, part, symbol, det, at),
+        Some(Link::Star { det }) => Ok(NetParser {
+            around,
+            mode: Mode::Exit {
+                star: Repeated {
+                    det,
+                    at,
+                    body: part,
+                },
+            },
+        }),
+        Some(Link::Split { det }) => Ok(NetParser {
+            around,
+            mode: Mode::Index {
+                split: Repeated {
+                    det,
+                    at,
+                    body: part,
+                },
+            },
+        }),
+        None => unlinked(alloc, around, part, symbol, at),
+    }
+}
+
+/// Takes a symbol that neither chooses nor repeats.
+fn unlinked(
+    alloc: Global,
+    around: Around,
+    part: Kept<NetExpr>,
+    symbol: Symbol,
+    at: u32,
+) -> Result<NetParser, NetStop>
+    requires { link_of symbol ≡ None }
+    ensures { StepsIn around (some_mode.Have part) (some_token.Symbol symbol at) result }
+{
+    match symbol {
+        Symbol::Dots => dots(alloc, around, part, at),
+        Symbol::CloseParen => close(around, part, at),
+        Symbol::Semicolon => end(around, part, at),
+        _ => Err(NetStop::Refused),
+    }
+}
+
+fn dots(
+    alloc: Global,
+    around: Around,
+    part: Kept<NetExpr>,
+    at: u32,
+) -> Result<NetParser, NetStop>
+    ensures { StepsIn around (some_mode.Have part) (some_token.Symbol some_symbol.Dots at) result }
+{
+    let Around { outer, level } = around;
+    let level = level.after_dots(alloc, at, part)?;
+    Ok(NetParser {
+        around: Around { outer, level },
+        mode: Mode::Want,
+    })
+}
+
+fn branch(
+    alloc: Global,
+    around: Around,
+    part: Kept<NetExpr>,
+    symbol: Symbol,
+    det: bool,
+    at: u32,
+) -> Result<NetParser, NetStop>
+    requires { link_of symbol ≡ Some (some_link.Branch det) }
+    ensures { StepsIn around (some_mode.Have part) (some_token.Symbol symbol at) result }
+{
+    let Around { outer, level } = around;
+    if !level.goes_on(det) {
+        return Err(NetStop::Refused);
+    }
+    let level = level.after_bar(alloc, det, at, part)?;
+    Ok(NetParser {
+        around: Around { outer, level },
+        mode: Mode::Want,
+    })
+}
+
+fn close(around: Around, part: Kept<NetExpr>, at: u32) -> Result<NetParser, NetStop>
+    ensures { StepsIn around (some_mode.Have part) (some_token.Symbol some_symbol.CloseParen at) result }
+{
+    let Around { outer, level } = around;
+    let mut outer = outer;
+    let Some(outside) = outer.pop() else {
+        return Err(NetStop::Refused);
+    };
+    let inner = level.finish(part)?;
+    Ok(NetParser {
+        around: Around {
+            outer,
+            level: outside,
+        },
+        mode: Mode::Have {
+            part: parens(inner),
+        },
+    })
+}
+
+/// Takes the semicolon, which ends a network in no parentheses.
+fn end(around: Around, part: Kept<NetExpr>, at: u32) -> Result<NetParser, NetStop>
+    ensures { StepsIn around (some_mode.Have part) (some_token.Symbol some_symbol.Semicolon at) result }
+{
+    let Around { outer, level } = around;
+    let mut outer = outer;
+    if let Some(_) = outer.pop() {
+        return Err(NetStop::Refused);
+    }
+    let network = level.finish(part)?;
+    Err(NetStop::Ended { network, at })
+}
+
+/// Takes the token where a star's exit comes next.
+pub fn exit(
+    alloc: Global,
+    around: Around,
+    star: Repeated,
+    token: Terminal,
+) -> Result<NetParser, NetStop>
+    ensures { StepsIn around (some_mode.Exit star) token result }
+{
+    let Some(opening) = token.symbol_at(Symbol::OpenBrace) else {
+        return Err(NetStop::Refused);
+    };
+    Ok(NetParser {
+        around,
+        mode: Mode::InExit {
+            star,
+            opening,
+            labels: LabelParser::start(alloc, Bracket::Brace),
+        },
+    })
+}
+
+/// Takes a token of an exit, after its opening brace.
+pub fn in_exit(
+    around: Around,
+    star: Repeated,
+    opening: u32,
+    labels: LabelParser,
+    token: Terminal,
+) -> Result<NetParser, NetStop>
+    ensures { StepsIn around (some_mode.InExit star opening labels) token result }
+{
+    match labels.step(token) {
+        Ok(LabelStep::More(labels)) => Ok(NetParser {
+            around,
+            mode: Mode::InExit {
+                star,
+                opening,
+                labels,
+            },
+        }),
+        Ok(LabelStep::Done(labels)) => Ok(NetParser {
+            around,
+            mode: Mode::AfterExit {
+                star,
+                exit: Variant {
+                    labels,
+                    at: opening,
+                },
+            },
+        }),
+        Err(LabelStop::Memory) => Err(NetStop::Memory),
+        Err(LabelStop::Refused) => Err(NetStop::Refused),
+    }
+}
+
+/// Takes the token after an exit: a guard's `if`, or what follows the star.
+pub fn after_exit(
+    alloc: Global,
+    around: Around,
+    star: Repeated,
+    exit: Variant,
+    token: Terminal,
+) -> Result<NetParser, NetStop>
+    ensures { StepsIn around (some_mode.AfterExit star exit) token result }
+{
+    if let Some(_) = token.keyword_at(Keyword::If) {
+        return Ok(NetParser {
+            around,
+            mode: Mode::Guard { star, exit },
+        });
+    }
+    let part = node::star(alloc, star.det, star.at, star.body, exit)?;
+    go_on(alloc, around, part, token)
+}
+
+/// Takes the token where the opening of a guard comes next.
+pub fn guard(
+    alloc: Global,
+    around: Around,
+    star: Repeated,
+    exit: Variant,
+    token: Terminal,
+) -> Result<NetParser, NetStop>
+    ensures { StepsIn around (some_mode.Guard star exit) token result }
+{
+    let Some(_) = token.symbol_at(Symbol::OpenParen) else {
+        return Err(NetStop::Refused);
+    };
+    Ok(NetParser {
+        around,
+        mode: Mode::InGuard {
+            star,
+            exit,
+            guard: TagParser::start(alloc),
+        },
+    })
+}
+
+/// Takes a token of a guard.
+pub fn in_guard(
+    alloc: Global,
+    around: Around,
+    star: Repeated,
+    exit: Variant,
+    guard: TagParser,
+    token: Terminal,
+) -> Result<NetParser, NetStop>
+    ensures { StepsIn around (some_mode.InGuard star exit guard) token result }
+{
+    match guard.step(alloc, token) {
+        Ok(guard) => Ok(NetParser {
+            around,
+            mode: Mode::InGuard { star, exit, guard },
+        }),
+        Err(TagStop::Memory) => Err(NetStop::Memory),
+        Err(TagStop::Refused) => Err(NetStop::Refused),
+        Err(TagStop::Ended {
+            part: guard,
+            symbol,
+            ..
+        }) => guarded(alloc, around, star, exit, guard, symbol),
+    }
+}
+
+/// Takes the symbol after a guard, which must close it.
+fn guarded(
+    alloc: Global,
+    around: Around,
+    star: Repeated,
+    exit: Variant,
+    guard: Kept<TExpr>,
+    symbol: Symbol,
+) -> Result<NetParser, NetStop>
+    ensures { GuardSteps around star exit guard symbol result }
+{
+    if symbol != Symbol::CloseParen {
+        return Err(NetStop::Refused);
+    }
+    let part = node::guarded_star(alloc, star.det, star.at, star.body, exit, guard)?;
+    Ok(NetParser {
+        around,
+        mode: Mode::Have { part },
+    })
+}
+
+/// Takes the token where the tag of a split comes next.
+pub fn index(
+    alloc: Global,
+    around: Around,
+    split: Repeated,
+    token: Terminal,
+) -> Result<NetParser, NetStop>
+    ensures { StepsIn around (some_mode.Index split) token result }
+{
+    let Terminal::Tag(tag) = token else {
+        return Err(NetStop::Refused);
+    };
+    let part = node::split(alloc, split.det, split.at, split.body, tag)?;
+    Ok(NetParser {
+        around,
+        mode: Mode::Have { part },
+    })
+}
