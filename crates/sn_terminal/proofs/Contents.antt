@@ -8,12 +8,12 @@ use Rattle.sn_lexer.proofs.Contents.{written}
 use Rattle.sn_terminal.specs.Words.{bracketed}
 
 -- what stands between two bytes
-pub between : (word inside : List ℕ) (first last : ℕ) → word ≡ first ∷ (inside ++ last ∷ []) → take (length word - 2) (drop 1 word) ≡ inside
+pub between : (word inside : List ℕ) (first last : ℕ) → word ≡ first ∷ (inside ++ last ∷ []) → take (length word - 1 - 1) (drop 1 word) ≡ inside
 between word inside first last is =
     let whole = ap length is in
     let long = length-append inside (last ∷ []) in
-    let size : length inside ≡ length word - 2 = omega arith in
-    ap (λ w. take (length word - 2) (drop 1 w)) is ∙ take_at inside (last ∷ []) (length word - 2) size
+    let size : length inside ≡ length word - 1 - 1 = omega arith in
+    ap (λ w. take (length word - 1 - 1) (drop 1 w)) is ∙ take_at inside (last ∷ []) (length word - 1 - 1) size
 
 pub between_long : (word inside : List ℕ) (first last : ℕ) → word ≡ first ∷ (inside ++ last ∷ []) → 2 ≤ length word
 between_long word inside first last is = let whole = ap length is in let long = length-append inside (last ∷ []) in omega arith
@@ -71,6 +71,22 @@ read_plain content so_far b rest plain r = by r.left r.whole r.is_left
     by (c ∷ left) whole is =
         let one = (next_byte c left b rest is).1 plain in
         record { left = left; whole = whole ∙ ap (λ x. so_far ++ x ∷ left) (sym one.0) ∙ sym (append_assoc so_far (b ∷ []) left); is_left = one.1 }
+
+-- the same for the values that the loop has then
+pub step_backslash : (content so_far more : List ℕ) (is_escaped then_escaped : Bool) (b : ℕ) (rest : List ℕ) → is_escaped ≡ false → b ≡ 92 →
+    more ≡ so_far → then_escaped ≡ true → IsReadUpTo content so_far is_escaped (b ∷ rest) → IsReadUpTo content more then_escaped rest
+step_backslash content so_far more is_escaped then_escaped b rest plain backslash same escapes r =
+    rw (same, escapes) (read_backslash content so_far b rest backslash (rw plain at r))
+
+pub step_escaped : (content so_far more : List ℕ) (is_escaped then_escaped : Bool) (b : ℕ) (rest : List ℕ) → is_escaped ≡ true →
+    more ≡ so_far ++ b ∷ [] → then_escaped ≡ false → IsReadUpTo content so_far is_escaped (b ∷ rest) → IsReadUpTo content more then_escaped rest
+step_escaped content so_far more is_escaped then_escaped b rest escaped longer ends r =
+    rw (longer, ends) (read_escaped content so_far b rest (rw escaped at r))
+
+pub step_other : (content so_far more : List ℕ) (is_escaped then_escaped : Bool) (b : ℕ) (rest : List ℕ) → b ≢ 92 →
+    more ≡ so_far ++ b ∷ [] → then_escaped ≡ false → IsReadUpTo content so_far is_escaped (b ∷ rest) → IsReadUpTo content more then_escaped rest
+step_other content so_far more true then_escaped b rest other longer ends r = rw (longer, ends) (read_escaped content so_far b rest r)
+step_other content so_far more false then_escaped b rest other longer ends r = rw (longer, ends) (read_plain content so_far b rest other r)
 
 written_none : (left : List ℕ) → [] ≡ written left → left ≡ []
 written_none [] is = refl

@@ -3,6 +3,7 @@ ghost use Rattle.sn_lexer.specs.Spelling.{quoted};
 ghost use Rattle.sn_terminal.specs.Words.{IsQuoted};
 
 use sn_list::{Memory, Seq};
+use sn_stack::append;
 use sn_ast::Text;
 use std::alloc::Global;
 
@@ -17,7 +18,7 @@ pub fn content_of(alloc: Global, word: &[u8]) -> Result<Text, Memory>
         if *byte == b'\\' && !is_escaped {
             is_escaped = true;
         } else {
-            content.append(*byte)?;
+            append(&mut content, *byte)?;
             is_escaped = false;
         }
     }
