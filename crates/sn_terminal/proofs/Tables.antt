@@ -1,6 +1,7 @@
 -- The words of keywords and symbols: each spells one, and each word of these kinds is one's.
-use Rattle.std.proofs.Common.{◌≡◌, ◌≢◌, ℕ, Bool, true, false, ◌||◌, nat_eq, List, [], ◌∷◌, map, cond, refl, sym, ap, ◌∙◌, subst}
-use Rattle.std.specs.Prelude.{Option, Some, None, MatchOption}
+use Rattle.std.proofs.Common.{◌≡◌, ◌≢◌, ℕ, Bool, true, false, ◌||◌, nat_eq, List, [], ◌∷◌, map, cond, Bor, refl, sym, ap, ◌∙◌, subst}
+use Rattle.std.specs.Prelude.{Option, Some, None}
+use Rattle.std.specs.Option.{option_map}
 use Rattle.std.specs.List.{find, list_any}
 use Rattle.std.specs.Cmp.Lexicographic.{pointwise}
 use Rattle.std.proofs.lemmas.Bool.{false≢true}
@@ -27,6 +28,30 @@ found word_of (k ∷ ks) word e h =
       | true ↦ λ t one. let here : (word_of k, k) ≡ e = cc in sym (same_words (word_of k) word t) ∙ ap (λ x. word_of x.1) here
       | false ↦ λ t rest. found word_of ks word e rest
     ] refl h
+
+-- the same for a table that borrows its words
+abbrev pub plain : {K : Type 0} → Bor (List ℕ) × K → List ℕ × K
+plain entry = (entry.0.now, entry.1)
+
+find_plain : {K : Type 0} (word : List ℕ) (es : List (Bor (List ℕ) × K)) → option_map plain (find (λ e. has_word word (plain e)) es) ≡ find (has_word word) (map plain es)
+find_plain word [] = refl
+find_plain word (e ∷ es) = by (has_word word (plain e)) (find_plain word es)
+  where
+    by : (b : Bool) → option_map plain (find (λ x. has_word word (plain x)) es) ≡ find (has_word word) (map plain es) →
+        option_map plain (cond b (Some e) (find (λ x. has_word word (plain x)) es)) ≡ cond b (Some (plain e)) (find (has_word word) (map plain es))
+    by true rest = refl
+    by false rest = rest
+
+-- what a search in a table that borrows its words found, and that it found nothing
+module _ {K : Type 0} (word : List ℕ) (es : List (Bor (List ℕ) × K)) (table : List (List ℕ × K)) (answer : Option (Bor (Bor (List ℕ) × K))) where
+  pub found_entry : option_map (λ e. e.now) answer ≡ find (λ e. has_word word (plain e)) es → map plain es ≡ table →
+      (entry : Bor (Bor (List ℕ) × K)) → answer ≡ Some entry → find (has_word word) table ≡ Some (plain entry.now)
+  found_entry is all entry some =
+      sym (ap (find (has_word word)) all) ∙ sym (find_plain word es) ∙ ap (option_map plain) (sym is ∙ ap (option_map (λ e. e.now)) some)
+
+  pub found_nothing : option_map (λ e. e.now) answer ≡ find (λ e. has_word word (plain e)) es → map plain es ≡ table → answer ≡ None → find (has_word word) table ≡ None
+  found_nothing is all none =
+      sym (ap (find (has_word word)) all) ∙ sym (find_plain word es) ∙ ap (option_map plain) (sym is ∙ ap (option_map (λ e. e.now)) none)
 
 -- a word in a table is that of an entry
 pub one_of : {K : Type 0} (word_of : K → List ℕ) (ks : List K) (word : List ℕ) → is_among (map word_of ks) word ≡ true → (k : K) × (word ≡ word_of k)
@@ -65,7 +90,7 @@ no_keyword word h k same = let known = keyword_known k in let none = subst (λ w
 
 pub keyword_once : (j k : Keyword) → keyword_word j ≡ keyword_word k → j ≡ k
 keyword_once j k same =
-    let one = sym (keyword_known j) ∙ ap (λ w. find (has_word w) keyword_table) same ∙ keyword_known k in cc
+    let one = sym (keyword_known j) ∙ ap (λ w. find (has_word w) keyword_table) same ∙ keyword_known k in let left : List ℕ × Keyword = (keyword_word j, j) in let right : List ℕ × Keyword = (keyword_word k, k) in let pair : left ≡ right = cc in ap (λ e. e.1) pair
 
 pub keyword_is : (word : List ℕ) → is_keyword word ≡ true → (k : Keyword) × (word ≡ keyword_word k)
 unfolding is_keyword
@@ -119,7 +144,7 @@ no_symbol word h s same = let known = symbol_known s in let none = subst (λ w. 
 
 pub symbol_once : (r s : Symbol) → symbol_word r ≡ symbol_word s → r ≡ s
 symbol_once r s same =
-    let one = sym (symbol_known r) ∙ ap (λ w. find (has_word w) symbol_table) same ∙ symbol_known s in cc
+    let one = sym (symbol_known r) ∙ ap (λ w. find (has_word w) symbol_table) same ∙ symbol_known s in let left : List ℕ × Symbol = (symbol_word r, r) in let right : List ℕ × Symbol = (symbol_word s, s) in let pair : left ≡ right = cc in ap (λ e. e.1) pair
 
 abbrev lone : List Symbol
 lone = OpenParen ∷ CloseParen ∷ OpenBrace ∷ CloseBrace ∷ OpenBracket ∷ CloseBracket ∷ Comma ∷ Semicolon ∷ Colon ∷ Assign ∷ Less ∷ Greater ∷ Plus ∷ Minus ∷ Star ∷ Slash ∷ Percent ∷ Bar ∷ Bang ∷ Question ∷ []
