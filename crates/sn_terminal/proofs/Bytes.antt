@@ -67,8 +67,8 @@ quoted_low content h = (omega arith, low_append (written content) (34 ∷ []) (w
 pub text_bytes : (word : List ℕ) (text : IsText word) → encode_utf8_all word ≡ quoted text.content
 text_bytes word text = ap encode_utf8_all text.written ∙ low_bytes (quoted text.content) (quoted_low text.content text.printable)
 
-pub tag_bytes : (word : List ℕ) (tag : IsTag word) → encode_utf8_all word ≡ bracketed (encode_utf8_all tag.name)
-tag_bytes word tag = ap encode_utf8_all tag.written ∙ (λ i. encode_ascii 60 (omega arith) i ++ (encodes-append tag.name (62 ∷ []) ∙ ap (λ xs. encode_utf8_all tag.name ++ xs) (low_bytes (62 ∷ []) (omega arith, tt))) i)
+pub tag_bytes : (word : List ℕ) (t : IsTag word) → encode_utf8_all word ≡ bracketed (encode_utf8_all t.name)
+tag_bytes word t = ap encode_utf8_all t.written ∙ (λ i. encode_ascii 60 (omega arith) i ++ (encodes-append t.name (62 ∷ []) ∙ ap (λ xs. encode_utf8_all t.name ++ xs) (low_bytes (62 ∷ []) (omega arith, tt))) i)
 
 -- words of keywords and symbols
 is_low : ℕ → Bool
@@ -102,6 +102,12 @@ module _ (bytes : List ℕ) where
   pub is_number : (s : IsSpelled kind.Number bytes) → bytes ≡ s.word
   is_number s = s.written ∙ number_bytes s.word s.spelled
 
+  pub number_digits : IsSpelled kind.Number bytes → list_all is_ascii_digit bytes ≡ true
+  number_digits s = subst (λ w. list_all is_ascii_digit w ≡ true) (sym (is_number s)) (numeral_digits s.word s.spelled)
+
+  pub number_fits : IsSpelled kind.Number bytes → digits_value 10 bytes ≤ 9223372036854775807
+  number_fits s = subst (λ w. digits_value 10 w ≤ 9223372036854775807) (sym (is_number s)) s.within
+
   pub is_text : IsSpelled kind.Text bytes → IsQuoted bytes
   is_text s = (s.spelled.content, s.written ∙ text_bytes s.word s.spelled)
 
@@ -117,5 +123,5 @@ each_says kind.Ident bytes at s = (_, name)
 each_says kind.Keyword bytes at s = let one = is_keyword_word bytes s in (_, keyword one.1)
 each_says kind.Tag bytes at s = let one = is_tag bytes s in (_, tag one.1)
 each_says kind.Number bytes at s = (_, number)
-each_says kind.Text bytes at s = let one = is_text bytes s in (_, literal one.1)
+each_says kind.Text bytes at s = let one = is_text bytes s in (_, literal {content = one.0} one.1)
 each_says kind.Symbol bytes at s = let one = is_symbol_word bytes s in (_, symbol one.1)

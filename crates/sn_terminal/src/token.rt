@@ -18,6 +18,14 @@ fn name(alloc: Global, text: &[u8], at: u32) -> Result<Ident, Memory>
     Ok(Ident { text, at })
 }
 
+/// The name in a tag.
+fn name_in(tag: &[u8]) -> &[u8]
+    requires { IsBracketed tag.now }
+    ensures { tag.now ≡ bracketed result.now }
+{
+    &tag[1..tag.len() - 1]
+}
+
 /// What a word of the kind says.
 fn say(alloc: Global, kind: TokenKind, word: &[u8], at: u32) -> Result<Terminal, Memory>
     requires spelled { IsSpelled kind word.now }
@@ -25,7 +33,7 @@ fn say(alloc: Global, kind: TokenKind, word: &[u8], at: u32) -> Result<Terminal,
 {
     match kind {
         TokenKind::Ident => Ok(Terminal::Name(name(alloc, word, at)?)),
-        TokenKind::Tag => Ok(Terminal::Tag(name(alloc, &word[1..word.len() - 1], at)?)),
+        TokenKind::Tag => Ok(Terminal::Tag(name(alloc, name_in(word), at)?)),
         TokenKind::Number => Ok(Terminal::Number {
             value: value_of(word),
             at,
