@@ -1,11 +1,10 @@
 -- What stands between quotes and between angle brackets, and how a text's content is read.
-use Rattle.std.proofs.Common.{◌≡◌, ◌≢◌, ◌==◌, ℕ, ◌+◌, ◌-◌, ◌≤◌, Bool, true, false, List, [], ◌∷◌, ◌++◌, length, length-append, take, drop, append_assoc, append-nil, refl, sym, ap, ◌∙◌, subst, arith}
+use Rattle.std.proofs.Common.{◌≡◌, ◌≢◌, ◌==◌, ℕ, ◌-◌, ◌≤◌, Bool, true, false, List, [], ◌∷◌, ◌++◌, length, length-append, take, drop, append_assoc, append-nil, refl, sym, ap, ◌∙◌, arith}
 use Rattle.std.specs.Prelude.{if◌then◌else◌}
 use Rattle.std.proofs.lemmas.Bool.{false≢true, eqb-true, eqb-false}
 use Rattle.std.proofs.lemmas.List.{append_cancel_right, take_at}
-use Rattle.sn_lexer.specs.Spelling.{escaped, is_escapable, quoted}
+use Rattle.sn_lexer.specs.Spelling.{escaped, is_escapable}
 use Rattle.sn_lexer.proofs.Contents.{written}
-use Rattle.sn_terminal.specs.Words.{bracketed}
 
 -- what stands between two bytes
 pub between : (word inside : List ℕ) (first last : ℕ) → word ≡ first ∷ (inside ++ last ∷ []) → take (length word - 1 - 1) (drop 1 word) ≡ inside

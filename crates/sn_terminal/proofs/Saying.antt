@@ -1,12 +1,12 @@
 -- A token says one thing, and tokens say their terminals one by one.
-use Rattle.std.proofs.Common.{◌≡◌, ℕ, List, [], ◌∷◌, ◌++◌, map, length, refl, sym, ap, ◌∙◌}
+use Rattle.std.specs.Prelude.{slice_get, Some}
+use Rattle.std.proofs.Common.{◌≡◌, ℕ, zero, suc, subst, List, [], ◌∷◌, ◌++◌, map, refl, sym, ap, ◌∙◌}
 use Rattle.sn_ast.specs.Terminals.{place_of}
 use Rattle.sn_ast.specs.declared.terminal.Terminal.{Terminal}
 use Rattle.sn_ast.specs.declared.terminal.Terminal.TheVariants as terminal
 use Rattle.sn_lexer.specs.Placed.{IsPlaced, ArePlaced, spelling}
 use Rattle.sn_lexer.specs.declared.token.Token.{Token}
 use Rattle.sn_lexer.specs.declared.token.TokenKind.{TokenKind}
-use Rattle.sn_lexer.specs.declared.token.TokenKind.TheVariants as kind
 use Rattle.sn_terminal.proofs.Bytes.{each_says}
 use Rattle.sn_terminal.proofs.Contents.{same_inside, written_once}
 use Rattle.sn_terminal.proofs.Tables.{keyword_once, symbol_once}
@@ -43,6 +43,12 @@ pub placed_say : (source : List ℕ) (from : ℕ) (tokens : List Token) → AreP
 placed_say source from [] p = ([], tt)
 placed_say source from (t ∷ ts) p =
     let x = placed_says source t p.1 in let xs = placed_say source t.end ts p.2 in (x.0 ∷ xs.0, (x.1, xs.1))
+
+-- each of the tokens is placed
+pub placed_in : (source : List ℕ) (from : ℕ) (tokens : List Token) (i : ℕ) (token : Token) → ArePlaced source from tokens → slice_get tokens i ≡ Some token → IsPlaced source token
+placed_in source from [] i token p at = absurd cc
+placed_in source from (t ∷ ts) zero token p at = let one : t ≡ token = cc in subst (IsPlaced source) one p.1
+placed_in source from (t ∷ ts) (suc i) token p at = placed_in source t.end ts i token p.2 at
 
 pub say_join : (source : List ℕ) (ts us : List Token) (xs ys : List Terminal) → Say source ts xs → Say source us ys → Say source (ts ++ us) (xs ++ ys)
 say_join source [] us [] ys p q = q

@@ -2,14 +2,14 @@
 use Rattle.std.proofs.Common.{◌≡◌, ◌≢◌, ℕ, Bool, true, false, ◌||◌, nat_eq, List, [], ◌∷◌, map, cond, Bor, refl, sym, ap, ◌∙◌, subst}
 use Rattle.std.specs.Prelude.{Option, Some, None}
 use Rattle.std.specs.Option.{option_map}
-use Rattle.std.specs.List.{find, list_any}
+use Rattle.std.specs.List.{find}
 use Rattle.std.specs.Cmp.Lexicographic.{pointwise}
 use Rattle.std.proofs.lemmas.Bool.{false≢true}
 use Rattle.sn_ast.specs.declared.terminal.Keyword.{Keyword}
 use Rattle.sn_ast.specs.declared.terminal.Keyword.TheVariants.{Box, Net, Connect, «Type» as TypeWord, TypeSig, If, Then, Else, Let, In, Out, Fun}
 use Rattle.sn_ast.specs.declared.terminal.Symbol.{Symbol}
 use Rattle.sn_ast.specs.declared.terminal.Symbol.TheVariants.{OpenParen, CloseParen, OpenBrace, CloseBrace, OpenBracket, CloseBracket, OpenSync, CloseSync, Comma, Semicolon, Colon, Assign, Equal, NotEqual, Less, LessEqual, Greater, GreaterEqual, Plus, Minus, Star, Slash, Percent, AndAnd, BarBar, Bar, Bang, BangBang, StarStar, Dots, Arrow, Question}
-use Rattle.sn_lexer.specs.Spelling.{is_among, is_keyword, is_symbol, lone_symbols, paired_symbols, keywords}
+use Rattle.sn_lexer.specs.Spelling.{is_among, is_keyword, is_symbol, lone_symbols, paired_symbols}
 use Rattle.sn_lexer.proofs.Tables.{same_words}
 use Rattle.sn_terminal.specs.Words.{keyword_word, symbol_word}
 

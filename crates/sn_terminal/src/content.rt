@@ -2,9 +2,9 @@ ghost use Rattle.std.specs.Prelude.{◌≡◌, IfOk};
 ghost use Rattle.sn_lexer.specs.Spelling.{quoted};
 ghost use Rattle.sn_terminal.specs.Words.{IsQuoted};
 
+use sn_ast::Text;
 use sn_list::{Memory, Seq};
 use sn_stack::append;
-use sn_ast::Text;
 use std::alloc::Global;
 
 /// A text without its quotes, and without the backslashes that escape.

@@ -4,7 +4,14 @@ ghost use Rattle.sn_ast.specs.Terminals.{place_of};
 ghost use Rattle.sn_ast.specs.declared.terminal.Terminal.{Terminal as SomeTerminal};
 ghost use Rattle.sn_lexer.specs.Placed.{ArePlaced};
 ghost use Rattle.sn_lexer.specs.declared.token.Token.{Token as SomeToken};
-ghost use Rattle.sn_terminal.specs.Words.{Say};
+ghost use Rattle.sn_lexer.specs.declared.token.TokenKind.{TokenKind as SomeKind};
+ghost use Rattle.sn_terminal.specs.Words.{IsSpelled, Say, Says};
+
+/// A word of a kind says one thing.
+pub fn words_say_one_thing()
+    ensures once { (kind : SomeKind) (bytes : List ℕ) (at : ℕ) (x y : SomeTerminal) → Says kind bytes at x → Says kind bytes at y → x ≡ y }
+    ensures something { (kind : SomeKind) (bytes : List ℕ) (at : ℕ) → IsSpelled kind bytes → (x : SomeTerminal) × Says kind bytes at x }
+{}
 
 /// The tokens of a source say one list of terminals.
 pub fn tokens_say_one_thing()

@@ -1,4 +1,4 @@
-use Rattle.std.proofs.Common.{refl, sym, ◌∙◌, subst, ◌≡◌, ℕ, ◌-◌, List, ap, take, drop, length}
+use Rattle.std.proofs.Common.{◌∙◌, subst, ℕ, ◌-◌, List, ap, take, drop, length}
 use Rattle.std.proofs.lemmas.List.{drop_more, drop_all}
 use Rattle.sn_lexer.specs.Spelling.{quoted}
 use Rattle.sn_terminal.proofs.Contents.{IsReadUpTo, between, nothing_read, step_backslash, step_escaped, step_other, read_whole}

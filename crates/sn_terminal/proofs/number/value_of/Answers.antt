@@ -1,8 +1,8 @@
-use Rattle.std.proofs.Common.{rules, refl, sym, ◌∙◌, ap, ◌≡◌, ◌≤◌, ◌*◌, ◌+◌, ◌-◌, get_or, subst, pos, w64, arith}
+use Rattle.std.proofs.Common.{refl, ◌∙◌, ap, pos, w64, arith}
 use Rattle.std.proofs.lemmas.Int.{to_z_pos}
 use Rattle.std.proofs.lemmas.List.{take_all}
 use Rattle.std.specs.Str.Parse.{digits_value}
-use Rattle.sn_terminal.proofs.Numbers.{HasValue, next_digit}
+use Rattle.sn_terminal.proofs.Numbers.{next_digit}
 use Rattle.sn_terminal.proofs.number.value_of.Goals as goal
 
 pub loop-digit-init : goal.loop-digit-init

@@ -1,7 +1,6 @@
-use Rattle.std.proofs.Common.{rules, subst, sym, to_z, of_z, w64, FitsSigned}
+use Rattle.std.proofs.Common.{rules, subst, w64, FitsSigned}
 use Rattle.std.proofs.lemmas.Int.{to_z-of_z}
-use Rattle.sn_lexer.specs.declared.token.TokenKind.TheVariants as kind
-use Rattle.sn_terminal.specs.Words.{IsSpelled, Says, name, tag, number, literal, keyword, symbol}
+use Rattle.sn_terminal.specs.Words.{IsSpelled, name, tag, number, literal, keyword, symbol}
 use Rattle.sn_terminal.proofs.Bytes.{is_tag, number_digits, number_fits, is_text, is_keyword_word, is_symbol_word}
 use Rattle.sn_terminal.proofs.token.say.Goals as goal
 

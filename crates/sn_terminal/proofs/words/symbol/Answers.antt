@@ -8,7 +8,7 @@ pub returns-in_err-entry : goal.returns-in_err-entry
 returns-in_err-entry c =
     let ran = find_from_yields_List {v = λ x. x.now} (λ e. has_word c.args.word.now (plain e)) _ _ _ c.find.ensures.ran (YieldsList-from_slice c.iter.result.rest.now refl) (λ x b q k. search (rules, tests)) in
     rw c.from_residual.ensures (no_symbol c.args.word.now
-      (found_nothing c.args.word.now c.iter.result.rest.now symbol_table c.find.result ran (ap (map plain) c.iter.ensures.rest) c.in_err-entry.was))
+    (found_nothing c.args.word.now c.iter.result.rest.now symbol_table c.find.result ran (ap (map plain) c.iter.ensures.rest) c.in_err-entry.was))
 
 pub returns : goal.returns
 returns c =
