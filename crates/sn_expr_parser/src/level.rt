@@ -32,7 +32,6 @@ pub type Waiting<E> = Option<(Kept<E>, Operator, u32)>;
 
 /// What stands before an operand: a finished left side for each kind of operator, from the loosest to the tightest,
 /// and the signs, the last one first.
-#[derive(Drop)]
 pub struct Level<E> {
     pub or: Option<(Kept<E>, u32)>,
     pub and: Option<(Kept<E>, u32)>,
@@ -40,6 +39,19 @@ pub struct Level<E> {
     pub sum: Waiting<E>,
     pub product: Waiting<E>,
     pub signs: Stack<(Sign, u32)>,
+}
+
+impl<E: Drop> Drop for Level<E> {
+    fn drop(self) {
+        let Level {
+            or: _or,
+            and: _and,
+            comparison: _comparison,
+            sum: _sum,
+            product: _product,
+            signs: _signs,
+        } = self;
+    }
 }
 
 fn with_sign<E: Expression>(

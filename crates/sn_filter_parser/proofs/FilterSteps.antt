@@ -1,33 +1,26 @@
 -- One token of a filter at a time: what completes the state before it begins with it, and goes on as what completes the
 -- state after it.
-use Rattle.std.proofs.Common.{ℕ, List, [], ◌∷◌, ◌≡◌, ◌↔◌, Result, Ok, Err, refl, sym, subst}
+use Rattle.std.proofs.Common.{ℕ, List, ◌∷◌, ◌≡◌, ◌↔◌, Ok, refl, sym, subst}
 use Rattle.sn_ast.specs.Kept.{Kept, kept}
-use Rattle.sn_ast.specs.Labels.{Labels, variant, no_labels}
-use Rattle.sn_ast.specs.Networks.{Filter, Items as AreItems, MoreTemplates, Template as IsTemplate, filter, filter_at, template, no_items, last_template, more_templates}
-use Rattle.sn_ast.specs.Rows.{no_parts, with_part}
+use Rattle.sn_ast.specs.Labels.{Labels, variant}
+use Rattle.sn_ast.specs.Networks.{Filter, Items as AreItems, filter, filter_at, template, last_template, more_templates}
+use Rattle.sn_ast.specs.Rows.{no_parts}
 use Rattle.sn_ast.specs.declared.label.LabelAt.{LabelAt}
 use Rattle.sn_ast.specs.declared.label.Variant.{Variant}
 use Rattle.sn_ast.specs.declared.network.ItemAt.{ItemAt}
 use Rattle.sn_ast.specs.declared.network.NetExpr.{NetExpr}
 use Rattle.sn_ast.specs.declared.terminal.Bracket.TheVariants.{Brace}
-use Rattle.sn_ast.specs.declared.terminal.Symbol.TheVariants.{OpenBrace, CloseBrace, CloseBracket, Semicolon, Arrow as ArrowSign}
+use Rattle.sn_ast.specs.declared.terminal.Symbol.TheVariants.{OpenBrace, CloseBracket, Semicolon, Arrow as ArrowSign}
 use Rattle.sn_ast.specs.declared.terminal.Terminal.{Terminal}
 use Rattle.sn_ast.specs.declared.terminal.Terminal.TheVariants.{Symbol}
-use Rattle.sn_filter_parser.proofs.ItemLaws.{no_end as no_end_items, completable as completable_items}
-use Rattle.sn_filter_parser.specs.FilterResidual.{Row, with_template, AfterTemplate, NextTemplate, InItems, NextArrow, InPattern, after_template, next_template, in_items, next_arrow, in_pattern, Completes, CompletesIn, StepsIn}
+use Rattle.sn_filter_parser.specs.FilterResidual.{Row, with_template, AfterTemplate, NextTemplate, InItems, NextArrow, InPattern, after_template, next_template, in_items, next_arrow, in_pattern}
 use Rattle.sn_filter_parser.specs.ItemResidual.{Completes as CompletesItems, Steps as ItemSteps}
-use Rattle.sn_filter_parser.specs.declared.filter.FilterParser.{FilterParser}
-use Rattle.sn_filter_parser.specs.declared.filter.Mode.{Mode}
-use Rattle.sn_filter_parser.specs.declared.filter.Mode.TheVariants.{Open, Pattern, Arrow, Template, Items, After}
 use Rattle.sn_filter_parser.specs.declared.items.ItemParser.{ItemParser}
 use Rattle.sn_filter_parser.specs.declared.items.ItemStep.TheVariants.{More as ItemMore, Done as ItemDone}
-use Rattle.sn_filter_parser.specs.declared.items.ItemStop.TheVariants.{Refused as ItemRefused}
-use Rattle.sn_type_parser.proofs.LabelLaws.{no_end as no_end_labels, completable as completable_labels}
 use Rattle.sn_type_parser.specs.LabelResidual.{Completes as CompletesLabels, Steps as LabelSteps}
 use Rattle.sn_type_parser.specs.Reads.{Read, read}
 use Rattle.sn_type_parser.specs.declared.labels.LabelParser.{LabelParser}
 use Rattle.sn_type_parser.specs.declared.labels.LabelStep.TheVariants.{More as LabelMore, Done as LabelDone}
-use Rattle.sn_type_parser.specs.declared.labels.LabelStop.TheVariants.{Refused as LabelRefused}
 
 -- The pattern begins.
 open_from : {at opening : ℕ} {s : LabelParser} {n : Kept NetExpr} {w us : List Terminal} →

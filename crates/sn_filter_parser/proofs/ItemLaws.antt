@@ -1,27 +1,14 @@
 -- What a parser that embeds the parser of items needs to know of its states.
-use Rattle.std.proofs.Common.{ℕ, true, false, List, [], ◌∷◌, ◌≡◌, ◌↔◌, Some, None, Result, Ok, Err, refl, sym, subst}
-use Rattle.sn_ast.specs.Kept.{Kept, kept}
-use Rattle.sn_ast.specs.Networks.{Item as IsItem, MoreItems, Items, same, renamed, computed, last_item, more_items, no_items, items, same_item}
-use Rattle.sn_ast.specs.Rows.{no_parts, with_part}
-use Rattle.sn_ast.specs.TagExprs.{TagExpr}
-use Rattle.sn_ast.specs.Terminals.{label_of}
-use Rattle.sn_ast.specs.declared.label.Ident.{Ident}
-use Rattle.sn_ast.specs.declared.label.LabelAt.{LabelAt}
-use Rattle.sn_ast.specs.declared.tag_expr.TExpr.{TExpr}
-use Rattle.sn_ast.specs.declared.terminal.Symbol.{Symbol as SomeSymbol}
-use Rattle.sn_ast.specs.declared.terminal.Symbol.TheVariants.{Assign, CloseBrace, Comma}
+use Rattle.std.proofs.Common.{true, false, List, [], ◌∷◌, refl}
+use Rattle.sn_ast.specs.Kept.{kept}
+use Rattle.sn_ast.specs.Networks.{MoreItems, same, last_item}
+use Rattle.sn_ast.specs.declared.terminal.Symbol.TheVariants.{CloseBrace}
 use Rattle.sn_ast.specs.declared.terminal.Terminal.{Terminal}
-use Rattle.sn_ast.specs.declared.terminal.Terminal.TheVariants.{Name, Tag, Number, Literal, Keyword, Symbol}
-use Rattle.sn_expr_parser.specs.TagResidual.{Completes as CompletesTag, Read as ReadTag, read as read_tag, ends, Steps as TagSteps}
-use Rattle.sn_expr_parser.specs.declared.tags.TagParser.{TagParser}
-use Rattle.sn_expr_parser.specs.declared.tags.TagStop.TheVariants.{Refused as TagRefused, Ended as TagEnded}
+use Rattle.sn_ast.specs.declared.terminal.Terminal.TheVariants.{Name, Symbol}
+use Rattle.sn_expr_parser.specs.TagResidual.{read as read_tag}
 use Rattle.sn_expr_parser.proofs.TagLaws.{no_end as no_end_tag, completable as completable_tag}
-use Rattle.sn_filter_parser.specs.ItemResidual.{Row, with_same, with_renamed, with_computed, NextItem, FirstItem, AfterNew, AfterName, AfterTag, InExpr, next_item, no_item, some_item, old_name, name_alone, name_assigned, tag_alone, tag_assigned, in_expr, Completes, CompletesIn, StepsIn}
+use Rattle.sn_filter_parser.specs.ItemResidual.{Row, with_same, with_renamed, with_computed, NextItem, next_item, no_item, some_item, old_name, name_alone, tag_alone, in_expr, Completes, CompletesIn}
 use Rattle.sn_filter_parser.specs.declared.items.ItemParser.{ItemParser}
-use Rattle.sn_filter_parser.specs.declared.items.ItemStep.{ItemStep}
-use Rattle.sn_filter_parser.specs.declared.items.ItemStep.TheVariants.{More, Done}
-use Rattle.sn_filter_parser.specs.declared.items.ItemStop.{ItemStop}
-use Rattle.sn_filter_parser.specs.declared.items.ItemStop.TheVariants.{Memory, Refused}
 use Rattle.sn_filter_parser.specs.declared.items.Mode.{Mode}
 use Rattle.sn_filter_parser.specs.declared.items.Mode.TheVariants.{First, Item, Named, Tagged, Renamed, Computed, After}
 use Rattle.sn_type_parser.proofs.Witnesses.{a_name}

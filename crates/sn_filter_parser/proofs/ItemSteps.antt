@@ -1,8 +1,8 @@
 -- One token of items at a time: what completes the state before it begins with it, and goes on as what completes the
 -- state after it.
-use Rattle.std.proofs.Common.{ℕ, true, false, List, [], ◌∷◌, ◌≡◌, ◌↔◌, Some, None, Result, Ok, Err, refl, sym, subst}
+use Rattle.std.proofs.Common.{ℕ, true, false, List, ◌∷◌, ◌≡◌, ◌↔◌, Some, Result, Ok, Err, refl, sym, subst}
 use Rattle.sn_ast.specs.Kept.{Kept, kept}
-use Rattle.sn_ast.specs.Networks.{Item as IsItem, MoreItems, Items, same, renamed, computed, last_item, more_items, no_items, items, same_item}
+use Rattle.sn_ast.specs.Networks.{MoreItems, Items, same, renamed, computed, last_item, more_items, no_items, items, same_item}
 use Rattle.sn_ast.specs.Rows.{no_parts, with_part}
 use Rattle.sn_ast.specs.TagExprs.{TagExpr}
 use Rattle.sn_ast.specs.Terminals.{label_of}
@@ -12,20 +12,17 @@ use Rattle.sn_ast.specs.declared.tag_expr.TExpr.{TExpr}
 use Rattle.sn_ast.specs.declared.terminal.Symbol.{Symbol as SomeSymbol}
 use Rattle.sn_ast.specs.declared.terminal.Symbol.TheVariants.{Assign, CloseBrace, Comma}
 use Rattle.sn_ast.specs.declared.terminal.Terminal.{Terminal}
-use Rattle.sn_ast.specs.declared.terminal.Terminal.TheVariants.{Name, Tag, Number, Literal, Keyword, Symbol}
+use Rattle.sn_ast.specs.declared.terminal.Terminal.TheVariants.{Name, Tag, Symbol}
 use Rattle.sn_expr_parser.specs.TagResidual.{Completes as CompletesTag, Read as ReadTag, read as read_tag, ends, Steps as TagSteps}
 use Rattle.sn_expr_parser.specs.declared.tags.TagParser.{TagParser}
 use Rattle.sn_expr_parser.specs.declared.tags.TagStop.TheVariants.{Refused as TagRefused, Ended as TagEnded}
-use Rattle.sn_expr_parser.proofs.TagLaws.{no_end as no_end_tag, completable as completable_tag}
-use Rattle.sn_filter_parser.specs.ItemResidual.{Row, with_same, with_renamed, with_computed, NextItem, FirstItem, AfterNew, AfterName, AfterTag, InExpr, next_item, no_item, some_item, old_name, name_alone, name_assigned, tag_alone, tag_assigned, in_expr, Completes, CompletesIn, StepsIn}
-use Rattle.sn_filter_parser.specs.declared.items.ItemParser.{ItemParser}
+use Rattle.sn_filter_parser.specs.ItemResidual.{Row, with_same, with_renamed, with_computed, NextItem, FirstItem, AfterNew, AfterName, AfterTag, InExpr, next_item, no_item, some_item, old_name, name_alone, name_assigned, tag_alone, tag_assigned, in_expr, CompletesIn, StepsIn}
 use Rattle.sn_filter_parser.specs.declared.items.ItemStep.{ItemStep}
 use Rattle.sn_filter_parser.specs.declared.items.ItemStep.TheVariants.{More, Done}
 use Rattle.sn_filter_parser.specs.declared.items.ItemStop.{ItemStop}
 use Rattle.sn_filter_parser.specs.declared.items.ItemStop.TheVariants.{Memory, Refused}
 use Rattle.sn_filter_parser.specs.declared.items.Mode.{Mode}
-use Rattle.sn_filter_parser.specs.declared.items.Mode.TheVariants.{First, Item, Named, Tagged, Renamed, Computed, After}
-use Rattle.sn_type_parser.proofs.Witnesses.{a_name}
+use Rattle.sn_filter_parser.specs.declared.items.Mode.TheVariants.{Computed, After}
 use Rattle.sn_type_parser.specs.Reads.{Read, read}
 
 pub start_from : {w us : List Terminal} {all : Row} → Items kept w all us → FirstItem (no_parts kept) w (read all us)

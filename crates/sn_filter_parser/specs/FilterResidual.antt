@@ -1,5 +1,5 @@
 -- What a filter still needs, after what was read of it.
-use Rattle.std.specs.Prelude.{ℕ, List, [], ◌∷◌, ◌≡◌, ◌↔◌, Result, Ok, Err}
+use Rattle.std.specs.Prelude.{ℕ, List, ◌∷◌, ◌≡◌, ◌↔◌, Result, Ok, Err}
 use Rattle.sn_ast.specs.Kept.{Kept, kept}
 use Rattle.sn_ast.specs.Networks.{Filter, MoreTemplates, Template as IsTemplate, filter_at}
 use Rattle.sn_ast.specs.Rows.{no_parts, with_part}

@@ -1,5 +1,5 @@
 -- What the items of a template still need, after those so far.
-use Rattle.std.specs.Prelude.{ℕ, Bool, true, false, List, [], ◌∷◌, ◌≡◌, ◌↔◌, Result, Ok, Err}
+use Rattle.std.specs.Prelude.{ℕ, Bool, true, false, List, ◌∷◌, ◌≡◌, ◌↔◌, Result, Ok, Err}
 use Rattle.sn_ast.specs.Kept.{Kept, kept}
 use Rattle.sn_ast.specs.Networks.{Item as IsItem, MoreItems, computed_item, renamed_item, same_item}
 use Rattle.sn_ast.specs.Rows.{with_part}

@@ -5,9 +5,8 @@ ghost use Rattle.std.specs.Prelude.{◌≡◌, [], ◌∷◌, ◌++◌, OnOk, On
 
 mod stack;
 
-pub use stack::Stack;
-
 use sn_list::{Memory, Seq};
+pub use stack::Stack;
 
 /// Appends `x`. For want of memory `x` is dropped, and the list is unchanged.
 pub fn append<T: Drop>(list: &mut Seq<T>, x: T) -> Result<(), Memory>
