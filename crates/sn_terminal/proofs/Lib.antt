@@ -1,0 +1,5 @@
+pub mod Bytes
+pub mod Contents
+pub mod Numbers
+pub mod Saying
+pub mod Tables
