@@ -8,4 +8,4 @@ pub returns-in-Err-Refused : goal.returns-in-Err-Refused
 returns-in-Err-Refused c = through_refused _ _ _ (rw c.in-Err-Refused.field-0-is at c.in-Err-Refused.ensures)
 
 pub returns-in-Err-Ended : goal.returns-in-Err-Ended
-returns-in-Err-Ended c = expr_ended _ _ _ _ _ _ (rw c.in-Err-Ended.field-0-is at c.in-Err-Ended.ensures) _ c.after_part.ensures
+returns-in-Err-Ended c = expr_ended _ c.args.part _ _ _ _ (rw c.in-Err-Ended.field-0-is at c.in-Err-Ended.ensures) _ c.after_part.ensures
