@@ -21,7 +21,7 @@ use Rattle.sn_type_parser.proofs.LabelSteps.{no_end as no_labels_end, completabl
 use Rattle.sn_type_parser.proofs.Witnesses.{a_name}
 use Rattle.sn_type_parser.specs.Reads.{read as read_labels}
 use Rattle.sn_type_parser.specs.declared.labels.LabelParser.{LabelParser}
-use Rattle.sn_box_parser.specs.BoxDeclResidual.{AfterBody, AfterOutput, AfterParam, AfterPart, Completes, CompletesIn, InExpr, InTuple, NextArrow, NextAssign, NextBody, NextBrace, NextFunction, NextOpening, NextParam, NextParams, NextTuple, Read, Through, WithOutput, after_body, after_output, after_param, after_part, next_arrow, next_assign, next_brace, next_function, next_opening, next_param, next_params, next_tuple, read, through, tuple_at}
+use Rattle.sn_box_parser.specs.BoxDeclResidual.{AfterBody, AfterOutput, AfterParam, AfterPart, Completes, CompletesIn, InExpr, InTuple, NextArrow, NextAssign, NextBrace, NextFunction, NextOpening, NextParam, NextParams, NextTuple, Read, Through, WithOutput, after_body, after_output, after_param, after_part, next_arrow, next_assign, next_brace, next_function, next_opening, next_param, next_params, next_tuple, read, through, tuple_at}
 use Rattle.sn_box_parser.specs.declared.machine.BoxDeclParser.{BoxDeclParser}
 use Rattle.sn_box_parser.specs.declared.machine.Mode.{Mode}
 use Rattle.sn_box_parser.specs.declared.machine.Mode.TheVariants as mode

@@ -83,8 +83,8 @@ pub expr_ended : (after : Kept BExpr → List Terminal → Read → Type 0) (s :
 expr_ended after s e y at x h r k =
     let P : Terminal → Type 0 = λ z. StepsFrom (after e) z r in
     steps_through (InExpr after s) (after e) x r
-      (through_done (ExprCompletes s) (λ q u. after q.part q.rest u) (λ w. read_expr e (x ∷ w)) x h.1)
-      (subst P (sym h.0) (k at))
+    (through_done (ExprCompletes s) (λ q u. after q.part q.rest u) (λ w. read_expr e (x ∷ w)) x h.1)
+    (subst P (sym h.0) (k at))
 
 -- what the parser of expressions answers of a new one
 abbrev Starts : BoxParser → Type 0

@@ -7,17 +7,15 @@ use Rattle.sn_ast.specs.Labels.{IsTuple}
 use Rattle.sn_ast.specs.Rows.{append, no_parts, with_part}
 use Rattle.sn_ast.specs.declared.box_expr.BExpr.{BExpr}
 use Rattle.sn_ast.specs.declared.declaration.Decl.{Decl}
-use Rattle.sn_ast.specs.declared.declaration.FunDecl.{FunDecl}
 use Rattle.sn_ast.specs.declared.label.Ident.{Ident}
 use Rattle.sn_ast.specs.declared.label.LabelAt.{LabelAt}
 use Rattle.sn_ast.specs.declared.label.Tuple.{Tuple}
 use Rattle.sn_ast.specs.declared.terminal.Symbol.TheVariants.{OpenParen, OpenBrace, CloseBrace, Semicolon, Assign as AssignSign, Arrow as ArrowSign}
 use Rattle.sn_ast.specs.declared.terminal.Terminal.{Terminal}
 use Rattle.sn_ast.specs.declared.terminal.Terminal.TheVariants.{Name, Symbol}
-use Rattle.sn_expr_parser.specs.BoxResidual.{Completes as ExprCompletes, Read as ExprRead}
+use Rattle.sn_expr_parser.specs.BoxResidual.{Completes as ExprCompletes}
 use Rattle.sn_expr_parser.specs.declared.boxes.BoxParser.{BoxParser}
 use Rattle.sn_type_parser.specs.LabelResidual.{Completes as LabelsComplete}
-use Rattle.sn_type_parser.specs.Reads.{Read as SomeRead}
 use Rattle.sn_type_parser.specs.declared.labels.LabelParser.{LabelParser}
 use Rattle.sn_box_parser.specs.declared.machine.BoxDeclParser.{BoxDeclParser}
 use Rattle.sn_box_parser.specs.declared.machine.BoxDeclStep.{BoxDeclStep}

@@ -86,11 +86,7 @@ fn next_part(
     }))
 }
 
-fn close(
-    opened: Opened,
-    sequence: Sequence,
-    part: Kept<BExpr>,
-) -> Result<BoxDeclStep, BoxDeclStop>
+fn close(opened: Opened, sequence: Sequence, part: Kept<BExpr>) -> Result<BoxDeclStep, BoxDeclStop>
     ensures { (at : ℕ) → StepsFrom (AfterPart opened sequence.at sequence.so_far part) (some_token.Symbol some_symbol.CloseBrace at) result }
 {
     let body = sequence.ended(part)?;

@@ -5,9 +5,7 @@ ghost use Rattle.sn_ast.specs.declared.declaration.Decl.{Decl as SomeDecl};
 ghost use Rattle.sn_ast.specs.declared.terminal.Terminal.{Terminal as SomeTerminal};
 ghost use Rattle.sn_box_parser.specs.BoxDeclResidual.{Completes, Read, Steps, read};
 
-use crate::body;
-use crate::function;
-use crate::head;
+use crate::{body, function, head};
 use sn_ast::{BExpr, Decl, FunDecl, Ident, Kept, Seq, Terminal, Tuple};
 use sn_expr_parser::BoxParser;
 use sn_list::Memory;
@@ -74,36 +72,84 @@ pub struct Sequence {
 #[derive(Drop)]
 pub enum Mode {
     /// The `(` after the box's name.
-    Opening { name: Ident },
+    Opening {
+        name: Ident,
+    },
     /// The input.
-    Input { name: Ident },
-    InInput { name: Ident, opening: u32, labels: LabelParser },
+    Input {
+        name: Ident,
+    },
+    InInput {
+        name: Ident,
+        opening: u32,
+        labels: LabelParser,
+    },
     /// The `->` after the input.
-    Arrow { name: Ident, input: Tuple },
+    Arrow {
+        name: Ident,
+        input: Tuple,
+    },
     /// An output.
-    Output { head: Head },
-    InOutput { head: Head, opening: u32, labels: LabelParser },
+    Output {
+        head: Head,
+    },
+    InOutput {
+        head: Head,
+        opening: u32,
+        labels: LabelParser,
+    },
     /// What may stand after an output.
-    AfterOutput { head: Head },
+    AfterOutput {
+        head: Head,
+    },
     /// The `{` that opens the body.
-    Brace { head: Head },
+    Brace {
+        head: Head,
+    },
     /// A function, or the sequence of the body.
-    Body { opened: Opened },
+    Body {
+        opened: Opened,
+    },
     /// A function's name.
-    FunctionName { opened: Opened },
+    FunctionName {
+        opened: Opened,
+    },
     /// The `(` after a function's name.
-    FunctionOpening { opened: Opened, name: Ident },
+    FunctionOpening {
+        opened: Opened,
+        name: Ident,
+    },
     /// A function's first parameter, or the `)` after none.
-    FirstParam { opened: Opened, name: Ident },
+    FirstParam {
+        opened: Opened,
+        name: Ident,
+    },
     /// A function's parameter.
-    Param { opened: Opened, function: Function },
+    Param {
+        opened: Opened,
+        function: Function,
+    },
     /// What may stand after a parameter.
-    AfterParam { opened: Opened, function: Function },
+    AfterParam {
+        opened: Opened,
+        function: Function,
+    },
     /// The `=` before a function's body.
-    Assign { opened: Opened, function: Function },
-    InFunction { opened: Opened, function: Function, body: BoxParser },
+    Assign {
+        opened: Opened,
+        function: Function,
+    },
+    InFunction {
+        opened: Opened,
+        function: Function,
+        body: BoxParser,
+    },
     /// A part of the body's sequence.
-    InPart { opened: Opened, sequence: Sequence, part: BoxParser },
+    InPart {
+        opened: Opened,
+        sequence: Sequence,
+        part: BoxParser,
+    },
 }
 
 /// A box that is being read.
@@ -131,10 +177,18 @@ impl BoxDeclParser {
         match mode {
             Mode::Opening { name } => head::opening(name, token),
             Mode::Input { name } => head::input(alloc, name, token),
-            Mode::InInput { name, opening, labels } => head::in_input(name, opening, labels, token),
+            Mode::InInput {
+                name,
+                opening,
+                labels,
+            } => head::in_input(name, opening, labels, token),
             Mode::Arrow { name, input } => head::arrow(alloc, name, input, token),
             Mode::Output { head } => head::output(alloc, head, token),
-            Mode::InOutput { head, opening, labels } => head::in_output(head, opening, labels, token),
+            Mode::InOutput {
+                head,
+                opening,
+                labels,
+            } => head::in_output(head, opening, labels, token),
             Mode::AfterOutput { head } => head::after_output(head, token),
             Mode::Brace { head } => head::brace(alloc, head, token),
             Mode::Body { opened } => body::begin(alloc, opened, token),
@@ -144,12 +198,16 @@ impl BoxDeclParser {
             Mode::Param { opened, function } => function::param(opened, function, token),
             Mode::AfterParam { opened, function } => function::after_param(opened, function, token),
             Mode::Assign { opened, function } => function::assign(alloc, opened, function, token),
-            Mode::InFunction { opened, function, body } => {
-                function::in_function(alloc, opened, function, body, token)
-            }
-            Mode::InPart { opened, sequence, part } => {
-                body::in_part(alloc, opened, sequence, part, token)
-            }
+            Mode::InFunction {
+                opened,
+                function,
+                body,
+            } => { function::in_function(alloc, opened, function, body, token) }
+            Mode::InPart {
+                opened,
+                sequence,
+                part,
+            } => { body::in_part(alloc, opened, sequence, part, token) }
         }
     }
 }

@@ -10,5 +10,5 @@ returns-in-Some c = λ w t. rw c.in-Some.ensures (fun_from, fun_to)
 pub returns : goal.returns
 returns c =
     steps_through (NextBody c.args.opened) (InExpr (AfterPart c.args.opened c.place.result None) c.start.result) c.args.token _
-      (rw c.place.ensures (first_start c.args.opened c.start.result c.args.token (c.start.ensures.from, c.start.ensures.to) c.in_default.ensures))
-      c.in_part.ensures
+    (rw c.place.ensures (first_start c.args.opened c.start.result c.args.token (c.start.ensures.from, c.start.ensures.to) c.in_default.ensures))
+    c.in_part.ensures

@@ -9,4 +9,4 @@ returns-in-Some c = λ w t. rw (c.in-Some.ensures, c.new.ensures) (none_from, no
 pub returns : goal.returns
 returns c =
     steps_through (NextParams c.args.opened c.args.name) (NextParam c.args.opened c.args.name c.new.result) _ _
-      (λ w t. rw c.new.ensures (first_from c.in_default.ensures, first_to)) c.param.ensures
+    (λ w t. rw c.new.ensures (first_from c.in_default.ensures, first_to)) c.param.ensures
