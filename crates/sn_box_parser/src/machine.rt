@@ -202,12 +202,12 @@ impl BoxDeclParser {
                 opened,
                 function,
                 body,
-            } => { function::in_function(alloc, opened, function, body, token) }
+            } => function::in_function(alloc, opened, function, body, token),
             Mode::InPart {
                 opened,
                 sequence,
                 part,
-            } => { body::in_part(alloc, opened, sequence, part, token) }
+            } => body::in_part(alloc, opened, sequence, part, token),
         }
     }
 }
