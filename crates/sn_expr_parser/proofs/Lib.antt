@@ -1,0 +1,4 @@
+pub mod BoxLaws
+pub mod BoxSteps
+pub mod TagLaws
+pub mod TagSteps

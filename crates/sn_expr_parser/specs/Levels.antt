@@ -76,19 +76,19 @@ module _ {E : Type 0} (o : Operations E) where
     signs = [];
   }
 
+  abbrev pub compared : Level E → Operator → ℕ → Kept E → Level E
+  compared l op at e = record {
+    or = l.or;
+    and = l.and;
+    comparison = Some (sum_in l e, op, at);
+    sum = None;
+    product = None;
+    signs = [];
+  }
+
   -- comparisons do not chain: none may wait for its right side
   abbrev pub after_comparison : Level E → Operator → ℕ → Kept E → Option (Level E)
-  after_comparison l op at e = elim l.comparison [
-    | None ↦ Some (record {
-      or = l.or;
-      and = l.and;
-      comparison = Some (sum_in l e, op, at);
-      sum = None;
-      product = None;
-      signs = [];
-    })
-    | Some left ↦ None
-  ]
+  after_comparison l op at e = elim l.comparison [ None ↦ Some (compared l op at e) | Some left ↦ None ]
 
   abbrev pub after_and : Level E → ℕ → Kept E → Level E
   after_and l at e = record {

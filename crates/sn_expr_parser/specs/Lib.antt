@@ -1,2 +1,4 @@
+pub mod BoxNodes
+pub mod BoxResidual
 pub mod Levels
 pub mod TagResidual

@@ -4,7 +4,10 @@
 //! It answers the expression at the token after it, and refuses a token exactly where no expression goes on with it.
 #![tactic(auto)]
 
+mod box_node;
+mod boxes;
 mod level;
 mod tags;
 
+pub use boxes::{BoxParser, BoxStop};
 pub use tags::{TagParser, TagStop};

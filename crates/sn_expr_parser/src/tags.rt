@@ -86,7 +86,9 @@ impl Expression for TExpr {
 
     ghost operations = { tag_operations };
 
-    fn sign(sign: Sign, at: u32, operand: Boxed<TExpr>) -> TExpr {
+    fn sign(sign: Sign, at: u32, operand: Boxed<TExpr>) -> TExpr
+        ensures { result ≡ tag_operations.sign sign at operand }
+    {
         let form = match sign {
             Sign::Minus => TForm::Neg(operand),
             Sign::Not => TForm::Not(operand),
@@ -94,17 +96,23 @@ impl Expression for TExpr {
         TExpr { at, form }
     }
 
-    fn operator(operator: Operator, at: u32, left: Boxed<TExpr>, right: Boxed<TExpr>) -> TExpr {
+    fn operator(operator: Operator, at: u32, left: Boxed<TExpr>, right: Boxed<TExpr>) -> TExpr
+        ensures { result ≡ tag_operations.op operator at left right }
+    {
         let form = TForm::Op(operator, left, right);
         TExpr { at, form }
     }
 
-    fn and(at: u32, left: Boxed<TExpr>, right: Boxed<TExpr>) -> TExpr {
+    fn and(at: u32, left: Boxed<TExpr>, right: Boxed<TExpr>) -> TExpr
+        ensures { result ≡ tag_operations.and at left right }
+    {
         let form = TForm::And(left, right);
         TExpr { at, form }
     }
 
-    fn or(at: u32, left: Boxed<TExpr>, right: Boxed<TExpr>) -> TExpr {
+    fn or(at: u32, left: Boxed<TExpr>, right: Boxed<TExpr>) -> TExpr
+        ensures { result ≡ tag_operations.or at left right }
+    {
         let form = TForm::Or(left, right);
         TExpr { at, form }
     }
