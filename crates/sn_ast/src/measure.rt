@@ -106,7 +106,7 @@ pub fn append<T: Drop>(row: Kept<Seq<T>>, part: Kept<T>) -> Result<Kept<Seq<T>>,
     };
     let (all, last) = both.value;
     let mut all = all;
-    all.append(last)?;
+    sn_stack::append(&mut all, last)?;
     Ok(Some(Measured {
         value: all,
         height: both.height,

@@ -17,7 +17,7 @@ use Rattle.sn_ast.specs.declared.terminal.Terminal.TheVariants.{Name, Number, Sy
 use Rattle.sn_expr_parser.proofs.BoxLaws.{no_end as no_expr_end, completable as expr_completable}
 use Rattle.sn_expr_parser.specs.BoxResidual.{ends, read as read_expr}
 use Rattle.sn_expr_parser.specs.declared.boxes.BoxParser.{BoxParser}
-use Rattle.sn_type_parser.proofs.LabelSteps.{no_end as no_labels_end, completable as labels_completable}
+use Rattle.sn_type_parser.proofs.LabelLaws.{no_end as no_labels_end, completable as labels_completable}
 use Rattle.sn_type_parser.proofs.Witnesses.{a_name}
 use Rattle.sn_type_parser.specs.Reads.{read as read_labels}
 use Rattle.sn_type_parser.specs.declared.labels.LabelParser.{LabelParser}

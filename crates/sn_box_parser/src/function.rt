@@ -67,7 +67,7 @@ pub fn param(
     };
     let Function { name, params } = function;
     let mut params = params;
-    params.append(param)?;
+    sn_stack::append(&mut params, param)?;
     Ok(BoxDeclStep::More(BoxDeclParser {
         mode: Mode::AfterParam {
             opened,

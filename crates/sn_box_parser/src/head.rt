@@ -129,10 +129,11 @@ pub fn in_output(
                 outputs,
             } = head;
             let mut outputs = outputs;
-            outputs.append(Tuple {
+            let output = Tuple {
                 labels,
                 at: opening,
-            })?;
+            };
+            sn_stack::append(&mut outputs, output)?;
             Ok(BoxDeclStep::More(BoxDeclParser {
                 mode: Mode::AfterOutput {
                     head: Head {

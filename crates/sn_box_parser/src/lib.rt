@@ -8,6 +8,7 @@
 mod body;
 mod function;
 mod head;
+pub mod laws;
 mod machine;
 mod node;
 

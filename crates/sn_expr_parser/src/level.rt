@@ -6,7 +6,8 @@ ghost use Rattle.sn_expr_parser.specs.Levels.{fresh, signed, operated, conjoined
 
 use sn_ast::measure::{boxed, join, raise};
 use sn_ast::{Boxed, Infix, Kept, Measured, Operator, Sign};
-use sn_list::{Memory, Stack};
+use sn_list::Memory;
+use sn_stack::Stack;
 use std::alloc::Global;
 
 /// An expression that signs and operators make greater ones of.
@@ -31,7 +32,6 @@ pub type Waiting<E> = Option<(Kept<E>, Operator, u32)>;
 
 /// What stands before an operand: a finished left side for each kind of operator, from the loosest to the tightest,
 /// and the signs, the last one first.
-#[derive(Drop)]
 pub struct Level<E> {
     pub or: Option<(Kept<E>, u32)>,
     pub and: Option<(Kept<E>, u32)>,
@@ -39,6 +39,19 @@ pub struct Level<E> {
     pub sum: Waiting<E>,
     pub product: Waiting<E>,
     pub signs: Stack<(Sign, u32)>,
+}
+
+impl<E: Drop> Drop for Level<E> {
+    fn drop(self) {
+        let Level {
+            or: _or,
+            and: _and,
+            comparison: _comparison,
+            sum: _sum,
+            product: _product,
+            signs: _signs,
+        } = self;
+    }
 }
 
 fn with_sign<E: Expression>(

@@ -15,7 +15,8 @@ ghost use Rattle.sn_expr_parser.specs.declared.tags.Mode.TheVariants.{Want, Have
 use crate::level::{Expression, Level};
 use sn_ast::measure::{boxed, join, leaf, parens, raise};
 use sn_ast::{Boxed, Infix, Kept, Measured, Operator, Sign, Symbol, TExpr, TForm, Terminal};
-use sn_list::{Memory, Stack};
+use sn_list::Memory;
+use sn_stack::Stack;
 use std::alloc::Global;
 
 /// Why a step answers no parser: memory was wanted and not had, or no expression goes on with the token, or the

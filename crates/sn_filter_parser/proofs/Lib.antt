@@ -1,1 +1,4 @@
-
+pub mod FilterLaws
+pub mod FilterSteps
+pub mod ItemLaws
+pub mod ItemSteps

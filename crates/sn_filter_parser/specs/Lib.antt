@@ -1,1 +1,2 @@
 pub mod FilterResidual
+pub mod ItemResidual

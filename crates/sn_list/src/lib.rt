@@ -1,4 +1,4 @@
-//! Lists, boxes, stacks and sorted entries, each seen by contracts as what it holds, and want of memory.
+//! Lists, boxes and sorted entries, each seen by contracts as what it holds, and want of memory.
 //!
 //! A `Vec` and a `Box` show their capacity and their pointer to a contract, so two of them that hold
 //! the same differ. `Seq` and `Boxed` show what they hold and nothing more.
@@ -8,16 +8,14 @@ mod boxed;
 mod memory;
 mod seq;
 pub mod sorted;
-mod stack;
 
 pub use boxed::Boxed;
 pub use memory::Memory;
 pub use seq::Seq;
-pub use stack::Stack;
 
 #[cfg(test)]
 mod tests {
-    use crate::{Boxed, Seq, Stack};
+    use crate::{Boxed, Seq};
     use std::test::Fail;
 
     #[test]
@@ -31,20 +29,6 @@ mod tests {
         let boxed = Boxed::new(rt.alloc(), 7)?;
         assert_eq!(rt; *boxed.get(), 7);
         assert_eq!(rt; boxed.into_inner(), 7);
-        Ok(())
-    }
-
-    #[test]
-    fn what_is_appended_or_pushed_last_is_there(rt: HostRuntime) -> Result<(), Fail> {
-        let mut list = Seq::new(rt.alloc());
-        assert!(rt; list.append(5).is_ok());
-        assert_eq!(rt; *list.at(0), 5);
-        let mut stack = Stack::new(rt.alloc());
-        assert!(rt; stack.push(1).is_ok());
-        assert!(rt; stack.push(2).is_ok());
-        assert!(rt; stack.pop() == Some(2));
-        assert!(rt; stack.pop() == Some(1));
-        assert!(rt; stack.pop().is_none());
         Ok(())
     }
 }

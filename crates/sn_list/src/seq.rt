@@ -87,19 +87,6 @@ impl<T> Seq<T> {
     }
 }
 
-impl<T: Drop> Seq<T> {
-    /// Appends `x`. For want of memory `x` is dropped, and the list is unchanged.
-    pub fn append(&mut self, x: T) -> Result<(), Memory>
-        ensures ok { OnOk result (self.new ≡ self.old ++ x ∷ []) }
-        ensures err { OnErr result (self.new ≡ self.old) }
-    {
-        match self.push(x) {
-            Ok(()) => Ok(()),
-            Err(_) => Err(Memory),
-        }
-    }
-}
-
 impl<T: Copy> Seq<T> {
     /// A copy of a slice.
     pub fn from_slice(alloc: Global, elements: &[T]) -> Result<Seq<T>, Memory>

@@ -16,7 +16,7 @@ use Rattle.sn_ast.specs.declared.terminal.Terminal.{Terminal}
 use Rattle.sn_ast.specs.declared.terminal.Terminal.TheVariants.{Symbol}
 use Rattle.sn_expr_parser.specs.TagResidual.{Completes as GuardCompletes, Read as GuardRead, read as read_guard, ends as ends_guard}
 use Rattle.sn_expr_parser.specs.declared.tags.TagParser.{TagParser}
-use Rattle.sn_filter_parser.specs.FilterResidual.{Completes as FilterCompletes, Read as FilterRead, read as read_filter}
+use Rattle.sn_filter_parser.specs.FilterResidual.{Completes as FilterCompletes}
 use Rattle.sn_filter_parser.specs.declared.filter.FilterParser.{FilterParser}
 use Rattle.sn_net_parser.specs.Residual.{Down, AfterBracket, InFilter, AfterPattern, NextPattern, InPattern, NextGuard, InGuard, AfterExit, NextExit, InExit, GuardSteps, StepsIn, Read, variant_at, closed_bracket, some_filter, in_filter, next_pattern, in_pattern, next_guard, in_guard, next_exit, in_exit}
 use Rattle.sn_net_parser.specs.declared.level.Level.{Level}
@@ -27,59 +27,59 @@ use Rattle.sn_net_parser.specs.declared.machine.NetStop.{NetStop}
 use Rattle.sn_net_parser.specs.declared.machine.NetStop.TheVariants.{Memory, Refused, Ended}
 use Rattle.sn_net_parser.specs.declared.machine.Repeated.{Repeated}
 use Rattle.sn_type_parser.specs.LabelResidual.{Completes as LabelsComplete}
-use Rattle.sn_type_parser.specs.Reads.{Read as SomeRead, read as read_labels}
+use Rattle.sn_type_parser.specs.Reads.{Read as SomeRead, read as read_part}
 use Rattle.sn_type_parser.specs.declared.labels.LabelParser.{LabelParser}
 
 -- a filter
 filter_go : {ls : List Level} {l : Level} {at : ℕ} {s : FilterParser} {x : Terminal} {w : List Terminal} {t : Read} →
-    ((w us : List Terminal) (n : Kept NetExpr) → Filter kept at w n us → FilterCompletes s w (read_filter n us)) →
+    ((w us : List Terminal) (n : Kept NetExpr) → Filter kept at w n us → FilterCompletes s w (read_part n us)) →
     ((close : ℕ) → x ≡ Symbol CloseBracket close → ⊥) → AfterBracket ls l at (x ∷ w) t → InFilter ls l s (x ∷ w) t
 filter_go from n (closed_bracket {close = close} d) = absurd (n close refl)
 filter_go {x = x} {w = w} from n (some_filter {n = p} {us = us} f d) = in_filter p us (from (x ∷ w) us p f) d
 
 filter_back : {ls : List Level} {l : Level} {at : ℕ} {s : FilterParser} {w : List Terminal} {t : Read} →
-    ((w : List Terminal) (r : FilterRead) → FilterCompletes s w r → Filter kept at w r.part r.rest) → InFilter ls l s w t → AfterBracket ls l at w t
-filter_back {w = w} to (in_filter p us c d) = some_filter (to w (read_filter p us) c) d
+    ((w : List Terminal) (r : SomeRead (Kept NetExpr)) → FilterCompletes s w r → Filter kept at w r.part r.rest) → InFilter ls l s w t → AfterBracket ls l at w t
+filter_back {w = w} to (in_filter p us c d) = some_filter (to w (read_part p us) c) d
 
 pub filter_start : (ls : List Level) (l : Level) (at : ℕ) (s : FilterParser) (x : Terminal) →
-    ((w us : List Terminal) (n : Kept NetExpr) → Filter kept at w n us → FilterCompletes s w (read_filter n us)) →
-    ((w : List Terminal) (r : FilterRead) → FilterCompletes s w r → Filter kept at w r.part r.rest) →
+    ((w us : List Terminal) (n : Kept NetExpr) → Filter kept at w n us → FilterCompletes s w (read_part n us)) →
+    ((w : List Terminal) (r : SomeRead (Kept NetExpr)) → FilterCompletes s w r → Filter kept at w r.part r.rest) →
     ((close : ℕ) → x ≡ Symbol CloseBracket close → ⊥) → (w : List Terminal) (t : Read) →
     AfterBracket ls l at (x ∷ w) t ↔ InFilter ls l s (x ∷ w) t
 filter_start ls l at s x from to n w t = (filter_go from n, filter_back to)
 
 pub filter_more : (ls : List Level) (l : Level) (s s' : FilterParser) (x : Terminal) →
-    ((w : List Terminal) (r : FilterRead) → FilterCompletes s (x ∷ w) r ↔ FilterCompletes s' w r) → (w : List Terminal) (t : Read) →
+    ((w : List Terminal) (r : SomeRead (Kept NetExpr)) → FilterCompletes s (x ∷ w) r ↔ FilterCompletes s' w r) → (w : List Terminal) (t : Read) →
     InFilter ls l s (x ∷ w) t ↔ InFilter ls l s' w t
 filter_more ls l s s' x h w t = (go, back)
   where
     go : InFilter ls l s (x ∷ w) t → InFilter ls l s' w t
-    go (in_filter p us c d) = in_filter p us ((h w (read_filter p us)).0 c) d
+    go (in_filter p us c d) = in_filter p us ((h w (read_part p us)).0 c) d
 
     back : InFilter ls l s' w t → InFilter ls l s (x ∷ w) t
-    back (in_filter p us c d) = in_filter p us ((h w (read_filter p us)).1 c) d
+    back (in_filter p us c d) = in_filter p us ((h w (read_part p us)).1 c) d
 
 pub filter_done : (ls : List Level) (l : Level) (s : FilterParser) (n : Kept NetExpr) (x : Terminal) →
-    ((w : List Terminal) (r : FilterRead) → FilterCompletes s (x ∷ w) r ↔ (read_filter n w ≡ r)) → (w : List Terminal) (t : Read) →
+    ((w : List Terminal) (r : SomeRead (Kept NetExpr)) → FilterCompletes s (x ∷ w) r ↔ (read_part n w ≡ r)) → (w : List Terminal) (t : Read) →
     InFilter ls l s (x ∷ w) t ↔ Down ls l n w t
 filter_done ls l s n x h w t = (go, back)
   where
     go : InFilter ls l s (x ∷ w) t → Down ls l n w t
     go (in_filter p us c d) =
-        let e = (h w (read_filter p us)).0 c in
-        let P : FilterRead → Type 0 = λ r. Down ls l r.part r.rest t in
+        let e = (h w (read_part p us)).0 c in
+        let P : SomeRead (Kept NetExpr) → Type 0 = λ r. Down ls l r.part r.rest t in
         subst P (sym e) d
 
     back : Down ls l n w t → InFilter ls l s (x ∷ w) t
-    back d = in_filter n w ((h w (read_filter n w)).1 refl) d
+    back d = in_filter n w ((h w (read_part n w)).1 refl) d
 
 pub filter_refused : (ls : List Level) (l : Level) (s : FilterParser) (x : Terminal) →
-    ((w : List Terminal) (r : FilterRead) → FilterCompletes s (x ∷ w) r → ⊥) → (w : List Terminal) (t : Read) → InFilter ls l s (x ∷ w) t → ⊥
-filter_refused ls l s x h w t (in_filter p us c d) = h w (read_filter p us) c
+    ((w : List Terminal) (r : SomeRead (Kept NetExpr)) → FilterCompletes s (x ∷ w) r → ⊥) → (w : List Terminal) (t : Read) → InFilter ls l s (x ∷ w) t → ⊥
+filter_refused ls l s x h w t (in_filter p us c d) = h w (read_part p us) c
 
 -- a pattern of a synchrocell
 pub pattern_start : (ls : List Level) (l : Level) (at : ℕ) (so_far : List Variant) (opening : ℕ) (s : LabelParser) →
-    ((w us : List Terminal) (all : List LabelAt) → Labels Brace w all us → LabelsComplete s w (read_labels all us)) →
+    ((w us : List Terminal) (all : List LabelAt) → Labels Brace w all us → LabelsComplete s w (read_part all us)) →
     ((w : List Terminal) (r : SomeRead (List LabelAt)) → LabelsComplete s w r → Labels Brace w r.part r.rest) → (w : List Terminal) (t : Read) →
     NextPattern ls l at so_far (Symbol OpenBrace opening ∷ w) t ↔ InPattern ls l at so_far opening s w t
 pattern_start ls l at so_far opening s from to w t = (go, back)
@@ -88,7 +88,7 @@ pattern_start ls l at so_far opening s from to w t = (go, back)
     go (next_pattern (variant {all} {us = us} v) a) = in_pattern all us (from w us all v) a
 
     back : InPattern ls l at so_far opening s w t → NextPattern ls l at so_far (Symbol OpenBrace opening ∷ w) t
-    back (in_pattern all us c a) = next_pattern (variant (to w (read_labels all us) c)) a
+    back (in_pattern all us c a) = next_pattern (variant (to w (read_part all us) c)) a
 
 pub pattern_more : (ls : List Level) (l : Level) (at : ℕ) (so_far : List Variant) (opening : ℕ) (s s' : LabelParser) (x : Terminal) →
     ((w : List Terminal) (r : SomeRead (List LabelAt)) → LabelsComplete s (x ∷ w) r ↔ LabelsComplete s' w r) → (w : List Terminal) (t : Read) →
@@ -96,34 +96,34 @@ pub pattern_more : (ls : List Level) (l : Level) (at : ℕ) (so_far : List Varia
 pattern_more ls l at so_far opening s s' x h w t = (go, back)
   where
     go : InPattern ls l at so_far opening s (x ∷ w) t → InPattern ls l at so_far opening s' w t
-    go (in_pattern all us c a) = in_pattern all us ((h w (read_labels all us)).0 c) a
+    go (in_pattern all us c a) = in_pattern all us ((h w (read_part all us)).0 c) a
 
     back : InPattern ls l at so_far opening s' w t → InPattern ls l at so_far opening s (x ∷ w) t
-    back (in_pattern all us c a) = in_pattern all us ((h w (read_labels all us)).1 c) a
+    back (in_pattern all us c a) = in_pattern all us ((h w (read_part all us)).1 c) a
 
 pub pattern_done : (ls : List Level) (l : Level) (at : ℕ) (so_far next : List Variant) (opening : ℕ) (s : LabelParser) (labels : List LabelAt) (x : Terminal) →
-    ((w : List Terminal) (r : SomeRead (List LabelAt)) → LabelsComplete s (x ∷ w) r ↔ (read_labels labels w ≡ r)) →
+    ((w : List Terminal) (r : SomeRead (List LabelAt)) → LabelsComplete s (x ∷ w) r ↔ (read_part labels w ≡ r)) →
     next ≡ append so_far (variant_at opening labels) → (w : List Terminal) (t : Read) →
     InPattern ls l at so_far opening s (x ∷ w) t ↔ AfterPattern ls l at next w t
 pattern_done ls l at so_far next opening s labels x h e w t = rw e (go, back)
   where
     go : InPattern ls l at so_far opening s (x ∷ w) t → AfterPattern ls l at (append so_far (variant_at opening labels)) w t
     go (in_pattern all us c a) =
-        let e = (h w (read_labels all us)).0 c in
+        let e = (h w (read_part all us)).0 c in
         let P : SomeRead (List LabelAt) → Type 0 = λ r. AfterPattern ls l at (append so_far (variant_at opening r.part)) r.rest t in
         subst P (sym e) a
 
     back : AfterPattern ls l at (append so_far (variant_at opening labels)) w t → InPattern ls l at so_far opening s (x ∷ w) t
-    back a = in_pattern labels w ((h w (read_labels labels w)).1 refl) a
+    back a = in_pattern labels w ((h w (read_part labels w)).1 refl) a
 
 pub pattern_refused : (ls : List Level) (l : Level) (at : ℕ) (so_far : List Variant) (opening : ℕ) (s : LabelParser) (x : Terminal) →
     ((w : List Terminal) (r : SomeRead (List LabelAt)) → LabelsComplete s (x ∷ w) r → ⊥) → (w : List Terminal) (t : Read) →
     InPattern ls l at so_far opening s (x ∷ w) t → ⊥
-pattern_refused ls l at so_far opening s x h w t (in_pattern all us c a) = h w (read_labels all us) c
+pattern_refused ls l at so_far opening s x h w t (in_pattern all us c a) = h w (read_part all us) c
 
 -- a star's exit
 pub exit_start : (ls : List Level) (l : Level) (star : Repeated) (opening : ℕ) (s : LabelParser) →
-    ((w us : List Terminal) (all : List LabelAt) → Labels Brace w all us → LabelsComplete s w (read_labels all us)) →
+    ((w us : List Terminal) (all : List LabelAt) → Labels Brace w all us → LabelsComplete s w (read_part all us)) →
     ((w : List Terminal) (r : SomeRead (List LabelAt)) → LabelsComplete s w r → Labels Brace w r.part r.rest) → (w : List Terminal) (t : Read) →
     NextExit ls l star (Symbol OpenBrace opening ∷ w) t ↔ InExit ls l star opening s w t
 exit_start ls l star opening s from to w t = (go, back)
@@ -132,7 +132,7 @@ exit_start ls l star opening s from to w t = (go, back)
     go (next_exit (variant {all} {us = us} v) a) = in_exit all us (from w us all v) a
 
     back : InExit ls l star opening s w t → NextExit ls l star (Symbol OpenBrace opening ∷ w) t
-    back (in_exit all us c a) = next_exit (variant (to w (read_labels all us) c)) a
+    back (in_exit all us c a) = next_exit (variant (to w (read_part all us) c)) a
 
 pub exit_more : (ls : List Level) (l : Level) (star : Repeated) (opening : ℕ) (s s' : LabelParser) (x : Terminal) →
     ((w : List Terminal) (r : SomeRead (List LabelAt)) → LabelsComplete s (x ∷ w) r ↔ LabelsComplete s' w r) → (w : List Terminal) (t : Read) →
@@ -140,29 +140,29 @@ pub exit_more : (ls : List Level) (l : Level) (star : Repeated) (opening : ℕ) 
 exit_more ls l star opening s s' x h w t = (go, back)
   where
     go : InExit ls l star opening s (x ∷ w) t → InExit ls l star opening s' w t
-    go (in_exit all us c a) = in_exit all us ((h w (read_labels all us)).0 c) a
+    go (in_exit all us c a) = in_exit all us ((h w (read_part all us)).0 c) a
 
     back : InExit ls l star opening s' w t → InExit ls l star opening s (x ∷ w) t
-    back (in_exit all us c a) = in_exit all us ((h w (read_labels all us)).1 c) a
+    back (in_exit all us c a) = in_exit all us ((h w (read_part all us)).1 c) a
 
 pub exit_done : (ls : List Level) (l : Level) (star : Repeated) (opening : ℕ) (s : LabelParser) (labels : List LabelAt) (x : Terminal) →
-    ((w : List Terminal) (r : SomeRead (List LabelAt)) → LabelsComplete s (x ∷ w) r ↔ (read_labels labels w ≡ r)) → (w : List Terminal) (t : Read) →
+    ((w : List Terminal) (r : SomeRead (List LabelAt)) → LabelsComplete s (x ∷ w) r ↔ (read_part labels w ≡ r)) → (w : List Terminal) (t : Read) →
     InExit ls l star opening s (x ∷ w) t ↔ AfterExit ls l star (variant_at opening labels) w t
 exit_done ls l star opening s labels x h w t = (go, back)
   where
     go : InExit ls l star opening s (x ∷ w) t → AfterExit ls l star (variant_at opening labels) w t
     go (in_exit all us c a) =
-        let e = (h w (read_labels all us)).0 c in
+        let e = (h w (read_part all us)).0 c in
         let P : SomeRead (List LabelAt) → Type 0 = λ r. AfterExit ls l star (variant_at opening r.part) r.rest t in
         subst P (sym e) a
 
     back : AfterExit ls l star (variant_at opening labels) w t → InExit ls l star opening s (x ∷ w) t
-    back a = in_exit labels w ((h w (read_labels labels w)).1 refl) a
+    back a = in_exit labels w ((h w (read_part labels w)).1 refl) a
 
 pub exit_refused : (ls : List Level) (l : Level) (star : Repeated) (opening : ℕ) (s : LabelParser) (x : Terminal) →
     ((w : List Terminal) (r : SomeRead (List LabelAt)) → LabelsComplete s (x ∷ w) r → ⊥) → (w : List Terminal) (t : Read) →
     InExit ls l star opening s (x ∷ w) t → ⊥
-exit_refused ls l star opening s x h w t (in_exit all us c a) = h w (read_labels all us) c
+exit_refused ls l star opening s x h w t (in_exit all us c a) = h w (read_part all us) c
 
 -- a guard
 pub guard_start : (ls : List Level) (l : Level) (star : Repeated) (v : Variant) (at : ℕ) (s : TagParser) →

@@ -17,7 +17,7 @@ use Rattle.sn_ast.specs.declared.terminal.Terminal.{Terminal}
 use Rattle.sn_ast.specs.declared.terminal.Terminal.TheVariants.{Tag, Keyword, Symbol}
 use Rattle.sn_expr_parser.specs.TagResidual.{Completes as GuardCompletes, read as read_guard}
 use Rattle.sn_expr_parser.specs.declared.tags.TagParser.{TagParser}
-use Rattle.sn_filter_parser.specs.FilterResidual.{Completes as FilterCompletes, read as read_filter}
+use Rattle.sn_filter_parser.specs.FilterResidual.{Completes as FilterCompletes}
 use Rattle.sn_filter_parser.specs.declared.filter.FilterParser.{FilterParser}
 use Rattle.sn_net_parser.specs.Levels.{identity_node}
 use Rattle.sn_net_parser.specs.declared.level.Level.{Level}
@@ -30,7 +30,7 @@ use Rattle.sn_net_parser.specs.declared.machine.NetStop.{NetStop}
 use Rattle.sn_net_parser.specs.declared.machine.NetStop.TheVariants.{Memory, Refused, Ended}
 use Rattle.sn_net_parser.specs.declared.machine.Repeated.{Repeated}
 use Rattle.sn_type_parser.specs.LabelResidual.{Completes as LabelsComplete}
-use Rattle.sn_type_parser.specs.Reads.{read as read_labels}
+use Rattle.sn_type_parser.specs.Reads.{read as read_part}
 use Rattle.sn_type_parser.specs.declared.labels.LabelParser.{LabelParser}
 
 -- a network at the front, and what follows it
@@ -77,7 +77,7 @@ pub data AfterBracket : List Level → Level → ℕ → List Terminal → Read 
 -- in a filter: the parser of filters reads one
 pub data InFilter : List Level → Level → FilterParser → List Terminal → Read → Type 0 where
   in_filter : {ls : List Level} {l : Level} {s : FilterParser} {t : Read} {ts : List Terminal} (n : Kept NetExpr) (us : List Terminal) →
-      FilterCompletes s ts (read_filter n us) → Down ls l n us t → InFilter ls l s ts t
+      FilterCompletes s ts (read_part n us) → Down ls l n us t → InFilter ls l s ts t
 
 -- after a pattern of a synchrocell
 pub data AfterPattern : List Level → Level → ℕ → List Variant → List Terminal → Read → Type 0 where
@@ -92,7 +92,7 @@ pub data NextPattern : List Level → Level → ℕ → List Variant → List Te
 -- in a pattern: the parser of labels reads those of one
 pub data InPattern : List Level → Level → ℕ → List Variant → ℕ → LabelParser → List Terminal → Read → Type 0 where
   in_pattern : {ls : List Level} {l : Level} {at opening : ℕ} {so_far : List Variant} {s : LabelParser} {t : Read} {ts : List Terminal}
-      (labels : List LabelAt) (us : List Terminal) → LabelsComplete s ts (read_labels labels us) →
+      (labels : List LabelAt) (us : List Terminal) → LabelsComplete s ts (read_part labels us) →
       AfterPattern ls l at (append so_far (variant_at opening labels)) us t → InPattern ls l at so_far opening s ts t
 
 -- where the guard of a star comes next
@@ -122,7 +122,7 @@ pub data NextExit : List Level → Level → Repeated → List Terminal → Read
 -- in an exit: the parser of labels reads those of one
 pub data InExit : List Level → Level → Repeated → ℕ → LabelParser → List Terminal → Read → Type 0 where
   in_exit : {ls : List Level} {l : Level} {star : Repeated} {opening : ℕ} {s : LabelParser} {t : Read} {ts : List Terminal}
-      (labels : List LabelAt) (us : List Terminal) → LabelsComplete s ts (read_labels labels us) →
+      (labels : List LabelAt) (us : List Terminal) → LabelsComplete s ts (read_part labels us) →
       AfterExit ls l star (variant_at opening labels) us t → InExit ls l star opening s ts t
 
 -- where the tag of a split comes next

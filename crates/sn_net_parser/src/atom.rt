@@ -156,10 +156,11 @@ pub fn in_pattern(
         Ok(LabelStep::Done(labels)) => {
             let Cell { at, patterns } = cell;
             let mut patterns = patterns;
-            patterns.append(Variant {
+            let pattern = Variant {
                 labels,
                 at: opening,
-            })?;
+            };
+            sn_stack::append(&mut patterns, pattern)?;
             Ok(NetParser {
                 around,
                 mode: Mode::AfterPattern {

@@ -5,6 +5,7 @@
 #![tactic(auto)]
 
 mod atom;
+pub mod laws;
 mod level;
 mod machine;
 mod node;

@@ -5,13 +5,13 @@ ghost use Rattle.sn_ast.specs.declared.network.NetExpr.{NetExpr as SomeNet};
 ghost use Rattle.sn_ast.specs.declared.terminal.Terminal.{Terminal as SomeTerminal};
 ghost use Rattle.sn_net_parser.specs.Residual.{Completes, Ends, Read, Steps, read};
 
-use crate::atom;
 use crate::level::Level;
-use crate::post;
+use crate::{atom, post};
 use sn_ast::{Kept, NetExpr, Seq, Terminal, Variant};
 use sn_expr_parser::TagParser;
 use sn_filter_parser::FilterParser;
-use sn_list::{Memory, Stack};
+use sn_list::Memory;
+use sn_stack::Stack;
 use sn_type_parser::LabelParser;
 use std::alloc::Global;
 
@@ -64,23 +64,55 @@ pub enum Mode {
     /// An atom.
     Want,
     /// What may stand after a part.
-    Have { part: Kept<NetExpr> },
+    Have {
+        part: Kept<NetExpr>,
+    },
     /// What stands after `[`.
-    Bracket { at: u32 },
-    InFilter { filter: FilterParser },
+    Bracket {
+        at: u32,
+    },
+    InFilter {
+        filter: FilterParser,
+    },
     /// A synchrocell's pattern.
-    Pattern { cell: Cell },
-    InPattern { cell: Cell, opening: u32, labels: LabelParser },
-    AfterPattern { cell: Cell },
+    Pattern {
+        cell: Cell,
+    },
+    InPattern {
+        cell: Cell,
+        opening: u32,
+        labels: LabelParser,
+    },
+    AfterPattern {
+        cell: Cell,
+    },
     /// A star's exit.
-    Exit { star: Repeated },
-    InExit { star: Repeated, opening: u32, labels: LabelParser },
-    AfterExit { star: Repeated, exit: Variant },
+    Exit {
+        star: Repeated,
+    },
+    InExit {
+        star: Repeated,
+        opening: u32,
+        labels: LabelParser,
+    },
+    AfterExit {
+        star: Repeated,
+        exit: Variant,
+    },
     /// The `(` of a guard.
-    Guard { star: Repeated, exit: Variant },
-    InGuard { star: Repeated, exit: Variant, guard: TagParser },
+    Guard {
+        star: Repeated,
+        exit: Variant,
+    },
+    InGuard {
+        star: Repeated,
+        exit: Variant,
+        guard: TagParser,
+    },
     /// A split's tag.
-    Index { split: Repeated },
+    Index {
+        split: Repeated,
+    },
 }
 
 /// A network that is being read.
@@ -115,14 +147,18 @@ impl NetParser {
             Mode::Bracket { at } => atom::bracket(alloc, around, at, token),
             Mode::InFilter { filter } => atom::in_filter(alloc, around, filter, token),
             Mode::Pattern { cell } => atom::pattern(alloc, around, cell, token),
-            Mode::InPattern { cell, opening, labels } => {
-                atom::in_pattern(around, cell, opening, labels, token)
-            }
+            Mode::InPattern {
+                cell,
+                opening,
+                labels,
+            } => { atom::in_pattern(around, cell, opening, labels, token) }
             Mode::AfterPattern { cell } => atom::after_pattern(around, cell, token),
             Mode::Exit { star } => post::exit(alloc, around, star, token),
-            Mode::InExit { star, opening, labels } => {
-                post::in_exit(around, star, opening, labels, token)
-            }
+            Mode::InExit {
+                star,
+                opening,
+                labels,
+            } => { post::in_exit(around, star, opening, labels, token) }
             Mode::AfterExit { star, exit } => post::after_exit(alloc, around, star, exit, token),
             Mode::Guard { star, exit } => post::guard(alloc, around, star, exit, token),
             Mode::InGuard { star, exit, guard } => {

@@ -71,12 +71,7 @@ fn unlinked(
     }
 }
 
-fn dots(
-    alloc: Global,
-    around: Around,
-    part: Kept<NetExpr>,
-    at: u32,
-) -> Result<NetParser, NetStop>
+fn dots(alloc: Global, around: Around, part: Kept<NetExpr>, at: u32) -> Result<NetParser, NetStop>
     ensures { StepsIn around (some_mode.Have part) (some_token.Symbol some_symbol.Dots at) result }
 {
     let Around { outer, level } = around;
@@ -259,11 +254,13 @@ pub fn in_guard(
         }),
         Err(TagStop::Memory) => Err(NetStop::Memory),
         Err(TagStop::Refused) => Err(NetStop::Refused),
-        Err(TagStop::Ended {
-            part: guard,
-            symbol,
-            ..
-        }) => guarded(alloc, around, star, exit, guard, symbol),
+        Err(
+            TagStop::Ended {
+                part: guard,
+                symbol,
+                ..
+            },
+        ) => guarded(alloc, around, star, exit, guard, symbol),
     }
 }
 

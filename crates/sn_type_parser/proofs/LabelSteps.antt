@@ -2,24 +2,21 @@
 -- state after it.
 use Rattle.std.proofs.Common.{ℕ, Bool, true, false, Result, Ok, Err, List, [], ◌∷◌, ◌++◌, ◌≡◌, ◌↔◌, Some, None, refl, subst}
 use Rattle.sn_ast.specs.Labels.{Labels, MoreLabels, no_labels, labels, last_label, more_labels}
-use Rattle.sn_ast.specs.Terminals.{closing, label_of}
+use Rattle.sn_ast.specs.Terminals.{label_of}
 use Rattle.sn_ast.specs.declared.label.LabelAt.{LabelAt}
 use Rattle.sn_ast.specs.declared.terminal.Bracket.{Bracket}
 use Rattle.sn_ast.specs.declared.terminal.Bracket.TheVariants.{Paren, Brace, Square}
 use Rattle.sn_ast.specs.declared.terminal.Symbol.{Symbol as SomeSymbol}
 use Rattle.sn_ast.specs.declared.terminal.Symbol.TheVariants.{Comma}
 use Rattle.sn_ast.specs.declared.terminal.Terminal.{Terminal}
-use Rattle.sn_ast.specs.declared.terminal.Terminal.TheVariants.{Name, Tag, Number, Literal, Keyword, Symbol}
-use Rattle.sn_type_parser.specs.LabelResidual.{closes, NextLabel, FirstLabel, next_label, no_label, some_label, Completes, CompletesIn, StepsIn}
+use Rattle.sn_ast.specs.declared.terminal.Terminal.TheVariants.{Symbol}
+use Rattle.sn_type_parser.specs.LabelResidual.{closes, NextLabel, FirstLabel, next_label, no_label, some_label, CompletesIn, StepsIn}
 use Rattle.sn_type_parser.specs.Reads.{Read, read}
-use Rattle.sn_type_parser.proofs.Witnesses.{a_name}
-use Rattle.sn_type_parser.specs.declared.labels.LabelParser.{LabelParser}
 use Rattle.sn_type_parser.specs.declared.labels.LabelStep.{LabelStep}
 use Rattle.sn_type_parser.specs.declared.labels.LabelStep.TheVariants.{More, Done}
 use Rattle.sn_type_parser.specs.declared.labels.LabelStop.{LabelStop}
 use Rattle.sn_type_parser.specs.declared.labels.LabelStop.TheVariants.{Memory, Refused}
 use Rattle.sn_type_parser.specs.declared.labels.Mode.{Mode}
-use Rattle.sn_type_parser.specs.declared.labels.Mode.TheVariants.{First, Label, After}
 
 -- what closes a bracket is no label
 not_both : (b : Bracket) (x : Terminal) (l : LabelAt) → closes b x → label_of x ≡ Some l → ⊥
@@ -113,35 +110,6 @@ no_more b so_far x n k w t m = refused n k m
         MoreLabels b so_far (x ∷ w) all us → ⊥
     refused n k (last_label e) = n e
     refused n k (more_labels {at} e m) = k at refl
-
--- No state is complete without a further token.
-no_end_after : {b : Bracket} {so_far all : List LabelAt} {us : List Terminal} → MoreLabels b so_far [] all us → ⊥
-no_end_after m = elim m [ ]
-
-no_end_label : {b : Bracket} {so_far : List LabelAt} {t : Read (List LabelAt)} → NextLabel b so_far [] t → ⊥
-no_end_label l = elim l [ ]
-
-no_end_first : {b : Bracket} {so_far : List LabelAt} {t : Read (List LabelAt)} → FirstLabel b so_far [] t → ⊥
-no_end_first (some_label l) = no_end_label l
-
-no_end_in : (b : Bracket) (so_far : List LabelAt) (m : Mode) (t : Read (List LabelAt)) → CompletesIn b so_far m [] t → ⊥
-no_end_in b so_far First t h = no_end_first h
-no_end_in b so_far Label t h = no_end_label h
-no_end_in b so_far After t h = no_end_after h
-
-pub no_end : (s : LabelParser) (t : Read (List LabelAt)) → Completes s [] t → ⊥
-no_end s t h = no_end_in s.bracket s.labels s.mode t h
-
--- Each state can be completed, whatever follows.
-completable_in : (b : Bracket) (so_far : List LabelAt) (m : Mode) (us : List Terminal) →
-    (w : List Terminal) × (all : List LabelAt) × CompletesIn b so_far m w (read all us)
-completable_in b so_far First us = (Symbol (closing b) 0 ∷ us, so_far, no_label refl)
-completable_in b so_far Label us =
-    (Name a_name ∷ Symbol (closing b) 0 ∷ us, so_far ++ (record { tag = false; name = a_name } ∷ []), next_label refl (last_label refl))
-completable_in b so_far After us = (Symbol (closing b) 0 ∷ us, so_far, last_label refl)
-
-pub completable : (s : LabelParser) (us : List Terminal) → (w : List Terminal) × (all : List LabelAt) × Completes s w (read all us)
-completable s us = completable_in s.bracket s.labels s.mode us
 
 -- What one state takes another takes, where the same completes both from this token on.
 pub steps_through : (b : Bracket) (so_far : List LabelAt) (m n : Mode) (x : Terminal) (r : Result LabelStep LabelStop) →

@@ -1,2 +1,4 @@
 pub mod LabelResidual
 pub mod Reads
+pub mod SigResidual
+pub mod TypeResidual

@@ -67,6 +67,8 @@ impl LabelParser {
         }
     }
 
+    /// Takes the next token: answers the labels where it is the closing bracket, and refuses it where no labels go on
+    /// with it.
     pub fn step(self, token: Terminal) -> Result<LabelStep, LabelStop>
         ensures { Steps self token result }
     {
@@ -83,11 +85,7 @@ impl LabelParser {
     }
 }
 
-fn first(
-    bracket: Bracket,
-    labels: Seq<LabelAt>,
-    token: Terminal,
-) -> Result<LabelStep, LabelStop>
+fn first(bracket: Bracket, labels: Seq<LabelAt>, token: Terminal) -> Result<LabelStep, LabelStop>
     ensures { StepsIn bracket labels First token result }
 {
     if closes(bracket, &token) {
@@ -96,18 +94,14 @@ fn first(
     label(bracket, labels, token)
 }
 
-fn label(
-    bracket: Bracket,
-    labels: Seq<LabelAt>,
-    token: Terminal,
-) -> Result<LabelStep, LabelStop>
+fn label(bracket: Bracket, labels: Seq<LabelAt>, token: Terminal) -> Result<LabelStep, LabelStop>
     ensures { StepsIn bracket labels Label token result }
 {
     let Some(label) = token.into_label() else {
         return Err(LabelStop::Refused);
     };
     let mut labels = labels;
-    labels.append(label)?;
+    sn_stack::append(&mut labels, label)?;
     Ok(LabelStep::More(LabelParser {
         bracket,
         labels,
@@ -115,11 +109,7 @@ fn label(
     }))
 }
 
-fn after(
-    bracket: Bracket,
-    labels: Seq<LabelAt>,
-    token: Terminal,
-) -> Result<LabelStep, LabelStop>
+fn after(bracket: Bracket, labels: Seq<LabelAt>, token: Terminal) -> Result<LabelStep, LabelStop>
     ensures { StepsIn bracket labels After token result }
 {
     if closes(bracket, &token) {

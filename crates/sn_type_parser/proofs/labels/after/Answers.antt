@@ -1,4 +1,4 @@
-use Rattle.std.proofs.Common.{ℕ, ◌≡◌}
+use Rattle.std.proofs.Common.{◌≡◌}
 use Rattle.sn_ast.specs.declared.terminal.Symbol.TheVariants.{Comma}
 use Rattle.sn_ast.specs.declared.terminal.Terminal.TheVariants.{Symbol}
 use Rattle.sn_type_parser.proofs.LabelSteps.{done_after, comma_step, no_more, is_not}

@@ -1,6 +1,6 @@
 ghost use Rattle.std.specs.Prelude.{◌≡◌, [], ◌∷◌, MatchOption, OnOk, OnErr};
 
-use crate::memory::Memory;
+use sn_list::Memory;
 use std::alloc::Global;
 use std::marker::Model;
 
