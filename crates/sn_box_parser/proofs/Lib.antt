@@ -1,0 +1,3 @@
+pub mod BoxDeclLaws
+pub mod Embedded
+pub mod Steps

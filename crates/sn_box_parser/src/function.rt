@@ -1,0 +1,164 @@
+ghost use Rattle.std.specs.Prelude.{ℕ};
+ghost use Rattle.sn_ast.specs.declared.terminal.Terminal.TheVariants as some_token;
+ghost use Rattle.sn_box_parser.specs.BoxDeclResidual.{AfterBody, StepsFrom, StepsIn};
+ghost use Rattle.sn_box_parser.specs.declared.machine.Mode.TheVariants as some_mode;
+
+use crate::machine::{BoxDeclParser, BoxDeclStep, BoxDeclStop, Function, Mode, Opened};
+use sn_ast::measure::append;
+use sn_ast::{BExpr, Ident, Kept, Seq, Symbol, Terminal};
+use sn_expr_parser::{BoxParser, BoxStop};
+use std::alloc::Global;
+
+/// Takes the token after `fun`.
+pub fn name(opened: Opened, token: Terminal) -> Result<BoxDeclStep, BoxDeclStop>
+    ensures { StepsIn (some_mode.FunctionName opened) token result }
+{
+    let Terminal::Name(name) = token else {
+        return Err(BoxDeclStop::Refused);
+    };
+    Ok(BoxDeclStep::More(BoxDeclParser {
+        mode: Mode::FunctionOpening { opened, name },
+    }))
+}
+
+/// Takes the token after a function's name.
+pub fn opening(opened: Opened, name: Ident, token: Terminal) -> Result<BoxDeclStep, BoxDeclStop>
+    ensures { StepsIn (some_mode.FunctionOpening opened name) token result }
+{
+    let Some(_) = token.symbol_at(Symbol::OpenParen) else {
+        return Err(BoxDeclStop::Refused);
+    };
+    Ok(BoxDeclStep::More(BoxDeclParser {
+        mode: Mode::FirstParam { opened, name },
+    }))
+}
+
+/// Takes the token after the `(` of a function.
+pub fn first_param(
+    alloc: Global,
+    opened: Opened,
+    name: Ident,
+    token: Terminal,
+) -> Result<BoxDeclStep, BoxDeclStop>
+    ensures { StepsIn (some_mode.FirstParam opened name) token result }
+{
+    let function = Function {
+        name,
+        params: Seq::new(alloc),
+    };
+    if let Some(_) = token.symbol_at(Symbol::CloseParen) {
+        return Ok(BoxDeclStep::More(BoxDeclParser {
+            mode: Mode::Assign { opened, function },
+        }));
+    }
+    param(opened, function, token)
+}
+
+/// Takes the token where a parameter comes next.
+pub fn param(
+    opened: Opened,
+    function: Function,
+    token: Terminal,
+) -> Result<BoxDeclStep, BoxDeclStop>
+    ensures { StepsIn (some_mode.Param opened function) token result }
+{
+    let Terminal::Name(param) = token else {
+        return Err(BoxDeclStop::Refused);
+    };
+    let Function { name, params } = function;
+    let mut params = params;
+    sn_stack::append(&mut params, param)?;
+    Ok(BoxDeclStep::More(BoxDeclParser {
+        mode: Mode::AfterParam {
+            opened,
+            function: Function { name, params },
+        },
+    }))
+}
+
+/// Takes the token after a parameter.
+pub fn after_param(
+    opened: Opened,
+    function: Function,
+    token: Terminal,
+) -> Result<BoxDeclStep, BoxDeclStop>
+    ensures { StepsIn (some_mode.AfterParam opened function) token result }
+{
+    if let Some(_) = token.symbol_at(Symbol::Comma) {
+        return Ok(BoxDeclStep::More(BoxDeclParser {
+            mode: Mode::Param { opened, function },
+        }));
+    }
+    let Some(_) = token.symbol_at(Symbol::CloseParen) else {
+        return Err(BoxDeclStop::Refused);
+    };
+    Ok(BoxDeclStep::More(BoxDeclParser {
+        mode: Mode::Assign { opened, function },
+    }))
+}
+
+/// Takes the token after a function's parameters.
+pub fn assign(
+    alloc: Global,
+    opened: Opened,
+    function: Function,
+    token: Terminal,
+) -> Result<BoxDeclStep, BoxDeclStop>
+    ensures { StepsIn (some_mode.Assign opened function) token result }
+{
+    let Some(_) = token.symbol_at(Symbol::Assign) else {
+        return Err(BoxDeclStop::Refused);
+    };
+    Ok(BoxDeclStep::More(BoxDeclParser {
+        mode: Mode::InFunction {
+            opened,
+            function,
+            body: BoxParser::start(alloc),
+        },
+    }))
+}
+
+/// Takes a token of a function's body, or the one after it.
+pub fn in_function(
+    alloc: Global,
+    opened: Opened,
+    function: Function,
+    body: BoxParser,
+    token: Terminal,
+) -> Result<BoxDeclStep, BoxDeclStop>
+    ensures { StepsIn (some_mode.InFunction opened function body) token result }
+{
+    match body.step(alloc, token) {
+        Ok(body) => Ok(BoxDeclStep::More(BoxDeclParser {
+            mode: Mode::InFunction {
+                opened,
+                function,
+                body,
+            },
+        })),
+        Err(BoxStop::Memory) => Err(BoxDeclStop::Memory),
+        Err(BoxStop::Refused) => Err(BoxDeclStop::Refused),
+        Err(BoxStop::Ended { part, symbol, .. }) => after_body(opened, function, part, symbol),
+    }
+}
+
+/// Takes the symbol after a function's body, which must be a semicolon.
+fn after_body(
+    opened: Opened,
+    function: Function,
+    body: Kept<BExpr>,
+    symbol: Symbol,
+) -> Result<BoxDeclStep, BoxDeclStop>
+    ensures { (at : ℕ) → StepsFrom (AfterBody opened function.name function.params body) (some_token.Symbol symbol at) result }
+{
+    if symbol != Symbol::Semicolon {
+        return Err(BoxDeclStop::Refused);
+    }
+    let Opened { head, functions } = opened;
+    let functions = append(functions, function.with_body(body))?;
+    Ok(BoxDeclStep::More(BoxDeclParser {
+        mode: Mode::Body {
+            opened: Opened { head, functions },
+        },
+    }))
+}

@@ -1,0 +1,213 @@
+ghost use Rattle.std.specs.Prelude.{◌≡◌, List};
+ghost use Rattle.sn_ast.specs.Declarations.{RestOfBox};
+ghost use Rattle.sn_ast.specs.Kept.{Kept as SomeKept, kept};
+ghost use Rattle.sn_ast.specs.declared.declaration.Decl.{Decl as SomeDecl};
+ghost use Rattle.sn_ast.specs.declared.terminal.Terminal.{Terminal as SomeTerminal};
+ghost use Rattle.sn_box_parser.specs.BoxDeclResidual.{Completes, Read, Steps, read};
+
+use crate::{body, function, head};
+use sn_ast::{BExpr, Decl, FunDecl, Ident, Kept, Seq, Terminal, Tuple};
+use sn_expr_parser::BoxParser;
+use sn_list::Memory;
+use sn_type_parser::LabelParser;
+use std::alloc::Global;
+
+/// Why a box is not read on.
+#[derive(Debug, Drop)]
+pub enum BoxDeclStop {
+    Memory,
+    /// No box goes on with the token.
+    Refused,
+}
+
+impl From<Memory> for BoxDeclStop {
+    ghost use Rattle.std.specs.Prelude.{◌≡◌};
+    ghost use Rattle.sn_box_parser.specs.declared.machine.BoxDeclStop.TheVariants.{Memory};
+
+    ghost from_gives = { λ _ e. e ≡ Memory };
+
+    fn from(_: Memory) -> BoxDeclStop {
+        BoxDeclStop::Memory
+    }
+}
+
+/// What a token led to.
+#[derive(Drop)]
+pub enum BoxDeclStep {
+    More(BoxDeclParser),
+    /// The token was the brace that closes the body.
+    Done(Kept<Decl>),
+}
+
+/// A box's name, its input, and its outputs so far.
+#[derive(Drop)]
+pub struct Head {
+    pub name: Ident,
+    pub input: Tuple,
+    pub outputs: Seq<Tuple>,
+}
+
+/// A box whose body is read, and the functions so far.
+#[derive(Drop)]
+pub struct Opened {
+    pub head: Head,
+    pub functions: Kept<Seq<FunDecl>>,
+}
+
+/// A function's name, and its parameters so far.
+#[derive(Drop)]
+pub struct Function {
+    pub name: Ident,
+    pub params: Seq<Ident>,
+}
+
+/// The place of a body's sequence, and its parts so far, if there are any.
+#[derive(Drop)]
+pub struct Sequence {
+    pub at: u32,
+    pub so_far: Option<Kept<Seq<BExpr>>>,
+}
+
+/// What comes next.
+#[derive(Drop)]
+pub enum Mode {
+    /// The `(` after the box's name.
+    Opening {
+        name: Ident,
+    },
+    /// The input.
+    Input {
+        name: Ident,
+    },
+    InInput {
+        name: Ident,
+        opening: u32,
+        labels: LabelParser,
+    },
+    /// The `->` after the input.
+    Arrow {
+        name: Ident,
+        input: Tuple,
+    },
+    /// An output.
+    Output {
+        head: Head,
+    },
+    InOutput {
+        head: Head,
+        opening: u32,
+        labels: LabelParser,
+    },
+    /// What may stand after an output.
+    AfterOutput {
+        head: Head,
+    },
+    /// The `{` that opens the body.
+    Brace {
+        head: Head,
+    },
+    /// A function, or the sequence of the body.
+    Body {
+        opened: Opened,
+    },
+    /// A function's name.
+    FunctionName {
+        opened: Opened,
+    },
+    /// The `(` after a function's name.
+    FunctionOpening {
+        opened: Opened,
+        name: Ident,
+    },
+    /// A function's first parameter, or the `)` after none.
+    FirstParam {
+        opened: Opened,
+        name: Ident,
+    },
+    /// A function's parameter.
+    Param {
+        opened: Opened,
+        function: Function,
+    },
+    /// What may stand after a parameter.
+    AfterParam {
+        opened: Opened,
+        function: Function,
+    },
+    /// The `=` before a function's body.
+    Assign {
+        opened: Opened,
+        function: Function,
+    },
+    InFunction {
+        opened: Opened,
+        function: Function,
+        body: BoxParser,
+    },
+    /// A part of the body's sequence.
+    InPart {
+        opened: Opened,
+        sequence: Sequence,
+        part: BoxParser,
+    },
+}
+
+/// A box that is being read.
+#[derive(Drop)]
+pub struct BoxDeclParser {
+    pub mode: Mode,
+}
+
+impl BoxDeclParser {
+    /// Stands after the box's name.
+    pub fn start(_alloc: Global, name: Ident) -> BoxDeclParser
+        ensures from { (w us : List SomeTerminal) (d : SomeKept SomeDecl) → RestOfBox kept name w d us → Completes result w (read d us) }
+        ensures to { (w : List SomeTerminal) (t : Read) → Completes result w t → RestOfBox kept name w t.part t.rest }
+    {
+        BoxDeclParser {
+            mode: Mode::Opening { name },
+        }
+    }
+
+    /// Takes the next token.
+    pub fn step(self, alloc: Global, token: Terminal) -> Result<BoxDeclStep, BoxDeclStop>
+        ensures { Steps self token result }
+    {
+        let BoxDeclParser { mode } = self;
+        match mode {
+            Mode::Opening { name } => head::opening(name, token),
+            Mode::Input { name } => head::input(alloc, name, token),
+            Mode::InInput {
+                name,
+                opening,
+                labels,
+            } => head::in_input(name, opening, labels, token),
+            Mode::Arrow { name, input } => head::arrow(alloc, name, input, token),
+            Mode::Output { head } => head::output(alloc, head, token),
+            Mode::InOutput {
+                head,
+                opening,
+                labels,
+            } => head::in_output(head, opening, labels, token),
+            Mode::AfterOutput { head } => head::after_output(head, token),
+            Mode::Brace { head } => head::brace(alloc, head, token),
+            Mode::Body { opened } => body::begin(alloc, opened, token),
+            Mode::FunctionName { opened } => function::name(opened, token),
+            Mode::FunctionOpening { opened, name } => function::opening(opened, name, token),
+            Mode::FirstParam { opened, name } => function::first_param(alloc, opened, name, token),
+            Mode::Param { opened, function } => function::param(opened, function, token),
+            Mode::AfterParam { opened, function } => function::after_param(opened, function, token),
+            Mode::Assign { opened, function } => function::assign(alloc, opened, function, token),
+            Mode::InFunction {
+                opened,
+                function,
+                body,
+            } => function::in_function(alloc, opened, function, body, token),
+            Mode::InPart {
+                opened,
+                sequence,
+                part,
+            } => body::in_part(alloc, opened, sequence, part, token),
+        }
+    }
+}
