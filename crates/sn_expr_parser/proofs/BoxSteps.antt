@@ -62,6 +62,10 @@ expr_from n m (next_expr (bind {at} x y) u) = absurd (n at refl)
 expr_from n m (next_expr (choose {at} x y z) u) = absurd (m at refl)
 expr_from n m (next_expr (plain (disjunction (conjunction x ands) ors)) u) = next_or x ands ors u
 
+pub keyword_expr_from : {fs : List Frame} {k : SomeKeyword} {at : ℕ} {w : List Terminal} {t : Read} → (k ≡ Let → ⊥) → (k ≡ If → ⊥) →
+    NextExpr fs (Keyword k at ∷ w) t → Next fs fresh (Keyword k at ∷ w) t
+keyword_expr_from n m y = expr_from (λ a e. n (cc)) (λ a e. m (cc)) y
+
 pub expr_to : {fs : List Frame} {w : List Terminal} {t : Read} → Next fs fresh w t → NextExpr fs w t
 expr_to (next q (down ps ss cs ands ors u)) =
     next_expr (plain (disjunction (conjunction (join_comparison (sum (product q ps) ss) cs) ands) ors)) u

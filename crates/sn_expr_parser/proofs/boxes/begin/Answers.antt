@@ -2,7 +2,7 @@ use Rattle.sn_ast.specs.declared.terminal.Keyword.TheVariants.{Let, If}
 use Rattle.sn_ast.specs.declared.terminal.Terminal.TheVariants.{Keyword}
 use Rattle.sn_expr_parser.specs.BoxResidual.{NextExpr, Next}
 use Rattle.sn_expr_parser.specs.Levels.{fresh}
-use Rattle.sn_expr_parser.proofs.BoxSteps.{let_from, let_to, if_from, if_to, expr_from, expr_to, through}
+use Rattle.sn_expr_parser.proofs.BoxSteps.{let_from, let_to, if_from, if_to, expr_from, keyword_expr_from, expr_to, through}
 use Rattle.sn_expr_parser.proofs.boxes.begin.Goals as goal
 
 pub returns-in_default : goal.returns-in_default
@@ -14,8 +14,12 @@ returns-in_default c =
 pub returns-in-Let : goal.returns-in-Let
 returns-in-Let c = λ w t. rw (c.in-Keyword.is, c.in-Let.is) (let_from, let_to)
 
-pub returns-in_ok-within : goal.returns-in_ok-within
-returns-in_ok-within c = λ w t. rw (c.in-Keyword.is, c.in-If.is, c.in_ok-within.ensures) (if_from, if_to)
+pub returns-in_ok-within-in-If : goal.returns-in_ok-within-in-If
+returns-in_ok-within-in-If c = λ w t. rw (c.in-Keyword.is, c.in-If.is, c.in_ok-within-in-If.ensures) (if_from, if_to)
 
 pub returns-in_default-keyword : goal.returns-in_default-keyword
-returns-in_default-keyword c = ?
+returns-in_default-keyword c =
+    let a = c.args in
+    let x = c.in-Keyword in
+    let n = c.in_default-keyword in
+    rw x.is (through (NextExpr a.frames) (Next a.frames fresh) (Keyword x.keyword x.at) c.out.result (λ w t. (keyword_expr_from n.not-Let n.not-If, expr_to)) (rw c.new-in_default-keyword.ensures at c.out.ensures))

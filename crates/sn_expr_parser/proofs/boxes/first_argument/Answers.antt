@@ -15,4 +15,4 @@ pub returns : goal.returns
 returns c =
     let a = c.args in
     let e : closes a.head a.token ≡ false = cc in
-    through (NextArguments a.frames a.level a.head) (NextExpr (Arguments a.level a.head (no_parts kept) ∷ a.frames)) a.token c.begin.result (λ w t. (first_from e, first_to)) (rw (c.in_ok-push.ensures, c.no_row-row.ensures) at c.begin.ensures)
+    through (NextArguments a.frames a.level a.head) (NextExpr (Arguments a.level a.head (no_parts kept) ∷ a.frames)) a.token c.begin.result (λ w t. (first_from e, first_to)) (rw (c.in_ok-push.ensures.ok, c.no_row-row.ensures) at c.begin.ensures)

@@ -8,4 +8,4 @@ use Rattle.sn_expr_parser.proofs.boxes.first_step.Goals as goal
 pub returns : goal.returns
 returns c =
     let a = c.args in
-    through (NextSequence a.frames a.level) (NextExpr (Parens a.level (place_of a.token) None ∷ a.frames)) a.token c.begin.result (λ w t. (step_from, step_to)) (rw (c.in_ok-push.ensures, c.place.ensures) at c.begin.ensures)
+    through (NextSequence a.frames a.level) (NextExpr (Parens a.level (place_of a.token) None ∷ a.frames)) a.token c.begin.result (λ w t. (step_from, step_to)) (rw (c.in_ok-push.ensures.ok, c.place.ensures) at c.begin.ensures)
