@@ -76,7 +76,7 @@ no_end_in : (a : Around) (m : Mode) (t : Read) → CompletesIn a m [] t → ⊥
 no_end_in a mode.Want t h = no_end_next h
 no_end_in a (mode.Have p) t h = no_end_down h
 no_end_in a (mode.Bracket at) t h = no_end_bracket h
-no_end_in a (mode.InFilter filter) t h = no_end_in_filter h
+no_end_in a (mode.InFilter s) t h = no_end_in_filter h
 no_end_in a (mode.Pattern cell) t h = no_end_pattern h
 no_end_in a (mode.InPattern cell opening labels) t h = no_end_in_pattern h
 no_end_in a (mode.AfterPattern cell) t h = no_end_after_pattern h
