@@ -1,5 +1,5 @@
 -- What a parser that embeds the parser of expressions in boxes needs to know of its states.
-use Rattle.std.proofs.Common.{ℕ, pos, List, [], ◌∷◌, Some, None, refl}
+use Rattle.std.proofs.Common.{pos, List, [], ◌∷◌, refl}
 use Rattle.sn_ast.specs.BoxExprs.{BoxExpr, sequence_of, plain, disjunction, no_or, conjunction, no_and, no_compare, compare, sum, no_sum, product, no_product, number, no_arguments, arguments, last_argument, sequence, last_step}
 use Rattle.sn_ast.specs.Kept.{Kept, kept}
 use Rattle.sn_ast.specs.Operators.{box_operations}
@@ -13,10 +13,10 @@ use Rattle.sn_ast.specs.declared.terminal.Symbol.TheVariants.{OpenParen, ClosePa
 use Rattle.sn_ast.specs.declared.terminal.Terminal.{Terminal}
 use Rattle.sn_ast.specs.declared.terminal.Terminal.TheVariants.{Name, Number, Keyword, Symbol}
 use Rattle.sn_expr_parser.specs.BoxNodes.{bracket_of, with_row}
-use Rattle.sn_expr_parser.specs.BoxResidual.{Read, read, ends, completed, no_comparison, Up, whole, in_parens, in_arguments, in_middle, in_last, Down, down, Next, next, NextExpr, next_expr, NextAssign, next_assign, NextName, next_name, NextArguments, next_arguments, NextOpening, next_opening, NextNumber, next_number, Named, plain_name, called_name, NextSequence, next_sequence, CompletesIn, Completes}
+use Rattle.sn_expr_parser.specs.BoxResidual.{Read, read, ends, completed, no_comparison, Up, whole, in_parens, in_arguments, in_middle, in_last, Down, down, next, NextExpr, next_expr, next_assign, next_name, NextArguments, next_arguments, next_opening, next_number, plain_name, called_name, next_sequence, CompletesIn, Completes}
 use Rattle.sn_expr_parser.specs.Levels.{or_in}
 use Rattle.sn_expr_parser.specs.declared.box_node.Head.{Head}
-use Rattle.sn_expr_parser.specs.declared.box_node.Head.TheVariants.{Function, Variant, Elements}
+use Rattle.sn_expr_parser.specs.declared.box_node.Head.TheVariants.{Variant}
 use Rattle.sn_expr_parser.specs.declared.boxes.BoxParser.{BoxParser}
 use Rattle.sn_expr_parser.specs.declared.boxes.Frame.{Frame}
 use Rattle.sn_expr_parser.specs.declared.boxes.Frame.TheVariants.{Parens, Arguments, Middle, Last}

@@ -22,7 +22,7 @@ use Rattle.sn_ast.specs.declared.terminal.Symbol.TheVariants.{OpenParen, ClosePa
 use Rattle.sn_ast.specs.declared.terminal.Terminal.{Terminal}
 use Rattle.sn_ast.specs.declared.terminal.Terminal.TheVariants.{Name, Tag, Number, Literal, Keyword, Symbol}
 use Rattle.sn_expr_parser.specs.BoxNodes.{bracket_of, with_row, is_close_paren, is_close_bracket, is_closed_by}
-use Rattle.sn_expr_parser.specs.BoxResidual.{Read, read, may_end, ends, is_open_paren, closes, next_frame, completed, Compared, no_comparison, one_comparison, Up, whole, in_parens, in_arguments, in_middle, in_last, Down, down, Next, next, NextExpr, next_expr, NextAssign, next_assign, NextName, next_name, NextArguments, next_arguments, NextOpening, next_opening, NextNumber, next_number, Named, plain_name, called_name, NextSequence, next_sequence, CompletesIn, Completes, StepsFrom, framed, Innermost}
+use Rattle.sn_expr_parser.specs.BoxResidual.{Read, read, may_end, ends, is_open_paren, closes, next_frame, completed, Compared, no_comparison, one_comparison, Up, whole, in_parens, in_arguments, in_middle, in_last, Down, down, Next, next, NextExpr, next_expr, NextAssign, next_assign, NextName, next_name, NextArguments, next_arguments, NextOpening, next_opening, NextNumber, next_number, Named, plain_name, called_name, NextSequence, next_sequence, StepsFrom, Innermost}
 use Rattle.sn_expr_parser.specs.Levels.{fresh, or_in, after, after_product, after_sum, compared, after_comparison, after_and, after_or, with_next_sign}
 use Rattle.sn_expr_parser.specs.declared.box_node.Head.{Head}
 use Rattle.sn_expr_parser.specs.declared.box_node.Head.TheVariants.{Function, Variant, Elements}
@@ -35,8 +35,6 @@ use Rattle.sn_expr_parser.specs.declared.boxes.LastPart.{LastPart}
 use Rattle.sn_expr_parser.specs.declared.boxes.LastPart.TheVariants.{Body, Else}
 use Rattle.sn_expr_parser.specs.declared.boxes.MiddlePart.{MiddlePart}
 use Rattle.sn_expr_parser.specs.declared.boxes.MiddlePart.TheVariants.{Bound, Test, Then}
-use Rattle.sn_expr_parser.specs.declared.boxes.Mode.{Mode}
-use Rattle.sn_expr_parser.specs.declared.boxes.Mode.TheVariants.{Begin, LetName, LetAssign, Want, AfterName, AfterOut, Opening, FirstArgument, FirstStep, Have}
 use Rattle.sn_expr_parser.specs.declared.level.Level.{Level}
 
 -- A comparison in two parts: its first sum, and what the level takes after it.

@@ -1,5 +1,5 @@
 -- What a parser that embeds the parser of tag expressions needs to know of its states.
-use Rattle.std.proofs.Common.{ℕ, pos, List, [], ◌∷◌}
+use Rattle.std.proofs.Common.{pos, List, [], ◌∷◌}
 use Rattle.sn_ast.specs.Kept.{Kept, kept}
 use Rattle.sn_ast.specs.Operators.{tag_operations}
 use Rattle.sn_ast.specs.TagExprs.{TagExpr, with_condition, plain, disjunction, no_or, conjunction, no_and, no_compare, sum, no_sum, product, no_product, number}
@@ -9,7 +9,7 @@ use Rattle.sn_ast.specs.declared.terminal.Symbol.TheVariants.{CloseParen, Colon}
 use Rattle.sn_ast.specs.declared.terminal.Terminal.{Terminal}
 use Rattle.sn_ast.specs.declared.terminal.Terminal.TheVariants.{Number, Symbol}
 use Rattle.sn_expr_parser.specs.Levels.{or_in}
-use Rattle.sn_expr_parser.specs.TagResidual.{Read, read, ends, no_comparison, Up, whole, in_parens, in_middle, in_right, Tested, no_test, Down, down, Next, next, CompletesIn, Completes}
+use Rattle.sn_expr_parser.specs.TagResidual.{Read, read, ends, no_comparison, Up, whole, in_parens, in_middle, in_right, no_test, Down, down, next, CompletesIn, Completes}
 use Rattle.sn_expr_parser.specs.declared.level.Level.{Level}
 use Rattle.sn_expr_parser.specs.declared.tags.Frame.{Frame}
 use Rattle.sn_expr_parser.specs.declared.tags.Frame.TheVariants.{Parens, Middle, Right}

@@ -3,7 +3,7 @@
 use Rattle.std.proofs.Common.{ℕ, ℤ, false, List, [], ◌∷◌, ◌≡◌, ◌↔◌, IsTrue, Option, Some, None, Result, Ok, Err, refl, subst, sym}
 use Rattle.sn_ast.specs.Kept.{Kept, kept}
 use Rattle.sn_ast.specs.Operators.{tag_operations, with_sign}
-use Rattle.sn_ast.specs.TagExprs.{TagExpr, Disjunctions, Conjunctions, Comparison, Sum, with_condition, plain, choose, disjunction, no_or, or, conjunction, no_and, and, no_compare, compare, sum, no_sum, add, product, no_product, multiply, Operand, sign, number, tag, parens}
+use Rattle.sn_ast.specs.TagExprs.{TagExpr, Disjunctions, Conjunctions, Comparison, Sum, with_condition, plain, choose, disjunction, no_or, or, conjunction, no_and, and, no_compare, compare, sum, no_sum, add, product, no_product, multiply, sign, number, tag, parens}
 use Rattle.sn_ast.specs.Terminals.{infix_of, sign_of}
 use Rattle.sn_ast.specs.declared.label.Ident.{Ident}
 use Rattle.sn_ast.specs.declared.tag_expr.Operator.{Operator}
@@ -15,14 +15,12 @@ use Rattle.sn_ast.specs.declared.terminal.Sign.{Sign}
 use Rattle.sn_ast.specs.declared.terminal.Symbol.{Symbol as SomeSymbol}
 use Rattle.sn_ast.specs.declared.terminal.Symbol.TheVariants.{OpenParen, CloseParen, CloseBrace, Comma, Question, Colon}
 use Rattle.sn_ast.specs.declared.terminal.Terminal.{Terminal}
-use Rattle.sn_ast.specs.declared.terminal.Terminal.TheVariants.{Name, Tag, Number, Literal, Keyword, Symbol}
+use Rattle.sn_ast.specs.declared.terminal.Terminal.TheVariants.{Tag, Number, Symbol}
 use Rattle.sn_expr_parser.specs.Levels.{fresh, or_in, after, after_product, after_sum, compared, after_comparison, after_and, after_or, with_next_sign}
-use Rattle.sn_expr_parser.specs.TagResidual.{Read, read, may_end, ends, Compared, no_comparison, one_comparison, Up, whole, in_parens, in_middle, in_right, Tested, no_test, test, Down, down, Next, next, CompletesIn, Completes, StepsFrom, framed, Innermost}
+use Rattle.sn_expr_parser.specs.TagResidual.{Read, read, may_end, ends, Compared, no_comparison, one_comparison, Up, whole, in_parens, in_middle, in_right, Tested, no_test, test, Down, down, Next, next, StepsFrom, Innermost}
 use Rattle.sn_expr_parser.specs.declared.level.Level.{Level}
 use Rattle.sn_expr_parser.specs.declared.tags.Frame.{Frame}
 use Rattle.sn_expr_parser.specs.declared.tags.Frame.TheVariants.{Parens, Middle, Right}
-use Rattle.sn_expr_parser.specs.declared.tags.Mode.{Mode}
-use Rattle.sn_expr_parser.specs.declared.tags.Mode.TheVariants.{Want, Have}
 use Rattle.sn_expr_parser.specs.declared.tags.TagParser.{TagParser}
 use Rattle.sn_expr_parser.specs.declared.tags.TagStop.{TagStop}
 use Rattle.sn_expr_parser.specs.declared.tags.TagStop.TheVariants.{Memory, Refused, Ended}

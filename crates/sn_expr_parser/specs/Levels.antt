@@ -1,5 +1,5 @@
 -- What an operand completes, and what then stands before the next one.
-use Rattle.std.specs.Prelude.{ℕ, List, [], ◌∷◌, Option, Some, None, cond}
+use Rattle.std.specs.Prelude.{ℕ, List, [], ◌∷◌, Option, Some, None}
 use Rattle.sn_ast.specs.Kept.{Kept, kept}
 use Rattle.sn_ast.specs.Operators.{Operations, with_sign, with_operator, with_and, with_or}
 use Rattle.sn_ast.specs.declared.tag_expr.Operator.{Operator}

@@ -10,7 +10,7 @@ use Rattle.sn_ast.specs.declared.terminal.Infix.TheVariants.{Comparison as Compa
 use Rattle.sn_ast.specs.declared.terminal.Symbol.{Symbol as SomeSymbol}
 use Rattle.sn_ast.specs.declared.terminal.Symbol.TheVariants.{CloseParen, CloseBrace, Comma, Question, Colon}
 use Rattle.sn_ast.specs.declared.terminal.Terminal.{Terminal}
-use Rattle.sn_ast.specs.declared.terminal.Terminal.TheVariants.{Name, Tag, Number, Literal, Keyword, Symbol}
+use Rattle.sn_ast.specs.declared.terminal.Terminal.TheVariants.{Symbol}
 use Rattle.sn_expr_parser.specs.Levels.{product_in, operated, conjoined, disjoined}
 use Rattle.sn_expr_parser.specs.declared.level.Level.{Level}
 use Rattle.sn_expr_parser.specs.declared.tags.Frame.{Frame}

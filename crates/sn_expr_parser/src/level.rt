@@ -41,6 +41,7 @@ pub struct Level<E> {
     pub signs: Stack<(Sign, u32)>,
 }
 
+/// Written out, so that a function that gives a level up calls this, and is not proved over each part of it.
 impl<E: Drop> Drop for Level<E> {
     fn drop(self) {
         let Level {

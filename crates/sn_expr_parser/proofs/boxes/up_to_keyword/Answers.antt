@@ -1,7 +1,7 @@
 use Rattle.std.proofs.Common.{Err}
 use Rattle.sn_ast.specs.declared.terminal.Terminal.TheVariants.{Keyword}
 use Rattle.sn_expr_parser.specs.declared.boxes.BoxStop.TheVariants.{Refused}
-use Rattle.sn_expr_parser.specs.declared.boxes.Frame.TheVariants.{Parens, Arguments, Middle}
+use Rattle.sn_expr_parser.specs.declared.boxes.Frame.TheVariants.{Middle}
 use Rattle.sn_expr_parser.proofs.BoxSteps.{innermost_steps, top_steps, parens_keyword, arguments_keyword, top_keyword}
 use Rattle.sn_expr_parser.proofs.boxes.up_to_keyword.Goals as goal
 
