@@ -234,7 +234,7 @@ fn begin(alloc: Global, frames: Stack<Frame>, token: Terminal) -> Result<BoxPars
             mode: Mode::LetName { at },
         }),
         Keyword::If => Ok(within(frames, Frame::Middle(MiddlePart::Test { at }))?),
-        _ => out(frames, Level::new(alloc), keyword, at),
+        _ => word(frames, Level::new(alloc), keyword, at),
     }
 }
 
@@ -286,13 +286,13 @@ fn operand(
             frames,
             mode: Mode::AfterName { level, name },
         }),
-        Terminal::Keyword { keyword, at } => out(frames, level, keyword, at),
+        Terminal::Keyword { keyword, at } => word(frames, level, keyword, at),
         Terminal::Symbol { symbol, at } => opening(frames, level, symbol, at),
     }
 }
 
 /// Takes a keyword where an operand comes next.
-fn out(
+fn word(
     frames: Stack<Frame>,
     level: Level<BExpr>,
     keyword: Keyword,

@@ -22,4 +22,4 @@ returns-in_default-keyword c =
     let a = c.args in
     let x = c.in-Keyword in
     let n = c.in_default-keyword in
-    rw x.is (through (NextExpr a.frames) (Next a.frames fresh) (Keyword x.keyword x.at) c.out.result (λ w t. (keyword_expr_from n.not-Let n.not-If, expr_to)) (rw c.new-in_default-keyword.ensures at c.out.ensures))
+    rw x.is (through (NextExpr a.frames) (Next a.frames fresh) (Keyword x.keyword x.at) c.word.result (λ w t. (keyword_expr_from n.not-Let n.not-If, expr_to)) (rw c.new-in_default-keyword.ensures at c.word.ensures))
