@@ -1,0 +1,15 @@
+use Rattle.sn_parser.specs.Residual.{AfterNetSig}
+use Rattle.sn_type_parser.specs.SigResidual.{Completes}
+use Rattle.sn_parser.proofs.Embedded.{through_ended, through_more, through_refused}
+use Rattle.sn_parser.proofs.net_decl.in_net_sig.Goals as goal
+
+pub returns-in-Ok : goal.returns-in-Ok
+returns-in-Ok c = through_more _ _ _ _ c.in-Ok.ensures
+
+pub returns-in-Err-Refused : goal.returns-in-Err-Refused
+returns-in-Err-Refused c = through_refused _ _ _ (rw c.in-Err-Refused.field-0-is at c.in-Err-Refused.ensures)
+
+pub returns-in-Err-Ended : goal.returns-in-Err-Ended
+returns-in-Err-Ended c =
+    through_ended (Completes c.args.sig) (AfterNetSig c.args.around.done c.args.around.nets c.args.name) _ _ _ _
+    (rw c.in-Err-Ended.field-0-is at c.in-Err-Ended.ensures) _ c.net_sig_ended.ensures

@@ -1,0 +1,9 @@
+use Rattle.sn_parser.proofs.Embedded.{sig_start}
+use Rattle.sn_parser.proofs.Steps.{no_sig}
+use Rattle.sn_parser.proofs.type_decl.sig_assign.Goals as goal
+
+pub returns-in_default : goal.returns-in_default
+returns-in_default c = λ w all. no_sig _ c.in_default.ensures
+
+pub returns : goal.returns
+returns c = rw c.in-Some.ensures (sig_start _ _ _ _ _ c.start.ensures.from c.start.ensures.to)

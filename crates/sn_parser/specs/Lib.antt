@@ -1,0 +1,4 @@
+pub mod Answer
+pub mod Residual
+pub mod Scopes
+pub mod Whole

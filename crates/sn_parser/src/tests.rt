@@ -1,0 +1,107 @@
+use crate::{ParseFault, parse};
+use sn_ast::Program;
+use sn_lexer::lex;
+use std::alloc::Global;
+use std::test::Fail;
+
+/// How many declarations stand in the outermost scope of the source, or its refusal.
+fn count_of(alloc: Global, source: &str) -> Result<usize, ParseFault> {
+    if source.len() > 1048576 {
+        return Err(ParseFault::Memory);
+    }
+    let source = source.as_bytes();
+    let Ok(tokens) = lex(alloc, source) else {
+        return Err(ParseFault::Memory);
+    };
+    let Program { decls } = parse(alloc, source, tokens.as_slice())?;
+    Ok(decls.len())
+}
+
+#[test]
+fn programs_are_accepted(rt: HostRuntime) -> Result<(), Fail> {
+    for (source, count) in [
+        ("", 0),
+        ("// none", 0),
+        ("type t = {a,<b>} | u; typesig s = {} -> t; typesig r = s;", 3),
+        ("net n (s) { type t = {}; net m connect f; } connect m;", 1),
+        ("net n connect [] .. [{a} -> {b=a,<t>=<t>+1};{}] .. f .. [|{a},{<b>}|];", 1),
+        ("net n connect (a || b || (c | d)) ** {x} if (<x> > 0) * {} !! <t> ! <u>;", 1),
+        ("net n connect [{<t>} -> {<t>=!<t> || -1 * (2 - <t>) == 3 && 1 ? 2 : <t> ? 4 : 5}];", 1),
+        ("box f ((a,<b>) -> (c) | ()) { fun g(x,y) = x; fun h() = [1,\"t\"]; out 1(a); g(-1,[]) }", 1),
+        ("box f (() -> ()) { let x = (1; 2) in if !x then <t> else x % 2 < 3 && 1 || 0 }", 1),
+    ] {
+        assert!(rt; matches!(count_of(rt.alloc(), source), Ok(found) if found == count));
+    }
+    Ok(())
+}
+
+#[test]
+fn other_sources_are_refused(rt: HostRuntime) -> Result<(), Fail> {
+    for (source, place) in [
+        ("net main ({a} -> {b}) connect [{a} -> {b=a}]", 44),
+        ("net main ({a} -> {a}) connect [] || [] | [];", 39),
+        ("net main ({a} -> {a}) connect [] | [] .. [] || [];", 44),
+        ("net n connect (((((", 19),
+        ("net n { connect f;", 8),
+        ("net n } connect f;", 6),
+        ("type t = {a} {b};", 13),
+        ("type t = {a,};", 12),
+        ("typesig s = {a};", 15),
+        ("connect f;", 0),
+        ("box f ((a) -> (b)) { }", 21),
+        ("box f ((a) -> (b)) { 1 < 2 < 3 }", 27),
+        ("net n connect f; }", 17),
+    ] {
+        assert!(rt; matches!(count_of(rt.alloc(), source), Err(ParseFault::Unexpected(at)) if at == place));
+    }
+    Ok(())
+}
+
+/// The front, `depth` times the opening, the middle, and as often the closing, and the end.
+fn nested(
+    alloc: Global,
+    front: &str,
+    opening: &str,
+    middle: &str,
+    closing: &str,
+    end: &str,
+    depth: usize,
+) -> Result<String, Fail> {
+    let mut source = String::new(alloc);
+    source.push_str(front)?;
+    for _ in 0..depth {
+        source.push_str(opening)?;
+    }
+    source.push_str(middle)?;
+    for _ in 0..depth {
+        source.push_str(closing)?;
+    }
+    source.push_str(end)?;
+    Ok(source)
+}
+
+/// Networks in so many parentheses.
+fn in_parentheses(alloc: Global, depth: usize, end: &str) -> Result<String, Fail> {
+    nested(alloc, "net main ({a} -> {a}) connect ", "(", "[]", ")", end, depth)
+}
+
+/// A filter with so many signs.
+fn signs(alloc: Global, depth: usize) -> Result<String, Fail> {
+    let front = "net main ({<a>} -> {<a>}) connect [{<a>} -> {<a>=";
+    nested(alloc, front, "-", "<a>}];", "", "", depth)
+}
+
+#[test]
+fn limits_are_exact(rt: HostRuntime) -> Result<(), Fail> {
+    let source = in_parentheses(rt.alloc(), 128, ";")?;
+    assert!(rt; matches!(count_of(rt.alloc(), &source), Ok(1)));
+    let source = in_parentheses(rt.alloc(), 129, ";")?;
+    assert!(rt; matches!(count_of(rt.alloc(), &source), Err(ParseFault::TooDeep(4))));
+    let source = in_parentheses(rt.alloc(), 129, "")?;
+    assert!(rt; matches!(count_of(rt.alloc(), &source), Err(ParseFault::Unexpected(290))));
+    let source = signs(rt.alloc(), 63)?;
+    assert!(rt; matches!(count_of(rt.alloc(), &source), Ok(1)));
+    let source = signs(rt.alloc(), 64)?;
+    assert!(rt; matches!(count_of(rt.alloc(), &source), Err(ParseFault::TooDeep(4))));
+    Ok(())
+}
