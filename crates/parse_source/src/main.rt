@@ -4,7 +4,7 @@
 
 use sn_lexer::lex;
 use sn_parser::{Program, parse};
-use std::io;
+use std::io::{self, Read};
 
 const MOST_BYTES: usize = 1048576;
 

@@ -1,11 +1,10 @@
 -- The parsers that the parser of a source embeds: what completes them goes on as what completes the source.
-use Rattle.std.proofs.Common.{ℕ, List, [], ◌∷◌, ◌≡◌, ◌↔◌, Option, Some, None, Result, Ok, Err, refl, sym, subst}
+use Rattle.std.proofs.Common.{ℕ, List, ◌∷◌, ◌≡◌, ◌↔◌, Result, Ok, Err, refl, sym, subst}
 use Rattle.sn_ast.specs.Declarations.{RestOfBox, no_signature, signature, with_connect}
 use Rattle.sn_ast.specs.Kept.{Kept, kept}
 use Rattle.sn_ast.specs.Labels.{IsSig, Types}
 use Rattle.sn_ast.specs.Networks.{Network}
 use Rattle.sn_ast.specs.declared.declaration.Decl.{Decl}
-use Rattle.sn_ast.specs.declared.declaration.Decl.TheVariants.{TypeDecl, SigDecl}
 use Rattle.sn_ast.specs.declared.label.Ident.{Ident}
 use Rattle.sn_ast.specs.declared.label.Sig.{Sig}
 use Rattle.sn_ast.specs.declared.label.TypePart.{TypePart}
@@ -20,7 +19,7 @@ use Rattle.sn_box_parser.specs.declared.machine.BoxDeclParser.{BoxDeclParser}
 use Rattle.sn_net_parser.specs.Residual.{Completes as NetCompletes, Ends as NetEnds, Read as NetRead, read as read_net, semicolon}
 use Rattle.sn_net_parser.specs.declared.machine.NetParser.{NetParser}
 use Rattle.sn_parser.proofs.Steps.{ending_from, ending_to, no_paren}
-use Rattle.sn_parser.specs.Residual.{AfterName, AfterNetSig, AfterNetwork, AfterType, AfterTypeSig, Connecting, Ending, InBox, InNetSig, InNetwork, InType, InTypeSig, Named, NextSig, NextType, StepsFrom, Through, after_name, box_named, connecting, ending, next_sig, next_type, through}
+use Rattle.sn_parser.specs.Residual.{AfterName, AfterNetSig, AfterNetwork, AfterType, AfterTypeSig, Connecting, InBox, InNetSig, InNetwork, InType, InTypeSig, Named, NextSig, NextType, StepsFrom, Through, after_name, box_named, connecting, ending, next_sig, next_type, through}
 use Rattle.sn_parser.specs.Scopes.{Decls, after_declaration}
 use Rattle.sn_parser.specs.declared.machine.Around.{Around}
 use Rattle.sn_parser.specs.declared.machine.OpenNet.{OpenNet}

@@ -1,5 +1,5 @@
 -- The tokens have one answer: their program, or one refusal.
-use Rattle.std.proofs.Common.{ℕ, List, [], ◌∷◌, ◌++◌, ◌≡◌, ◌↔◌, ◌⊎◌, Some, None, Result, Ok, Err, refl, sym, ◌∙◌, ap, subst, append_assoc, append-nil, inl, inr, map, length}
+use Rattle.std.proofs.Common.{ℕ, List, [], ◌∷◌, ◌++◌, ◌≡◌, ◌⊎◌, Some, None, Result, Ok, Err, refl, sym, ◌∙◌, ap, subst, append_assoc, append-nil, inl, inr, map, length}
 use Rattle.std.specs.Prelude.{MatchResult}
 use Rattle.sn_ast.proofs.Keeping.{is_kept, kept_part, not_within}
 use Rattle.sn_ast.specs.Kept.{Kept, keep, keep_all}
@@ -12,12 +12,12 @@ use Rattle.sn_ast.specs.declared.terminal.Terminal.{Terminal}
 use Rattle.sn_lexer.specs.Placed.{ArePlaced}
 use Rattle.sn_lexer.specs.declared.token.Token.{Token}
 use Rattle.sn_parser.proofs.Reaching.{as_kept, as_measured}
-use Rattle.sn_parser.specs.Answer.{AreWithin, EndsEarly, Faults, IsFault, IsProgram, IsTooDeep, IsUnexpected, IsViable, Spell, Spells, StopsAt, program_of}
+use Rattle.sn_parser.specs.Answer.{AreWithin, Faults, IsFault, IsProgram, IsTooDeep, IsUnexpected, IsViable, Spell, Spells, StopsAt, program_of}
 use Rattle.sn_parser.specs.Scopes.{Decls}
 use Rattle.sn_parser.specs.Whole.{AreExactly, AreWhole, FirstLost, IsAnswer, IsWhole, Reads, WholeOf, all_whole, whole_of}
 use Rattle.sn_parser.specs.declared.parsing.ParseFault.{ParseFault}
 use Rattle.sn_parser.specs.declared.parsing.ParseFault.TheVariants.{Unexpected, TooDeep, Memory}
-use Rattle.sn_terminal.proofs.Saying.{placed_say, say_once}
+use Rattle.sn_terminal.proofs.Saying.{placed_say}
 use Rattle.sn_terminal.specs.Words.{Say}
 
 abbrev Measures : Type 0

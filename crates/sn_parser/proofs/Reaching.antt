@@ -1,21 +1,20 @@
 -- From one token to all: what the parser reached after each, and what it finds at a refusal or at the end.
-use Rattle.std.proofs.Common.{ℕ, ◌+◌, ◌<◌, ◌≤◌, suc, List, [], ◌∷◌, ◌++◌, ◌≡◌, ◌↔◌, Option, Some, None, Result, Ok, Err, refl, sym, ◌∙◌, ap, subst, append_assoc, inl, inr, take, drop, get_or, length}
+use Rattle.std.proofs.Common.{ℕ, ◌+◌, ◌<◌, ◌≤◌, suc, List, [], ◌∷◌, ◌++◌, ◌≡◌, ◌↔◌, Some, None, Result, Ok, Err, refl, sym, ◌∙◌, ap, subst, append_assoc, inl, inr, take, drop, get_or, length}
 use Rattle.std.proofs.lemmas.List.{append-nil, take_all, take_more}
 use Rattle.std.proofs.lemmas.Option.{slice_get-get_or}
 use Rattle.std.proofs.Math.Seq.{split_at}
 use Rattle.sn_ast.proofs.Keeping.{keeping}
 use Rattle.sn_ast.proofs.TransferDeclarations.{from_declarations, to_declarations}
 use Rattle.sn_ast.specs.Declarations.{Declarations}
-use Rattle.sn_ast.specs.Kept.{Kept, keep_all, kept}
+use Rattle.sn_ast.specs.Kept.{keep_all, kept}
 use Rattle.sn_ast.specs.Measures.{measured}
-use Rattle.sn_ast.specs.Terminals.{place_of}
 use Rattle.sn_ast.specs.declared.declaration.Decl.{Decl}
 use Rattle.sn_ast.specs.declared.measure.Measured.{Measured}
 use Rattle.sn_ast.specs.declared.terminal.Terminal.{Terminal}
 use Rattle.sn_lexer.specs.Placed.{ArePlaced, IsPlaced, spelling}
 use Rattle.sn_lexer.specs.declared.token.Token.{Token}
 use Rattle.sn_parser.proofs.Viable.{completable}
-use Rattle.sn_parser.specs.Answer.{EndsEarly, IsUnexpected, IsViable, Spells, StopsAt}
+use Rattle.sn_parser.specs.Answer.{EndsEarly, IsViable, Spells, StopsAt}
 use Rattle.sn_parser.specs.Residual.{Completes, Ends, Steps}
 use Rattle.sn_parser.specs.Scopes.{Decls}
 use Rattle.sn_parser.specs.Whole.{AreExactly, Goes, Reaches, Reads}

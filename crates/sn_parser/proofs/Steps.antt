@@ -1,6 +1,6 @@
 -- One token at a time: what completes the state before it begins with it, and goes on as what completes the state after it.
-use Rattle.std.proofs.Common.{ℕ, List, [], ◌∷◌, ◌≡◌, Option, Some, None, refl, subst}
-use Rattle.sn_ast.specs.Declarations.{Declarations, Declaration, Inner, MoreInner, Signature, no_more, declaration, box, net, type_name, sig_name, no_inner, inner, last_inner, more_inner, no_signature, signature}
+use Rattle.std.proofs.Common.{ℕ, List, [], ◌∷◌, ◌≡◌, Option, None, refl, subst}
+use Rattle.sn_ast.specs.Declarations.{Declarations, Declaration, no_more, declaration, box, net, type_name, sig_name, no_inner, inner, last_inner, more_inner, no_signature, signature}
 use Rattle.sn_ast.specs.Kept.{Kept, kept}
 use Rattle.sn_ast.specs.Rows.{no_parts}
 use Rattle.sn_ast.specs.declared.declaration.Decl.{Decl}

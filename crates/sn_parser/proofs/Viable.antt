@@ -10,7 +10,6 @@ use Rattle.sn_ast.specs.declared.declaration.Decl.TheVariants.{TypeDecl, SigDecl
 use Rattle.sn_ast.specs.declared.label.Ident.{Ident}
 use Rattle.sn_ast.specs.declared.label.Sig.{Sig}
 use Rattle.sn_ast.specs.declared.label.Sig.TheVariants.{Named as NamedSig}
-use Rattle.sn_ast.specs.declared.label.TypePart.{TypePart}
 use Rattle.sn_ast.specs.declared.label.TypePart.TheVariants.{Named as NamedPart}
 use Rattle.sn_ast.specs.declared.network.NetExpr.{NetExpr}
 use Rattle.sn_ast.specs.declared.network.NetForm.TheVariants as net_form
@@ -23,7 +22,7 @@ use Rattle.sn_box_parser.specs.declared.machine.BoxDeclParser.{BoxDeclParser}
 use Rattle.sn_box_parser.specs.declared.machine.Mode.TheVariants as box_mode
 use Rattle.sn_net_parser.proofs.NetLaws.{completable as net_completable}
 use Rattle.sn_parser.specs.Residual.{After, AfterName, AfterSig, Completes, CompletesIn, Connecting, Named, Next, NextSig, NextType, after_name, after_sig, box_named, connecting, ending, inside, net_named, next_sig, next_type, outermost, sig_named, through, type_named}
-use Rattle.sn_parser.specs.Scopes.{Decls, done_with, nets_with, with_inner}
+use Rattle.sn_parser.specs.Scopes.{Decls, done_with, with_inner}
 use Rattle.sn_parser.specs.declared.machine.Around.{Around}
 use Rattle.sn_parser.specs.declared.machine.Mode.{Mode}
 use Rattle.sn_parser.specs.declared.machine.Mode.TheVariants as mode

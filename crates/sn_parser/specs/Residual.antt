@@ -15,9 +15,9 @@ use Rattle.sn_ast.specs.declared.terminal.Symbol.{Symbol as SomeSymbol}
 use Rattle.sn_ast.specs.declared.terminal.Symbol.TheVariants.{CloseParen, Semicolon, Assign}
 use Rattle.sn_ast.specs.declared.terminal.Terminal.{Terminal}
 use Rattle.sn_ast.specs.declared.terminal.Terminal.TheVariants.{Name, Keyword, Symbol}
-use Rattle.sn_box_parser.specs.BoxDeclResidual.{Completes as BoxCompletes, Read as BoxRead}
+use Rattle.sn_box_parser.specs.BoxDeclResidual.{Completes as BoxCompletes}
 use Rattle.sn_box_parser.specs.declared.machine.BoxDeclParser.{BoxDeclParser}
-use Rattle.sn_net_parser.specs.Residual.{Completes as NetCompletes, Read as NetRead}
+use Rattle.sn_net_parser.specs.Residual.{Completes as NetCompletes}
 use Rattle.sn_net_parser.specs.declared.machine.NetParser.{NetParser}
 use Rattle.sn_parser.specs.Scopes.{Decls, done_with, nets_with}
 use Rattle.sn_parser.specs.declared.machine.Around.{Around}
@@ -29,7 +29,6 @@ use Rattle.sn_parser.specs.declared.machine.Stop.{Stop}
 use Rattle.sn_parser.specs.declared.machine.Stop.TheVariants.{Memory, Refused}
 use Rattle.sn_parser.specs.declared.machine.Word.{Word}
 use Rattle.sn_parser.specs.declared.machine.Word.TheVariants as word
-use Rattle.sn_type_parser.specs.Reads.{Read}
 use Rattle.sn_type_parser.specs.SigResidual.{Completes as SigCompletes}
 use Rattle.sn_type_parser.specs.TypeResidual.{Completes as TypeCompletes}
 use Rattle.sn_type_parser.specs.declared.signatures.SigParser.{SigParser}

@@ -1,5 +1,5 @@
 -- What the parser finds of all the tokens, in the terms of what it keeps.
-use Rattle.std.specs.Prelude.{◌≡◌, ◌↔◌, ℕ, List, [], ◌∷◌, ◌++◌, Option, Some, None, Result, Ok, Err}
+use Rattle.std.specs.Prelude.{◌≡◌, ◌↔◌, ℕ, List, [], ◌∷◌, ◌++◌, Some, None, Result, Ok, Err}
 use Rattle.sn_ast.specs.Declarations.{Declarations}
 use Rattle.sn_ast.specs.Kept.{Kept, kept}
 use Rattle.sn_ast.specs.Terminals.{place_of}

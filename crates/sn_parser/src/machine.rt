@@ -8,9 +8,7 @@ ghost use Rattle.sn_parser.specs.Residual.{Completes, Ends, EndsIn, Named, Steps
 ghost use Rattle.sn_parser.specs.Scopes.{Decls, after_declaration, wanting, with_inner};
 ghost use Rattle.sn_parser.specs.declared.machine.Mode.TheVariants as some_mode;
 
-use crate::box_decl;
-use crate::net_decl;
-use crate::type_decl;
+use crate::{box_decl, net_decl, type_decl};
 use sn_ast::{Decl, Ident, Kept, Keyword, Seq, Sig, Symbol, Terminal, measure};
 use sn_box_parser::BoxDeclParser;
 use sn_list::Memory;

@@ -14,12 +14,7 @@ use sn_type_parser::{SigParser, SigStop};
 use std::alloc::Global;
 
 /// Takes the token after the name of a net.
-pub fn net_name(
-    alloc: Global,
-    around: Around,
-    name: Ident,
-    token: Terminal,
-) -> Result<Parser, Stop>
+pub fn net_name(alloc: Global, around: Around, name: Ident, token: Terminal) -> Result<Parser, Stop>
     ensures { StepsIn around (some_mode.NetName name) token result }
 {
     if let Some(_) = token.symbol_at(Symbol::OpenParen) {
@@ -107,12 +102,7 @@ fn inner(around: Around, net: OpenNet) -> Result<Parser, Memory>
 }
 
 /// Takes the `connect` of a net.
-pub fn connect(
-    alloc: Global,
-    around: Around,
-    net: OpenNet,
-    token: Terminal,
-) -> Result<Parser, Stop>
+pub fn connect(alloc: Global, around: Around, net: OpenNet, token: Terminal) -> Result<Parser, Stop>
     ensures { StepsIn around (some_mode.Connect net) token result }
 {
     let Some(_) = token.keyword_at(Keyword::Connect) else {

@@ -22,13 +22,31 @@ fn programs_are_accepted(rt: HostRuntime) -> Result<(), Fail> {
     for (source, count) in [
         ("", 0),
         ("// none", 0),
-        ("type t = {a,<b>} | u; typesig s = {} -> t; typesig r = s;", 3),
+        (
+            "type t = {a,<b>} | u; typesig s = {} -> t; typesig r = s;",
+            3,
+        ),
         ("net n (s) { type t = {}; net m connect f; } connect m;", 1),
-        ("net n connect [] .. [{a} -> {b=a,<t>=<t>+1};{}] .. f .. [|{a},{<b>}|];", 1),
-        ("net n connect (a || b || (c | d)) ** {x} if (<x> > 0) * {} !! <t> ! <u>;", 1),
-        ("net n connect [{<t>} -> {<t>=!<t> || -1 * (2 - <t>) == 3 && 1 ? 2 : <t> ? 4 : 5}];", 1),
-        ("box f ((a,<b>) -> (c) | ()) { fun g(x,y) = x; fun h() = [1,\"t\"]; out 1(a); g(-1,[]) }", 1),
-        ("box f (() -> ()) { let x = (1; 2) in if !x then <t> else x % 2 < 3 && 1 || 0 }", 1),
+        (
+            "net n connect [] .. [{a} -> {b=a,<t>=<t>+1};{}] .. f .. [|{a},{<b>}|];",
+            1,
+        ),
+        (
+            "net n connect (a || b || (c | d)) ** {x} if (<x> > 0) * {} !! <t> ! <u>;",
+            1,
+        ),
+        (
+            "net n connect [{<t>} -> {<t>=!<t> || -1 * (2 - <t>) == 3 && 1 ? 2 : <t> ? 4 : 5}];",
+            1,
+        ),
+        (
+            "box f ((a,<b>) -> (c) | ()) { fun g(x,y) = x; fun h() = [1,\"t\"]; out 1(a); g(-1,[]) }",
+            1,
+        ),
+        (
+            "box f (() -> ()) { let x = (1; 2) in if !x then <t> else x % 2 < 3 && 1 || 0 }",
+            1,
+        ),
     ] {
         assert!(rt; matches!(count_of(rt.alloc(), source), Ok(found) if found == count));
     }
@@ -52,7 +70,9 @@ fn other_sources_are_refused(rt: HostRuntime) -> Result<(), Fail> {
         ("box f ((a) -> (b)) { 1 < 2 < 3 }", 27),
         ("net n connect f; }", 17),
     ] {
-        assert!(rt; matches!(count_of(rt.alloc(), source), Err(ParseFault::Unexpected(at)) if at == place));
+        assert!(rt;
+            matches!(count_of(rt.alloc(), source), Err(ParseFault::Unexpected(at)) if at == place)
+        );
     }
     Ok(())
 }
@@ -82,7 +102,15 @@ fn nested(
 
 /// Networks in so many parentheses.
 fn in_parentheses(alloc: Global, depth: usize, end: &str) -> Result<String, Fail> {
-    nested(alloc, "net main ({a} -> {a}) connect ", "(", "[]", ")", end, depth)
+    nested(
+        alloc,
+        "net main ({a} -> {a}) connect ",
+        "(",
+        "[]",
+        ")",
+        end,
+        depth,
+    )
 }
 
 /// A filter with so many signs.
@@ -98,7 +126,12 @@ fn limits_are_exact(rt: HostRuntime) -> Result<(), Fail> {
     let source = in_parentheses(rt.alloc(), 129, ";")?;
     assert!(rt; matches!(count_of(rt.alloc(), &source), Err(ParseFault::TooDeep(4))));
     let source = in_parentheses(rt.alloc(), 129, "")?;
-    assert!(rt; matches!(count_of(rt.alloc(), &source), Err(ParseFault::Unexpected(290))));
+    assert!(rt;
+        matches!(
+            count_of(rt.alloc(), &source),
+            Err(ParseFault::Unexpected(290))
+        )
+    );
     let source = signs(rt.alloc(), 63)?;
     assert!(rt; matches!(count_of(rt.alloc(), &source), Ok(1)));
     let source = signs(rt.alloc(), 64)?;

@@ -45,7 +45,9 @@ pub fn in_type(
         }),
         Err(TypeStop::Memory) => Err(Stop::Memory),
         Err(TypeStop::Refused) => Err(Stop::Refused),
-        Err(TypeStop::Ended { parts, symbol, .. }) => type_ended(alloc, around, name, parts, symbol),
+        Err(TypeStop::Ended { parts, symbol, .. }) => type_ended(
+            alloc, around, name, parts, symbol,
+        ),
     }
 }
 

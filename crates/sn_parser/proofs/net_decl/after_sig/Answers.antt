@@ -1,5 +1,3 @@
-use Rattle.sn_ast.specs.Kept.{kept}
-use Rattle.sn_ast.specs.Rows.{no_parts}
 use Rattle.sn_parser.specs.Residual.{AfterSig, Connecting}
 use Rattle.sn_parser.proofs.Embedded.{steps_through}
 use Rattle.sn_parser.proofs.Steps.{inner_from, inner_to, no_inner_from, no_inner_to}
