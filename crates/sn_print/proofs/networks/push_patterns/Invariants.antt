@@ -1,0 +1,8 @@
+use Rattle.std.proofs.Common.{◌≡◌, ◌++◌, map, take}
+use Rattle.std.specs.Prelude.{codes}
+use Rattle.sn_print.specs.Labels.{variant_text}
+use Rattle.sn_print.specs.Words.{joined}
+use Rattle.sn_print.proofs.networks.push_patterns.Given as goal
+
+abbrev pub invariant-loop-i : goal.invariant-loop-i
+invariant-loop-i l = l.text ≡ l.initial.text ++ joined (codes ",") (map variant_text (take l.i l.patterns))

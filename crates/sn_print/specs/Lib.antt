@@ -1,0 +1,5 @@
+pub mod Declarations
+pub mod Expressions
+pub mod Labels
+pub mod Networks
+pub mod Words

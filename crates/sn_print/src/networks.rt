@@ -1,0 +1,172 @@
+//! The texts of networks.
+ghost use Rattle.std.specs.Prelude.{◌≡◌, ◌++◌, map, codes, OnOk};
+ghost use Rattle.sn_print.specs.Expressions.{is_alone, operand};
+ghost use Rattle.sn_print.specs.Labels.{variant_text};
+ghost use Rattle.sn_print.specs.Networks.{guard_text, item_text, net_shown, net_text, source_text, template_text};
+ghost use Rattle.sn_print.specs.Words.{chosen, joined};
+
+use crate::labels::{push_label, push_variant};
+use crate::tags::push_tag_expr;
+use crate::words::{push_separator, push_tag};
+use sn_ast::{ItemAt, ItemSource, NetExpr, NetForm, TExpr, TemplateAt, Text, Variant};
+use sn_list::Memory;
+
+fn push_source(text: &mut Text, source: &ItemSource) -> Result<(), Memory>
+    ensures { OnOk result (text.new ≡ text.old ++ source_text source.now) }
+{
+    match source {
+        ItemSource::Same => Ok(()),
+        ItemSource::Field(name) => {
+            text.extend_from_slice(b"=")?;
+            text.extend_from_slice(name.text.as_slice())
+        }
+        ItemSource::Expr(e) => {
+            text.extend_from_slice(b"=")?;
+            push_tag_expr(text, e)
+        }
+    }
+}
+
+fn push_item(text: &mut Text, item: &ItemAt) -> Result<(), Memory>
+    ensures { OnOk result (text.new ≡ text.old ++ item_text item.now) }
+{
+    push_label(text, &item.target)?;
+    push_source(text, &item.source)
+}
+
+fn push_items(text: &mut Text, items: &[ItemAt]) -> Result<(), Memory>
+    ensures { OnOk result (text.new ≡ text.old ++ joined (codes ",") (map item_text items.now)) }
+{
+    for (i, item) in items.iter().enumerate() {
+        push_separator(text, b",", i)?;
+        push_item(text, item)?;
+    }
+    Ok(())
+}
+
+fn push_template(text: &mut Text, template: &TemplateAt) -> Result<(), Memory>
+    ensures { OnOk result (text.new ≡ text.old ++ template_text template.now) }
+{
+    text.extend_from_slice(b"{")?;
+    push_items(text, template.items.as_slice())?;
+    text.extend_from_slice(b"}")
+}
+
+fn push_templates(text: &mut Text, templates: &[TemplateAt]) -> Result<(), Memory>
+    ensures { OnOk result (text.new ≡ text.old ++ joined (codes ";") (map template_text templates.now)) }
+{
+    for (i, template) in templates.iter().enumerate() {
+        push_separator(text, b";", i)?;
+        push_template(text, template)?;
+    }
+    Ok(())
+}
+
+fn push_patterns(text: &mut Text, patterns: &[Variant]) -> Result<(), Memory>
+    ensures { OnOk result (text.new ≡ text.old ++ joined (codes ",") (map variant_text patterns.now)) }
+{
+    for (i, pattern) in patterns.iter().enumerate() {
+        push_separator(text, b",", i)?;
+        push_variant(text, pattern)?;
+    }
+    Ok(())
+}
+
+fn push_guard(text: &mut Text, guard: &Option<TExpr>) -> Result<(), Memory>
+    ensures { OnOk result (text.new ≡ text.old ++ guard_text guard.now) }
+{
+    match guard {
+        None => Ok(()),
+        Some(e) => {
+            text.extend_from_slice(b" if (")?;
+            push_tag_expr(text, e)?;
+            text.extend_from_slice(b")")
+        }
+    }
+}
+
+/// The text of an operator, which is doubled where it is deterministic.
+fn operator<'a>(det: bool, doubled: &'a [u8], single: &'a [u8]) -> &'a [u8]
+    ensures { result.now ≡ chosen det doubled.now single.now }
+{
+    if det { doubled } else { single }
+}
+
+/// Whether the network needs no parentheses as a part of another.
+fn stands_alone(n: &NetExpr) -> bool
+    ensures { result ≡ is_alone (net_shown n.now).rank }
+{
+    match &n.form {
+        NetForm::Name(_) => true,
+        NetForm::Identity => true,
+        NetForm::Filter { .. } => true,
+        NetForm::Sync { .. } => true,
+        _ => false,
+    }
+}
+
+/// As deep in calls as the network is high.
+#[cycle(net_text)]
+pub fn push_network(text: &mut Text, n: &NetExpr) -> Result<(), Memory>
+    ensures { OnOk result (text.new ≡ text.old ++ net_text n.now) }
+{
+    match &n.form {
+        NetForm::Name(name) => text.extend_from_slice(name.text.as_slice()),
+        NetForm::Identity => text.extend_from_slice(b"[]"),
+        NetForm::Filter { pattern, templates } => {
+            text.extend_from_slice(b"[")?;
+            push_variant(text, pattern)?;
+            text.extend_from_slice(b" -> ")?;
+            push_templates(text, templates.as_slice())?;
+            text.extend_from_slice(b"]")
+        }
+        NetForm::Sync { patterns } => {
+            text.extend_from_slice(b"[|")?;
+            push_patterns(text, patterns.as_slice())?;
+            text.extend_from_slice(b"|]")
+        }
+        NetForm::Serial { parts } => push_operands(text, b" .. ", parts.as_slice()),
+        NetForm::Choice { det, branches } => {
+            push_operands(text, operator(*det, b" || ", b" | "), branches.as_slice())
+        }
+        NetForm::Star {
+            det,
+            body,
+            exit,
+            guard,
+        } => {
+            push_operand(text, body.get())?;
+            text.extend_from_slice(operator(*det, b" ** ", b" * "))?;
+            push_variant(text, exit)?;
+            push_guard(text, guard)
+        }
+        NetForm::Split { det, body, tag } => {
+            push_operand(text, body.get())?;
+            text.extend_from_slice(operator(*det, b" !! ", b" ! "))?;
+            push_tag(text, tag.text.as_slice())
+        }
+    }
+}
+
+#[cycle(net_text)]
+fn push_operand(text: &mut Text, n: &NetExpr) -> Result<(), Memory>
+    ensures { OnOk result (text.new ≡ text.old ++ operand (net_shown n.now)) }
+{
+    if stands_alone(n) {
+        return push_network(text, n);
+    }
+    text.extend_from_slice(b"(")?;
+    push_network(text, n)?;
+    text.extend_from_slice(b")")
+}
+
+#[cycle(net_text)]
+fn push_operands(text: &mut Text, separator: &[u8], parts: &[NetExpr]) -> Result<(), Memory>
+    ensures { OnOk result (text.new ≡ text.old ++ joined separator.now (map operand (map net_shown parts.now))) }
+{
+    for (i, part) in parts.iter().enumerate() {
+        push_separator(text, separator, i)?;
+        push_operand(text, part)?;
+    }
+    Ok(())
+}
