@@ -30,8 +30,8 @@ pub fn push_number(text: &mut Text, n: i64) -> Result<(), Memory>
 pub fn push_variant_number(text: &mut Text, n: u64) -> Result<(), Memory>
     ensures { OnOk result (text.new ≡ text.old ++ decimal n) }
 {
-    let mut buffer = Buffer::new();
-    text.extend_from_slice(buffer.format(n).as_bytes())
+    let mut digits = Buffer::new();
+    text.extend_from_slice(digits.format(n).as_bytes())
 }
 
 fn push_escaped(text: &mut Text, byte: u8) -> Result<(), Memory>

@@ -7,7 +7,8 @@ use Rattle.std.proofs.lemmas.Bool.Decides.{nat_tests}
 use Rattle.std.proofs.lemmas.Option.{cond_some}
 use Rattle.std.proofs.lemmas.Slice.Eq.{bytes_eq-Decides}
 use Rattle.std.proofs.lemmas.List.{append-nil, map-append, take_all, length-map, length-drop}
-use Rattle.sn_top.specs.Words.{is_word, is_option, positional_words, IsCut, once_of}
+use Rattle.sn_top.specs.Words.{asked_of, is_word, is_option, positional_words, IsCut, once_of, print_of}
+use Rattle.sn_top.specs.declared.words.Command.{Command}
 
 abbrev pub is_dashes : List ℕ → Bool
 is_dashes word = is_word (codes "--") word
@@ -104,15 +105,25 @@ once_of_two (a ∷ []) h = refl
 once_of_two (a ∷ (b ∷ [])) h = absurd (h refl)
 once_of_two (a ∷ (b ∷ (c ∷ words))) h = refl
 
+-- a source is one word
+print_of_one : (words : List (List ℕ)) → length words ≢ 1 → print_of words ≡ None
+print_of_one [] h = refl
+print_of_one (a ∷ []) h = absurd (h refl)
+print_of_one (a ∷ (b ∷ words)) h = refl
+
 module _ {X : Type 0} (bytes : X → List ℕ) (ws front back : List X) (c : IsCut (map bytes ws) (map bytes front) (map bytes back)) where
   -- an option
-  pub two_refused : true ≡ list_any (λ w. is_option (bytes w)) front → option_and_then once_of (positional_words (map bytes ws)) ≡ None
-  two_refused e = ap (option_and_then once_of) (positional_cut _ _ _ c ∙ ap (λ b. cond b None (Some (map bytes front ++ map bytes back))) (any_mapped bytes is_option front ∙ sym e))
+  pub refused : (made : List (List ℕ) → Option Command) → true ≡ list_any (λ w. is_option (bytes w)) front → asked_of made (map bytes ws) ≡ None
+  refused made e = ap (option_and_then made) (positional_cut _ _ _ c ∙ ap (λ b. cond b None (Some (map bytes front ++ map bytes back))) (any_mapped bytes is_option front ∙ sym e))
 
   named : false ≡ list_any (λ w. is_option (bytes w)) front → positional_words (map bytes ws) ≡ Some (map bytes (front ++ back))
   named e = positional_cut _ _ _ c ∙ ap (λ b. cond b None (Some (map bytes front ++ map bytes back))) (any_mapped bytes is_option front ∙ sym e) ∙ ap Some (sym (map-append bytes front back))
 
   -- no option
-  pub two_named : false ≡ list_any (λ w. is_option (bytes w)) front → (r : Option (Bor X × Bor X)) → MatchOption r (length (front ++ back) ≢ 2) (λ p. front ++ back ≡ p.0.now ∷ p.1.now ∷ []) → MatchOption r (option_and_then once_of (positional_words (map bytes ws)) ≡ None) (λ p. positional_words (map bytes ws) ≡ Some (bytes p.0.now ∷ bytes p.1.now ∷ []))
+  pub two_named : false ≡ list_any (λ w. is_option (bytes w)) front → (r : Option (Bor X × Bor X)) → MatchOption r (length (front ++ back) ≢ 2) (λ p. front ++ back ≡ p.0.now ∷ p.1.now ∷ []) → MatchOption r (asked_of once_of (map bytes ws) ≡ None) (λ p. positional_words (map bytes ws) ≡ Some (bytes p.0.now ∷ bytes p.1.now ∷ []))
   two_named e None h = ap (option_and_then once_of) (named e) ∙ once_of_two (map bytes (front ++ back)) (λ two. h (sym (length-map (front ++ back) bytes) ∙ two))
   two_named e (Some p) h = named e ∙ ap (λ l. Some (map bytes l)) h
+
+  pub one_named : false ≡ list_any (λ w. is_option (bytes w)) front → (r : Option (Bor X)) → MatchOption r (length (front ++ back) ≢ 1) (λ w. front ++ back ≡ w.now ∷ []) → MatchOption r (asked_of print_of (map bytes ws) ≡ None) (λ w. positional_words (map bytes ws) ≡ Some (bytes w.now ∷ []))
+  one_named e None h = ap (option_and_then print_of) (named e) ∙ print_of_one (map bytes (front ++ back)) (λ one. h (sym (length-map (front ++ back) bytes) ∙ one))
+  one_named e (Some w) h = named e ∙ ap (λ l. Some (map bytes l)) h

@@ -15,3 +15,4 @@ pub mod Served
 pub mod Distinct
 pub mod CommandLaws
 pub mod Chains
+pub mod Printed

@@ -6,21 +6,21 @@ use Rattle.sn_io.proofs.Told.{appended_none}
 use Rattle.sn_top.specs.declared.words.Command.{Command}
 use Rattle.sn_top.specs.declared.status.Status.{Status}
 use Rattle.sn_top.specs.declared.status.Status.TheVariants as status
-use Rattle.sn_top.specs.declared.status.Refusal.TheVariants.{TooLarge, NotBuilt}
+use Rattle.sn_top.specs.declared.status.Refusal.TheVariants.{TooLarge, Source as SourceAt, TooDeep, NotBuilt}
 use Rattle.sn_top.specs.declared.status.Stop.{Stop}
 use Rattle.sn_top.specs.declared.status.Stop.TheVariants.{Refused, Unread, Memory, Write}
 use Rattle.sn_top.specs.Status.{stop_status, stop_line}
 use Rattle.sn_top.specs.Words.{source_of, input_of}
 use Rattle.sn_top.specs.Seen.{GotLine}
-use Rattle.sn_top.specs.Answer.{Outside, FindsFor, WhyStopped, IsAnswered, HasUnread, IsCutShort, IsUnwritten, IsAnsweredFor, OfCommand, IsCutShortFor, GotPart}
+use Rattle.sn_top.specs.Answer.{Outside, FindsFor, WhyEnded, IsAnswered, HasUnread, IsCutShort, IsUnwritten, IsAnsweredFor, OfCommand, IsCutShortFor, GotPart}
 
 module _ (command : Command) (outside : Outside) where
   -- the whole output was printed, and nothing was said on `err`
-  pub done : (p : List ℕ) → FindsFor command outside (Ok p) → outside.out.now ≡ appended outside.out.before p → outside.err.now ≡ outside.err.before → IsAnswered command outside status.Ok
+  pub done : (p : List ℕ) → FindsFor command outside.file (Ok p) → outside.out.now ≡ appended outside.out.before p → outside.err.now ≡ outside.err.before → IsAnswered command outside status.Ok
   done p finds out_got err_same = record { found = Ok p; finds = finds; status_is = refl; out_got = out_got; err_got = inl (err_same ∙ sym (appended_none outside.err.before)) }
 
   abbrev Stopped : Stop → Type 0
-  Stopped why = WhyStopped (outside.file (source_of command)) (outside.file (input_of command)) outside.out why
+  Stopped why = WhyEnded command outside.file outside.out why
 
   abbrev Told : Stop → Type 0
   Told why = GotLine outside.err (stop_line why (source_of command) (input_of command))
@@ -33,6 +33,8 @@ module _ (command : Command) (outside : Outside) where
 
   pub unread : (why : Stop) → Stopped why → Told why → stop_status why ≡ status.Read → HasUnread command outside
   unread (Refused (TooLarge which)) stopped line is = cc
+  unread (Refused (SourceAt fault at)) stopped line is = cc
+  unread (Refused (TooDeep at)) stopped line is = cc
   unread (Refused NotBuilt) stopped line is = cc
   unread (Unread which) stopped line is = record { which = which; why = stopped.0; out_same = stopped.1; err_got = line }
   unread Memory stopped line is = cc
@@ -40,6 +42,8 @@ module _ (command : Command) (outside : Outside) where
 
   pub cut_short : (why : Stop) → Stopped why → Told why → stop_status why ≡ status.Memory → IsCutShort command outside
   cut_short (Refused (TooLarge which)) stopped line is = cc
+  cut_short (Refused (SourceAt fault at)) stopped line is = cc
+  cut_short (Refused (TooDeep at)) stopped line is = cc
   cut_short (Refused NotBuilt) stopped line is = cc
   cut_short (Unread which) stopped line is = cc
   cut_short Memory stopped line is = record { out_got = stopped; err_got = line }
@@ -47,6 +51,8 @@ module _ (command : Command) (outside : Outside) where
 
   pub unwritten : (why : Stop) → Stopped why → Told why → stop_status why ≡ status.Write → IsUnwritten command outside
   unwritten (Refused (TooLarge which)) stopped line is = cc
+  unwritten (Refused (SourceAt fault at)) stopped line is = cc
+  unwritten (Refused (TooDeep at)) stopped line is = cc
   unwritten (Refused NotBuilt) stopped line is = cc
   unwritten (Unread which) stopped line is = cc
   unwritten Memory stopped line is = cc
@@ -64,7 +70,7 @@ module _ (command : Option Command) (found : Command) (is : command ≡ Some fou
   cut_short_for cut = record { out_got = part cut.out_got; err_got = cut.err_got }
     where
       Part : Command → Outside → Type 0
-      Part c o = GotPart (o.file (source_of c)).told (o.file (input_of c)).told o.out
+      Part c o = GotPart (FindsFor c o.file) o.out
 
       part : Part found outside → (outside.out.now ≡ outside.out.before) ⊎ OfCommand Part command outside
       part h = inr (of_command Part h)

@@ -14,7 +14,7 @@ use Rattle.sn_top.specs.declared.load.Answered.{Answered}
 use Rattle.sn_top.specs.declared.print.PrintFault.{PrintFault}
 use Rattle.sn_top.specs.declared.print.PrintFault.TheVariants as print_fault
 use Rattle.sn_top.specs.declared.status.Which.TheVariants.{Source, Input}
-use Rattle.sn_top.specs.declared.status.Refusal.TheVariants.{TooLarge, NotBuilt}
+use Rattle.sn_top.specs.declared.status.Refusal.TheVariants.{TooLarge, Source as SourceAt, TooDeep, NotBuilt}
 use Rattle.sn_top.specs.declared.status.Stop.{Stop}
 use Rattle.sn_top.specs.declared.status.Stop.TheVariants.{Refused, Unread, Memory, Write}
 use Rattle.sn_top.specs.declared.serve.TheConstants.{SOURCE_LIMIT, INPUT_LIMIT}
@@ -43,6 +43,8 @@ module _ (source input : File) (out : Sink) (same : out.now ≡ out.before) wher
   pub source_unread : (why : Stop) → WhyUnread Source SOURCE_LIMIT source why → WhyStopped source input out why
   source_unread (Refused (TooLarge Source)) why = (why.1, same)
   source_unread (Refused (TooLarge Input)) why = cc
+  source_unread (Refused (SourceAt fault at)) why = absurd why
+  source_unread (Refused (TooDeep at)) why = absurd why
   source_unread (Refused NotBuilt) why = absurd why
   source_unread (Unread Source) why = (why.1, same)
   source_unread (Unread Input) why = cc
@@ -67,6 +69,8 @@ module _ (source input : File) (out : Sink) (same : out.now ≡ out.before) wher
           (is.source, accepted bytes program is read.within, subst (λ t. IfSome t (λ more. INPUT_LIMIT < length more)) told why.1),
       same,
     )
+    input_unread between told later now (Refused (SourceAt fault at)) why = absurd why
+    input_unread between told later now (Refused (TooDeep at)) why = absurd why
     input_unread between told later now (Refused NotBuilt) why = absurd why
     input_unread between told later now (Unread Source) why = cc
     input_unread between told later now (Unread Input) why =
@@ -83,6 +87,8 @@ module _ (source input : File) (out : Sink) (same : out.now ≡ out.before) wher
 
     pub no_answer : (more : List ℕ) → HasBytes input INPUT_LIMIT more → (why : Stop) → WhyNoAnswer program more why → WhyStopped source input out why
     no_answer more has (Refused (TooLarge which)) why = absurd why
+    no_answer more has (Refused (SourceAt fault at)) why = absurd why
+    no_answer more has (Refused (TooDeep at)) why = absurd why
     no_answer more has (Refused NotBuilt) why = (
       of_told source.told bytes (λ t. (length t ≤ SOURCE_LIMIT) × ((s : WrittenSource) → IsSmallSource t s → IfSome input.told (HasNoRoute s))) read.told
           (read.within, λ s small. of_told input.told more (HasNoRoute s) has.told (record { within = has.within; none = λ lines routed. why lines (routed_here more s small lines routed) })),

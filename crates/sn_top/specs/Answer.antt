@@ -2,6 +2,7 @@
 use Rattle.std.specs.Prelude.{◌≡◌, ◌⊎◌, ◌≤◌, ◌<◌, ℕ, List, [], length, codes, Option, None, Some, Result, Ok, Err, IfSome}
 use Rattle.sn_io.specs.Told.{appended, AppendsPrefix}
 use Rattle.sn_top.specs.declared.words.Command.{Command}
+use Rattle.sn_top.specs.declared.words.Command.TheVariants.{Once, Print}
 use Rattle.sn_top.specs.declared.written.WrittenSource.{WrittenSource}
 use Rattle.sn_top.specs.declared.written.WrittenLine.{WrittenLine}
 use Rattle.sn_top.specs.declared.status.Status.{Status}
@@ -9,12 +10,13 @@ use Rattle.sn_top.specs.declared.status.Status.TheVariants as status
 use Rattle.sn_top.specs.declared.status.Which.{Which}
 use Rattle.sn_top.specs.declared.status.Which.TheVariants.{Source, Input}
 use Rattle.sn_top.specs.declared.status.Refusal.{Refusal}
-use Rattle.sn_top.specs.declared.status.Refusal.TheVariants.{TooLarge, NotBuilt}
+use Rattle.sn_top.specs.declared.status.Refusal.TheVariants.{TooLarge, Source as SourceAt, TooDeep, NotBuilt}
 use Rattle.sn_top.specs.declared.status.Stop.{Stop}
 use Rattle.sn_top.specs.declared.status.Stop.TheVariants as stop
 use Rattle.sn_top.specs.declared.print.PrintFault.{PrintFault}
 use Rattle.sn_top.specs.declared.print.PrintFault.TheVariants as print_fault
 use Rattle.sn_top.specs.declared.serve.TheConstants.{SOURCE_LIMIT, INPUT_LIMIT}
+use Rattle.sn_top.specs.Source.{FindsSource}
 use Rattle.sn_top.specs.Status.{refusal_status, stop_line}
 use Rattle.sn_top.specs.Words.{usage_text, source_of, input_of}
 use Rattle.sn_top.specs.Seen.{Sink, File, seen_sink, seen_file, SinkFailed, FileFailed, GotLine}
@@ -41,9 +43,20 @@ pub record HasNoRoute (s : WrittenSource) (bytes : List ℕ) : Type 0 where
 -- the source's file, the source, the input's file, the input, the run
 abbrev pub Finds : Option (List ℕ) → Option (List ℕ) → Result (List ℕ) Refusal → Type 0
 Finds source input (Err (TooLarge Source)) = IfSome source (λ bytes. SOURCE_LIMIT < length bytes)
+Finds source input (Err (SourceAt fault at)) = ⊥
+Finds source input (Err (TooDeep at)) = ⊥
 Finds source input (Err NotBuilt) = IfSome source (λ bytes. (length bytes ≤ SOURCE_LIMIT) × ((s : WrittenSource) → IsSmallSource bytes s → IfSome input (HasNoRoute s)))
 Finds source input (Err (TooLarge Input)) = IfSome source (λ bytes. (s : WrittenSource) × IsAccepted bytes s × IfSome input (λ more. INPUT_LIMIT < length more))
 Finds source input (Ok p) = IfSome source (λ bytes. (s : WrittenSource) × IsAccepted bytes s × IfSome input (λ more. Prints s more p))
+
+-- the same of a source alone, which is within the limit where more than its size is found
+abbrev pub FindsText : Option (List ℕ) → Result (List ℕ) Refusal → Type 0
+FindsText source (Err (TooLarge Source)) = IfSome source (λ bytes. SOURCE_LIMIT < length bytes)
+FindsText source (Err (TooLarge Input)) = ⊥
+FindsText source (Err (SourceAt fault at)) = IfSome source (λ bytes. (length bytes ≤ SOURCE_LIMIT) × FindsSource bytes (Err (SourceAt fault at)))
+FindsText source (Err (TooDeep at)) = IfSome source (λ bytes. (length bytes ≤ SOURCE_LIMIT) × FindsSource bytes (Err (TooDeep at)))
+FindsText source (Err NotBuilt) = ⊥
+FindsText source (Ok text) = IfSome source (λ bytes. (length bytes ≤ SOURCE_LIMIT) × FindsSource bytes (Ok text))
 
 -- the bytes on `out`, the status and the line on `err` for what was found
 abbrev pub found_bytes : Result (List ℕ) Refusal → List ℕ
@@ -72,13 +85,14 @@ seen bytes_of file_faults out_held out_faults err_held err_faults files new_file
 }
 
 -- what is found of a command's files
-abbrev pub FindsFor : Command → Outside → Result (List ℕ) Refusal → Type 0
-FindsFor command outside found = Finds (outside.file (source_of command)).told (outside.file (input_of command)).told found
+abbrev pub FindsFor : Command → (List ℕ → File) → Result (List ℕ) Refusal → Type 0
+FindsFor (Once source input fuel depth) file found = Finds (file source).told (file input).told found
+FindsFor (Print source) file found = FindsText (file source).told found
 
 -- the whole answer: what is found decides the bytes, the status and the line
 pub record IsAnswered (command : Command) (outside : Outside) (s : Status) : Type 0 where
   pub found : Result (List ℕ) Refusal
-  pub finds : FindsFor command outside found
+  pub finds : FindsFor command outside.file found
   pub status_is : s ≡ found_status found
   pub out_got : outside.out.now ≡ appended outside.out.before (found_bytes found)
   pub err_got : GotLine outside.err (found_line found (source_of command) (input_of command))
@@ -88,35 +102,55 @@ abbrev pub IsUnread : Which → File → File → Type 0
 IsUnread Source source input = FileFailed source
 IsUnread Input source input = FileFailed input × IfSome source.told (λ bytes. (s : WrittenSource) × IsAccepted bytes s)
 
+abbrev pub IsSourceUnread : Which → File → Type 0
+IsSourceUnread Source source = FileFailed source
+IsSourceUnread Input source = ⊥
+
+abbrev pub UnreadFor : Command → (List ℕ → File) → Which → Type 0
+UnreadFor (Once source input fuel depth) file which = IsUnread which (file source) (file input)
+UnreadFor (Print source) file which = IsSourceUnread which (file source)
+
 -- nothing was printed, and the line names the file
 pub record HasUnread (command : Command) (outside : Outside) : Type 0 where
   pub which : Which
-  pub why : IsUnread which (outside.file (source_of command)) (outside.file (input_of command))
+  pub why : UnreadFor command outside.file which
   pub out_same : outside.out.now ≡ outside.out.before
   pub err_got : GotLine outside.err (stop_line (stop.Unread which) (source_of command) (input_of command))
 
 -- `out` got nothing, or some first bytes of what it would get
-abbrev pub GotPart : Option (List ℕ) → Option (List ℕ) → Sink → Type 0
-GotPart source input out = (out.now ≡ out.before) ⊎ ((p : List ℕ) × Finds source input (Ok p) × AppendsPrefix out.before out.now p)
+abbrev pub GotPart : (Result (List ℕ) Refusal → Type 0) → Sink → Type 0
+GotPart finds out = (out.now ≡ out.before) ⊎ ((p : List ℕ) × finds (Ok p) × AppendsPrefix out.before out.now p)
 
 pub record IsCutShort (command : Command) (outside : Outside) : Type 0 where
-  pub out_got : GotPart (outside.file (source_of command)).told (outside.file (input_of command)).told outside.out
+  pub out_got : GotPart (FindsFor command outside.file) outside.out
   pub err_got : GotLine outside.err (codes "memory\n")
 
 -- the count of `out` rose, and it got some first bytes of what it would get
-abbrev pub HasFailed : Option (List ℕ) → Option (List ℕ) → Sink → Type 0
-HasFailed source input out = SinkFailed out × ((p : List ℕ) × Finds source input (Ok p) × AppendsPrefix out.before out.now p)
+abbrev pub HasFailed : (Result (List ℕ) Refusal → Type 0) → Sink → Type 0
+HasFailed finds out = SinkFailed out × ((p : List ℕ) × finds (Ok p) × AppendsPrefix out.before out.now p)
 
 pub record IsUnwritten (command : Command) (outside : Outside) : Type 0 where
-  pub out_failed : HasFailed (outside.file (source_of command)).told (outside.file (input_of command)).told outside.out
+  pub out_failed : HasFailed (FindsFor command outside.file) outside.out
   pub err_got : GotLine outside.err (codes "write\n")
 
 -- why a run stopped before its end, and what `out` holds then
+abbrev pub StoppedFor : (Result (List ℕ) Refusal → Type 0) → (Which → Type 0) → Sink → Stop → Type 0
+StoppedFor finds unread out (stop.Refused refusal) = finds (Err refusal) × (out.now ≡ out.before)
+StoppedFor finds unread out (stop.Unread which) = unread which × (out.now ≡ out.before)
+StoppedFor finds unread out stop.Memory = GotPart finds out
+StoppedFor finds unread out stop.Write = HasFailed finds out
+
+-- a run on a source and an input
 abbrev pub WhyStopped : File → File → Sink → Stop → Type 0
-WhyStopped source input out (stop.Refused refusal) = Finds source.told input.told (Err refusal) × (out.now ≡ out.before)
-WhyStopped source input out (stop.Unread which) = IsUnread which source input × (out.now ≡ out.before)
-WhyStopped source input out stop.Memory = GotPart source.told input.told out
-WhyStopped source input out stop.Write = HasFailed source.told input.told out
+WhyStopped source input out why = StoppedFor (Finds source.told input.told) (λ which. IsUnread which source input) out why
+
+-- the printing of a source
+abbrev pub WhyUnprinted : File → Sink → Stop → Type 0
+WhyUnprinted source out why = StoppedFor (FindsText source.told) (λ which. IsSourceUnread which source) out why
+
+-- any command
+abbrev pub WhyEnded : Command → (List ℕ → File) → Sink → Stop → Type 0
+WhyEnded command file out why = StoppedFor (FindsFor command file) (UnreadFor command file) out why
 
 abbrev pub print_stop : PrintFault → Stop
 print_stop print_fault.Memory = stop.Memory
@@ -139,5 +173,5 @@ OfCommand P (Some command) outside = P command outside
 
 -- want of memory may come before the words are read
 pub record IsCutShortFor (command : Option Command) (outside : Outside) : Type 0 where
-  pub out_got : (outside.out.now ≡ outside.out.before) ⊎ OfCommand (λ c o. GotPart (o.file (source_of c)).told (o.file (input_of c)).told o.out) command outside
+  pub out_got : (outside.out.now ≡ outside.out.before) ⊎ OfCommand (λ c o. GotPart (FindsFor c o.file) o.out) command outside
   pub err_got : GotLine outside.err (codes "memory\n")

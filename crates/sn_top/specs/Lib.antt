@@ -9,4 +9,5 @@ pub mod Line
 pub mod Words
 pub mod Meaning
 pub mod Load
+pub mod Source
 pub mod Answer

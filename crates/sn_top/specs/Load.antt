@@ -65,6 +65,8 @@ pub record IsAnswer (program : Program) (bytes : List ℕ) (answered : Answered)
 
 abbrev pub WhyNoAnswer : Program → List ℕ → Stop → Type 0
 WhyNoAnswer program bytes (stop.Refused (refusal.TooLarge which)) = ⊥
+WhyNoAnswer program bytes (stop.Refused (refusal.Source fault at)) = ⊥
+WhyNoAnswer program bytes (stop.Refused (refusal.TooDeep at)) = ⊥
 WhyNoAnswer program bytes (stop.Refused refusal.NotBuilt) = (ls : List WrittenLine) → IsRouted program.names program.net bytes ls → ⊥
 WhyNoAnswer program bytes (stop.Unread which) = ⊥
 WhyNoAnswer program bytes stop.Memory = Unit {0}

@@ -1,5 +1,6 @@
 -- Statuses, and the lines on `err`.
 use Rattle.std.specs.Prelude.{ℕ, List, [], ◌++◌, codes}
+use Rattle.std.specs.Fmt.{decimal}
 use Rattle.sn_top.specs.declared.reading.ReadFault.{ReadFault}
 use Rattle.sn_top.specs.declared.reading.ReadFault.TheVariants as fault
 use Rattle.sn_top.specs.declared.status.Status.{Status}
@@ -7,7 +8,9 @@ use Rattle.sn_top.specs.declared.status.Status.TheVariants as status
 use Rattle.sn_top.specs.declared.status.Which.{Which}
 use Rattle.sn_top.specs.declared.status.Which.TheVariants.{Source, Input}
 use Rattle.sn_top.specs.declared.status.Refusal.{Refusal}
-use Rattle.sn_top.specs.declared.status.Refusal.TheVariants.{TooLarge, NotBuilt}
+use Rattle.sn_top.specs.declared.status.Refusal.TheVariants.{TooLarge, Source as SourceAt, TooDeep, NotBuilt}
+use Rattle.sn_top.specs.declared.status.SourceFault.{SourceFault}
+use Rattle.sn_top.specs.declared.status.SourceFault.TheVariants.{BadUtf8, BadChar, NumberTooWide, TextOpen, Unexpected}
 use Rattle.sn_top.specs.declared.status.Stop.{Stop}
 use Rattle.sn_top.specs.declared.status.Stop.TheVariants as stop
 
@@ -15,9 +18,11 @@ abbrev pub status_code : Status → ℕ
 status_code status.Ok = 0
 status_code status.Usage = 2
 status_code status.Read = 3
+status_code status.Source = 4
 status_code status.Memory = 8
 status_code status.Write = 9
 status_code status.TooLarge = 10
+status_code status.Limit = 11
 status_code status.NotBuilt = 12
 
 abbrev pub fault_stop : ReadFault → Stop
@@ -26,6 +31,8 @@ fault_stop fault.Memory = stop.Memory
 
 abbrev pub refusal_status : Refusal → Status
 refusal_status (TooLarge which) = status.TooLarge
+refusal_status (SourceAt fault at) = status.Source
+refusal_status (TooDeep at) = status.Limit
 refusal_status NotBuilt = status.NotBuilt
 
 abbrev pub stop_status : Stop → Status
@@ -38,8 +45,17 @@ abbrev pub name_of : Which → List ℕ → List ℕ → List ℕ
 name_of Source source input = source
 name_of Input source input = input
 
+abbrev pub fault_label : SourceFault → List ℕ
+fault_label BadUtf8 = codes "source: BadUtf8 at "
+fault_label BadChar = codes "source: BadChar at "
+fault_label NumberTooWide = codes "source: NumberTooWide at "
+fault_label TextOpen = codes "source: TextOpen at "
+fault_label Unexpected = codes "source: Unexpected at "
+
 abbrev pub refusal_label : Refusal → List ℕ
 refusal_label (TooLarge which) = codes "too large: "
+refusal_label (SourceAt fault at) = fault_label fault
+refusal_label (TooDeep at) = codes "limit: TooDeep at "
 refusal_label NotBuilt = codes "not built"
 
 abbrev pub stop_label : Stop → List ℕ
@@ -50,6 +66,8 @@ stop_label stop.Write = codes "write"
 
 abbrev pub refusal_name : Refusal → List ℕ → List ℕ → List ℕ
 refusal_name (TooLarge which) source input = name_of which source input
+refusal_name (SourceAt fault at) source input = decimal at
+refusal_name (TooDeep at) source input = decimal at
 refusal_name NotBuilt source input = []
 
 abbrev pub stop_name : Stop → List ℕ → List ℕ → List ℕ
@@ -57,6 +75,19 @@ stop_name (stop.Refused refusal) source input = refusal_name refusal source inpu
 stop_name (stop.Unread which) source input = name_of which source input
 stop_name stop.Memory source input = []
 stop_name stop.Write source input = []
+
+-- the place that the line speaks of
+abbrev pub refusal_place : Refusal → ℕ
+refusal_place (TooLarge which) = 0
+refusal_place (SourceAt fault at) = at
+refusal_place (TooDeep at) = at
+refusal_place NotBuilt = 0
+
+abbrev pub stop_place : Stop → ℕ
+stop_place (stop.Refused refusal) = refusal_place refusal
+stop_place (stop.Unread which) = 0
+stop_place stop.Memory = 0
+stop_place stop.Write = 0
 
 -- the line on `err`, which names a file by its word
 abbrev pub stop_line : Stop → List ℕ → List ℕ → List ℕ

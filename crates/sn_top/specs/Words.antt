@@ -3,7 +3,7 @@ use Rattle.std.specs.Prelude.{◌≡◌, ◌≤◌, ◌⊎◌, ◌++◌, false, 
 use Rattle.std.specs.List.{list_any}
 use Rattle.std.specs.Str.{bytes_eq}
 use Rattle.sn_top.specs.declared.words.Command.{Command}
-use Rattle.sn_top.specs.declared.words.Command.TheVariants.{Once}
+use Rattle.sn_top.specs.declared.words.Command.TheVariants.{Once, Print}
 use Rattle.sn_top.specs.declared.words.TheConstants.{DEFAULT_FUEL, DEFAULT_DEPTH}
 
 abbrev pub usage_text : List ℕ
@@ -35,18 +35,30 @@ abbrev pub once_of : List (List ℕ) → Option Command
 once_of (source ∷ input ∷ []) = if is_nothing source || is_nothing input then None else Some (Once source input DEFAULT_FUEL DEFAULT_DEPTH)
 once_of _ = None
 
+-- a source alone
+abbrev pub print_of : List (List ℕ) → Option Command
+print_of (source ∷ []) = if is_nothing source then None else Some (Print source)
+print_of _ = None
+
+-- what the words after a command's name ask for
+abbrev pub asked_of : (List (List ℕ) → Option Command) → List (List ℕ) → Option Command
+asked_of made words = option_and_then made (positional_words words)
+
 -- what the words ask for
 abbrev pub command_of : List (List ℕ) → Option Command
 command_of [] = None
-command_of (word ∷ words) = if is_word (codes "once") word then option_and_then once_of (positional_words words) else None
+command_of (word ∷ words) = if is_word (codes "once") word then asked_of once_of words else (if is_word (codes "print") word then asked_of print_of words else None)
 
 -- the numbers that a run may be given
 abbrev pub IsInRange : Command → Type 0
+IsInRange (Print source) = Unit {0}
 IsInRange (Once source input fuel depth) = (1 ≤ fuel) × (fuel ≤ 1_000_000_000) × (1 ≤ depth) × (depth ≤ 2_000)
 
--- the names of its files
+-- the names of its files; one that prints a source has no input
 abbrev pub source_of : Command → List ℕ
 source_of (Once source input fuel depth) = source
+source_of (Print source) = source
 
 abbrev pub input_of : Command → List ℕ
 input_of (Once source input fuel depth) = input
+input_of (Print source) = []

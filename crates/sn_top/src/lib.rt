@@ -3,6 +3,7 @@
 #![tactic(auto)]
 
 mod build;
+mod canonical;
 mod chain;
 mod cuts;
 mod enter;

@@ -2,15 +2,18 @@
 ghost use Rattle.std.specs.Prelude.{◌≡◌, ◌≢◌, ℕ, List, Ok, IfErr, OnOk, map};
 ghost use Rattle.std.specs.String.{string_bytes};
 ghost use Rattle.sn_io.specs.Told.{appended};
-ghost use Rattle.sn_top.specs.Seen.{seen_file, seen_sink};
-ghost use Rattle.sn_top.specs.Words.{command_of, IsInRange};
-ghost use Rattle.sn_top.specs.Answer.{seen, Finds, WhyStopped, IsAnswered, HasUnread, IsCutShort, IsUnwritten, IsAnsweredFor, OfCommand, IsCutShortFor};
+ghost use Rattle.sn_top.specs.Seen.{GotLine, seen_file, seen_sink};
+ghost use Rattle.sn_top.specs.Status.{stop_line};
+ghost use Rattle.sn_top.specs.Words.{command_of, input_of, IsInRange, source_of};
+ghost use Rattle.sn_top.specs.Answer.{seen, Finds, FindsFor, FindsText, WhyEnded, WhyStopped, WhyUnprinted, IsAnswered, HasUnread, IsCutShort, IsUnwritten, IsAnsweredFor, OfCommand, IsCutShortFor};
 
+use crate::canonical::canonical_text;
 use crate::load::{answer_input, load_source};
 use crate::outside::{read_file, write_line};
 use crate::print::print_all;
 use crate::status::{Status, Stop, Which};
 use crate::words::{Command, WordsFault, read_words, usage_line};
+use itoa::Buffer;
 use sn_io::{Files, Gate, Sink, write_whole};
 use std::alloc::Global;
 use std::sync::Wait;
@@ -46,6 +49,57 @@ fn run_once<F: Files, O: Sink>(
     Ok(())
 }
 
+/// Prints the canonical text of a source.
+fn run_print<F: Files, O: Sink>(
+    alloc: Global,
+    source_name: &[u8],
+    files: &mut F,
+    out: &mut O,
+) -> Result<(), Stop>
+    ensures done { OnOk result ((p : List ℕ)
+        × FindsText (F.bytes_of files.old source_name.now) (Ok p)
+        × (O.held out.new ≡ appended (O.held out.old) p)) }
+    ensures stopped { IfErr result (WhyUnprinted
+        (seen_file F.bytes_of F.faults files.old files.new source_name.now)
+        (seen_sink O.held O.faults out.old out.new)) }
+{
+    let source = read_file(alloc, files, Which::Source, source_name, SOURCE_LIMIT)?;
+    let text = canonical_text(alloc, source.as_slice())?;
+    write_whole(out, text.as_slice())?;
+    Ok(())
+}
+
+fn run<F: Files, O: Sink>(
+    alloc: Global,
+    command: &Command,
+    files: &mut F,
+    out: &mut O,
+) -> Result<(), Stop>
+    ensures done { OnOk result ((p : List ℕ)
+        × FindsFor command.now (seen_file F.bytes_of F.faults files.old files.new) (Ok p)
+        × (O.held out.new ≡ appended (O.held out.old) p)) }
+    ensures stopped { IfErr result (WhyEnded command.now
+        (seen_file F.bytes_of F.faults files.old files.new)
+        (seen_sink O.held O.faults out.old out.new)) }
+{
+    match command {
+        Command::Once { source, input, .. } => {
+            run_once(alloc, source.as_slice(), input.as_slice(), files, out)
+        }
+        Command::Print { source } => run_print(alloc, source.as_slice(), files, out),
+    }
+}
+
+/// Writes the line that tells why a command stopped.
+fn tell<E: Sink>(command: &Command, stop: &Stop, err: &mut E)
+    ensures { GotLine (seen_sink E.held E.faults err.old err.new) (stop_line stop.now (source_of command.now) (input_of command.now)) }
+{
+    let mut buffer = Buffer::new();
+    let place = buffer.format(stop.place()).as_bytes();
+    let name = stop.name(command.source(), command.input(), place);
+    write_line(err, stop.label(), name);
+}
+
 /// Does a command on the calling thread. A failing `err` changes no status.
 pub fn serve_plain<F: Files, O: Sink, E: Sink>(
     alloc: Global,
@@ -64,11 +118,10 @@ pub fn serve_plain<F: Files, O: Sink, E: Sink>(
     ensures write { result ≡ Status.Write
         → IsUnwritten command.now (seen F.bytes_of F.faults O.held O.faults E.held E.faults files.old files.new out.old out.new err.old err.new) }
 {
-    let (source, input) = (command.source(), command.input());
-    match run_once(alloc, source, input, files, out) {
+    match run(alloc, command, files, out) {
         Ok(()) => Status::Ok,
         Err(stop) => {
-            write_line(err, stop.label(), stop.name(source, input));
+            tell(command, &stop, err);
             stop.status()
         }
     }

@@ -1,10 +1,13 @@
 //! How a call ends: its status, and what it writes on `err`.
 ghost use Rattle.std.specs.Prelude.{◌≡◌};
-ghost use Rattle.sn_top.specs.Status.{status_code, stop_status, stop_label, stop_name};
+ghost use Rattle.std.specs.Fmt.{decimal};
+ghost use Rattle.sn_top.specs.Status.{fault_label, status_code, stop_label, stop_name, stop_place, stop_status};
 
 use crate::reading::ReadFault;
 use sn_io::WriteFault;
+use sn_lexer::LexFault;
 use sn_list::Memory;
+use sn_parser::ParseFault;
 
 /// How a command ended. Its number is the exit status of the program.
 #[derive(Clone, Copy, PartialEq, Eq, Debug)]
@@ -15,12 +18,16 @@ pub enum Status {
     Usage,
     /// A file was not read.
     Read,
+    /// The source is none.
+    Source,
     /// Memory was wanted and not had.
     Memory,
     /// The output was not all written.
     Write,
     /// A file is past its limit.
     TooLarge,
+    /// Another limit is passed.
+    Limit,
     /// The source or the input is of a form that is not built yet, or a record has no route.
     NotBuilt,
 }
@@ -34,9 +41,11 @@ impl Status {
             Status::Ok => 0,
             Status::Usage => 2,
             Status::Read => 3,
+            Status::Source => 4,
             Status::Memory => 8,
             Status::Write => 9,
             Status::TooLarge => 10,
+            Status::Limit => 11,
             Status::NotBuilt => 12,
         }
     }
@@ -49,10 +58,37 @@ pub enum Which {
     Input,
 }
 
-/// What the checks of a command refuse.
+/// What is wrong in a source.
+#[derive(Clone, Copy, PartialEq, Eq, Debug)]
+pub enum SourceFault {
+    BadUtf8,
+    BadChar,
+    NumberTooWide,
+    TextOpen,
+    Unexpected,
+}
+
+impl SourceFault {
+    /// What the line on `err` says before the place.
+    pub fn label(&self) -> &'static [u8]
+        ensures { result.now ≡ fault_label self.now }
+    {
+        match self {
+            SourceFault::BadUtf8 => b"source: BadUtf8 at ",
+            SourceFault::BadChar => b"source: BadChar at ",
+            SourceFault::NumberTooWide => b"source: NumberTooWide at ",
+            SourceFault::TextOpen => b"source: TextOpen at ",
+            SourceFault::Unexpected => b"source: Unexpected at ",
+        }
+    }
+}
+
+/// What the checks of a command refuse. A place is an offset in the source's bytes.
 #[derive(Clone, Copy, PartialEq, Eq, Debug)]
 pub enum Refusal {
     TooLarge(Which),
+    Source(SourceFault, u32),
+    TooDeep(u32),
     NotBuilt,
 }
 
@@ -101,12 +137,50 @@ impl From<ReadFault> for Stop {
     }
 }
 
+impl From<LexFault> for Stop {
+    ghost use Rattle.std.specs.Prelude.{◌≡◌};
+    ghost use Rattle.sn_top.specs.Source.{lex_stop};
+
+    ghost from_gives = { λ f e. e ≡ lex_stop f };
+
+    fn from(fault: LexFault) -> Stop {
+        match fault {
+            LexFault::BadUtf8(at) => Stop::Refused(Refusal::Source(SourceFault::BadUtf8, at)),
+            LexFault::BadChar(at) => Stop::Refused(Refusal::Source(SourceFault::BadChar, at)),
+            LexFault::NumberTooWide(at) => {
+                Stop::Refused(Refusal::Source(SourceFault::NumberTooWide, at))
+            }
+            LexFault::TextOpen(at) => Stop::Refused(Refusal::Source(SourceFault::TextOpen, at)),
+            LexFault::Memory => Stop::Memory,
+        }
+    }
+}
+
+impl From<ParseFault> for Stop {
+    ghost use Rattle.std.specs.Prelude.{◌≡◌};
+    ghost use Rattle.sn_top.specs.Source.{parse_stop};
+
+    ghost from_gives = { λ f e. e ≡ parse_stop f };
+
+    fn from(fault: ParseFault) -> Stop {
+        match fault {
+            ParseFault::Unexpected(at) => {
+                Stop::Refused(Refusal::Source(SourceFault::Unexpected, at))
+            }
+            ParseFault::TooDeep(at) => Stop::Refused(Refusal::TooDeep(at)),
+            ParseFault::Memory => Stop::Memory,
+        }
+    }
+}
+
 impl Stop {
     pub fn status(&self) -> Status
         ensures { result ≡ stop_status self.now }
     {
         match self {
             Stop::Refused(Refusal::TooLarge(_)) => Status::TooLarge,
+            Stop::Refused(Refusal::Source(_, _)) => Status::Source,
+            Stop::Refused(Refusal::TooDeep(_)) => Status::Limit,
             Stop::Refused(Refusal::NotBuilt) => Status::NotBuilt,
             Stop::Unread(_) => Status::Read,
             Stop::Memory => Status::Memory,
@@ -114,12 +188,25 @@ impl Stop {
         }
     }
 
-    /// What the line on `err` says before the name of a file.
+    /// The place in the source that the line speaks of, or 0.
+    pub fn place(&self) -> u32
+        ensures { result ≡ stop_place self.now }
+    {
+        match self {
+            Stop::Refused(Refusal::Source(_, at)) => *at,
+            Stop::Refused(Refusal::TooDeep(at)) => *at,
+            _ => 0,
+        }
+    }
+
+    /// What the line on `err` says before a name or a place.
     pub fn label(&self) -> &'static [u8]
         ensures { result.now ≡ stop_label self.now }
     {
         match self {
             Stop::Refused(Refusal::TooLarge(_)) => b"too large: ",
+            Stop::Refused(Refusal::Source(fault, _)) => fault.label(),
+            Stop::Refused(Refusal::TooDeep(_)) => b"limit: TooDeep at ",
             Stop::Refused(Refusal::NotBuilt) => b"not built",
             Stop::Unread(_) => b"read: ",
             Stop::Memory => b"memory",
@@ -127,13 +214,15 @@ impl Stop {
         }
     }
 
-    /// The name of the file that the line speaks of, or nothing.
-    pub fn name<'a>(&self, source: &'a [u8], input: &'a [u8]) -> &'a [u8]
+    /// What the line speaks of: the name of a file, or the digits of the place, or nothing.
+    pub fn name<'a>(&self, source: &'a [u8], input: &'a [u8], place: &'a [u8]) -> &'a [u8]
+        requires { place.now ≡ decimal (stop_place self.now) }
         ensures { result.now ≡ stop_name self.now source.now input.now }
     {
         match self {
             Stop::Refused(Refusal::TooLarge(Which::Source)) | Stop::Unread(Which::Source) => source,
             Stop::Refused(Refusal::TooLarge(Which::Input)) | Stop::Unread(Which::Input) => input,
+            Stop::Refused(Refusal::Source(_, _)) | Stop::Refused(Refusal::TooDeep(_)) => place,
             _ => &source[..0],
         }
     }

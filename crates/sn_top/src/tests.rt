@@ -114,6 +114,48 @@ fn missing_and_large_files_are_told(rt: HostRuntime) -> Result<(), Fail> {
     Ok(())
 }
 
+fn print(alloc: Global, source: &[u8]) -> Result<Served, Memory> {
+    let name = Seq::from_slice(alloc, b"s")?;
+    let mut files = files(alloc, source, b"")?;
+    let mut out = sink(alloc, 7)?;
+    let mut err = sink(alloc, 64)?;
+    let status = serve_plain(
+        alloc,
+        &Command::Print { source: name },
+        &mut files,
+        &mut out,
+        &mut err,
+    );
+    Ok(Served { status, out, err })
+}
+
+#[test]
+fn sources_are_printed(rt: HostRuntime) -> Result<(), Fail> {
+    let table: [(&[u8], Status, &[u8], &[u8]); 6] = [
+        (b"", Status::Ok, b"", b""),
+        (
+            b"box f ((a)->(b)){fun g(x)=x+1;out 1(g(a))} net main({a}->{b}) connect f;",
+            Status::Ok,
+            b"box f ((a) -> (b)) { fun g(x) = x + 1; out 1(g(a)) }\nnet main ({a} -> {b}) connect f;\n",
+            b"",
+        ),
+        (
+            b"net n connect [{<n>} -> {<n>=-(1*2)}]**{<n>} if (<n>==0) | a..b;",
+            Status::Ok,
+            b"net n connect ([{<n>} -> {<n>=-(1 * 2)}] ** {<n>} if (<n> == 0)) | (a .. b);\n",
+            b"",
+        ),
+        (b"net", Status::Source, b"", b"source: Unexpected at 3\n"),
+        (b"net \"", Status::Source, b"", b"source: TextOpen at 4\n"),
+        (b"\xff", Status::Source, b"", b"source: BadUtf8 at 0\n"),
+    ];
+    for (source, status, out, err) in table {
+        let served = print(rt.alloc(), source)?;
+        assert!(rt; served.is(status, out, err));
+    }
+    Ok(())
+}
+
 /// What may be left where memory may be wanted: all of the output, or some first bytes of it and of the line.
 fn is_allowed(served: &Served) -> bool {
     match served.status {

@@ -1,7 +1,7 @@
 //! The words of the command line, after the program's name.
-ghost use Rattle.std.specs.Prelude.{◌≡◌, ◌≢◌, ◌++◌, ◌∷◌, [], codes, length, map, option_and_then, IfOk, MatchOption};
+ghost use Rattle.std.specs.Prelude.{◌≡◌, ◌≢◌, ◌++◌, ◌∷◌, [], codes, length, map, IfOk, MatchOption};
 ghost use Rattle.std.specs.String.{string_bytes};
-ghost use Rattle.sn_top.specs.Words.{command_of, positional_words, once_of, is_word, IsCut, is_option as is_an_option, usage_text, IsInRange, source_of, input_of};
+ghost use Rattle.sn_top.specs.Words.{asked_of, command_of, positional_words, once_of, print_of, is_word, IsCut, is_option as is_an_option, usage_text, IsInRange, source_of, input_of};
 
 use sn_list::{Memory, Seq};
 use sn_record::Text;
@@ -26,6 +26,8 @@ pub enum Command {
         fuel: u64,
         depth: u32,
     },
+    /// Print the canonical text of a source.
+    Print { source: Text },
 }
 
 impl Command {
@@ -35,15 +37,17 @@ impl Command {
     {
         match self {
             Command::Once { source, .. } => source.as_slice(),
+            Command::Print { source } => source.as_slice(),
         }
     }
 
-    /// The name of the input's file.
+    /// The name of the input's file, or nothing where the command reads none.
     pub fn input(&self) -> &[u8]
         ensures { result.now ≡ input_of self.now }
     {
         match self {
             Command::Once { input, .. } => input.as_slice(),
+            Command::Print { .. } => &[],
         }
     }
 }
@@ -110,10 +114,23 @@ fn only_two<'a>(front: &'a [String], back: &'a [String]) -> Option<(&'a String, 
     }
 }
 
+/// The only one of the words that lie in two parts.
+fn only_one<'a>(front: &'a [String], back: &'a [String]) -> Option<&'a String>
+    ensures { MatchOption result
+        (length (front.now ++ back.now) ≢ 1)
+        (λ w. front.now ++ back.now ≡ w.now ∷ []) }
+{
+    match (front, back) {
+        ([word], []) => Some(word),
+        ([], [word]) => Some(word),
+        _ => None,
+    }
+}
+
 /// The two positional words, where there are two, and no option among the words.
 fn two_positional(words: &[String]) -> Option<(&String, &String)>
     ensures { MatchOption result
-        (option_and_then once_of (positional_words (map string_bytes words.now)) ≡ None)
+        (asked_of once_of (map string_bytes words.now) ≡ None)
         (λ p. positional_words (map string_bytes words.now) ≡ Some (string_bytes p.0.now ∷ string_bytes p.1.now ∷ [])) }
 {
     let (checked, free) = cut_at_dashes(words);
@@ -121,6 +138,57 @@ fn two_positional(words: &[String]) -> Option<(&String, &String)>
         return None;
     }
     only_two(checked, free)
+}
+
+/// The only positional word, where there is one, and no option among the words.
+fn one_positional(words: &[String]) -> Option<&String>
+    ensures { MatchOption result
+        (asked_of print_of (map string_bytes words.now) ≡ None)
+        (λ w. positional_words (map string_bytes words.now) ≡ Some (string_bytes w.now ∷ [])) }
+{
+    let (before, after) = cut_at_dashes(words);
+    if before.iter().any(is_option) {
+        return None;
+    }
+    only_one(before, after)
+}
+
+/// Reads the words after `once`.
+fn read_once(alloc: Global, words: &[String]) -> Result<Command, WordsFault>
+    ensures ok { IfOk result (λ command. asked_of once_of (map string_bytes words.now) ≡ Some command) }
+    ensures usage { result ≡ Err WordsFault.Usage → asked_of once_of (map string_bytes words.now) ≡ None }
+    ensures in_range { IfOk result IsInRange }
+{
+    let Some((source, input)) = two_positional(words) else {
+        return Err(WordsFault::Usage);
+    };
+    if source.is_empty() || input.is_empty() {
+        return Err(WordsFault::Usage);
+    }
+    let source = Seq::from_slice(alloc, source.as_bytes())?;
+    let input = Seq::from_slice(alloc, input.as_bytes())?;
+    Ok(Command::Once {
+        source,
+        input,
+        fuel: DEFAULT_FUEL,
+        depth: DEFAULT_DEPTH,
+    })
+}
+
+/// Reads the words after `print`.
+fn read_print(alloc: Global, words: &[String]) -> Result<Command, WordsFault>
+    ensures ok { IfOk result (λ command. asked_of print_of (map string_bytes words.now) ≡ Some command) }
+    ensures usage { result ≡ Err WordsFault.Usage → asked_of print_of (map string_bytes words.now) ≡ None }
+    ensures in_range { IfOk result IsInRange }
+{
+    let Some(source) = one_positional(words) else {
+        return Err(WordsFault::Usage);
+    };
+    if source.is_empty() {
+        return Err(WordsFault::Usage);
+    }
+    let source = Seq::from_slice(alloc, source.as_bytes())?;
+    Ok(Command::Print { source })
 }
 
 /// Reads the words after the program's name.
@@ -136,23 +204,13 @@ pub fn read_words(alloc: Global, words: &[String]) -> Result<Command, WordsFault
     let [command, rest @ ..] = words else {
         return Err(WordsFault::Usage);
     };
-    if command.as_str() != "once" {
-        return Err(WordsFault::Usage);
+    if command.as_str() == "once" {
+        return read_once(alloc, rest);
     }
-    let Some((source, input)) = two_positional(rest) else {
-        return Err(WordsFault::Usage);
-    };
-    if source.is_empty() || input.is_empty() {
-        return Err(WordsFault::Usage);
+    if command.as_str() == "print" {
+        return read_print(alloc, rest);
     }
-    let source = Seq::from_slice(alloc, source.as_bytes())?;
-    let input = Seq::from_slice(alloc, input.as_bytes())?;
-    Ok(Command::Once {
-        source,
-        input,
-        fuel: DEFAULT_FUEL,
-        depth: DEFAULT_DEPTH,
-    })
+    Err(WordsFault::Usage)
 }
 
 #[cfg(test)]
@@ -198,7 +256,7 @@ mod tests {
             &["once", "s", "i", "t"],
             &["once", "--x", "s", "i"],
             &["once", "s", ""],
-            &["print", "s"],
+            &["print", "s", "t"],
         ];
         for words in table {
             assert_eq!(rt; read(rt.alloc(), words)?, Err(WordsFault::Usage));

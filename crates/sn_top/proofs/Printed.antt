@@ -1,0 +1,64 @@
+-- From what each step of printing a source gave to why it stopped, and what it printed.
+use Rattle.std.proofs.Common.{◌≡◌, ℕ, ◌≤◌, List, length, inl, inr, refl}
+use Rattle.std.specs.Prelude.{Ok, Err, Result}
+use Rattle.sn_io.specs.Told.{AppendsPrefix}
+use Rattle.sn_lexer.specs.Answer.{IsFault, LexesAs}
+use Rattle.sn_lexer.specs.declared.token.LexFault.{LexFault}
+use Rattle.sn_lexer.specs.declared.token.LexFault.TheVariants as lex_fault
+use Rattle.sn_lexer.specs.declared.token.Token.{Token}
+use Rattle.sn_parser.specs.Answer.{Faults}
+use Rattle.sn_parser.specs.declared.parsing.ParseFault.{ParseFault}
+use Rattle.sn_parser.specs.declared.parsing.ParseFault.TheVariants as parse_fault
+use Rattle.sn_top.specs.declared.serve.TheConstants.{SOURCE_LIMIT}
+use Rattle.sn_top.specs.declared.status.Which.TheVariants.{Source, Input}
+use Rattle.sn_top.specs.declared.status.Refusal.{Refusal}
+use Rattle.sn_top.specs.declared.status.Refusal.TheVariants.{TooLarge, Source as SourceAt, TooDeep, NotBuilt}
+use Rattle.sn_top.specs.declared.status.Stop.{Stop}
+use Rattle.sn_top.specs.declared.status.Stop.TheVariants.{Refused, Unread, Memory, Write}
+use Rattle.sn_top.specs.Answer.{FindsText, WhyUnprinted}
+use Rattle.sn_top.specs.Seen.{File, Sink, SinkFailed, WhyUnread}
+use Rattle.sn_top.specs.Source.{FindsSource, HasText, WhyNoText, lex_stop, parse_stop}
+use Rattle.sn_top.proofs.Serving.{HasBytes, of_told}
+
+pub not_lexed : (bytes : List ℕ) (fault : LexFault) → IsFault bytes fault → WhyNoText bytes (lex_stop fault)
+not_lexed bytes (lex_fault.BadUtf8 at) h = h
+not_lexed bytes (lex_fault.BadChar at) h = h
+not_lexed bytes (lex_fault.NumberTooWide at) h = h
+not_lexed bytes (lex_fault.TextOpen at) h = h
+not_lexed bytes lex_fault.Memory h = tt
+
+pub not_parsed : (bytes : List ℕ) (tokens : List Token) (fault : ParseFault) → LexesAs bytes tokens → Faults bytes tokens fault → WhyNoText bytes (parse_stop fault)
+not_parsed bytes tokens (parse_fault.Unexpected at) l h = record { tokens = tokens; lexed = l; faults = h }
+not_parsed bytes tokens (parse_fault.TooDeep at) l h = record { tokens = tokens; lexed = l; faults = h }
+not_parsed bytes tokens parse_fault.Memory l h = tt
+
+module _ (source : File) (out : Sink) where
+  pub text_unread : out.now ≡ out.before → (why : Stop) → WhyUnread Source SOURCE_LIMIT source why → WhyUnprinted source out why
+  text_unread same (Refused (TooLarge Source)) why = (why.1, same)
+  text_unread same (Refused (TooLarge Input)) why = cc
+  text_unread same (Refused (SourceAt fault at)) why = absurd why
+  text_unread same (Refused (TooDeep at)) why = absurd why
+  text_unread same (Refused NotBuilt) why = absurd why
+  text_unread same (Unread Source) why = (why.1, same)
+  text_unread same (Unread Input) why = cc
+  text_unread same Memory why = inl same
+  text_unread same Write why = absurd why
+
+  module _ (bytes : List ℕ) (read : HasBytes source SOURCE_LIMIT bytes) where
+    abbrev Found : Result (List ℕ) Refusal → List ℕ → Type 0
+    Found found b = (length b ≤ SOURCE_LIMIT) × FindsSource b found
+
+    pub no_text : out.now ≡ out.before → (why : Stop) → WhyNoText bytes why → WhyUnprinted source out why
+    no_text same (Refused (TooLarge which)) why = absurd why
+    no_text same (Refused (SourceAt fault at)) why = (of_told source.told bytes (Found (Err (SourceAt fault at))) read.told (read.within, why), same)
+    no_text same (Refused (TooDeep at)) why = (of_told source.told bytes (Found (Err (TooDeep at))) read.told (read.within, why), same)
+    no_text same (Refused NotBuilt) why = absurd why
+    no_text same (Unread which) why = absurd why
+    no_text same Memory why = inl same
+    no_text same Write why = absurd why
+
+    pub finds_text : (text : List ℕ) → HasText bytes text → FindsText source.told (Ok text)
+    finds_text text h = of_told source.told bytes (Found (Ok text)) read.told (read.within, h)
+
+    pub text_cut : (text : List ℕ) → HasText bytes text → AppendsPrefix out.before out.now text → SinkFailed out → WhyUnprinted source out Write
+    text_cut text h part failed = (failed, (text, finds_text text h, part))
