@@ -7,7 +7,6 @@ use Rattle.sn_ast.specs.declared.declaration.Decl.TheOpen.{Decl-F}
 use Rattle.sn_ast.specs.declared.declaration.FunDecl.{FunDecl}
 use Rattle.sn_ast.specs.declared.declaration.NetDecl.{NetDecl, NetDecl-F, fold-NetDecl}
 use Rattle.sn_ast.specs.declared.declaration.Program.{Program}
-use Rattle.sn_ast.specs.declared.label.Ident.{Ident}
 use Rattle.sn_ast.specs.declared.label.Sig.{Sig}
 use Rattle.sn_print.specs.Expressions.{box_shown, box_text, part}
 use Rattle.sn_print.specs.Labels.{sig_text, tuple_text, types_text}

@@ -1,6 +1,5 @@
 -- The texts of networks.
 use Rattle.std.specs.Prelude.{ℕ, List, [], ◌++◌, map, codes, Option, Some, None}
-use Rattle.sn_ast.specs.declared.label.LabelAt.{LabelAt}
 use Rattle.sn_ast.specs.declared.network.ItemAt.{ItemAt}
 use Rattle.sn_ast.specs.declared.network.ItemSource.{ItemSource}
 use Rattle.sn_ast.specs.declared.network.ItemSource.TheVariants.{Same, Field, Expr}

@@ -1,5 +1,5 @@
 -- From what each step of printing a source gave to why it stopped, and what it printed.
-use Rattle.std.proofs.Common.{◌≡◌, ℕ, ◌≤◌, List, length, inl, inr, refl}
+use Rattle.std.proofs.Common.{◌≡◌, ℕ, ◌≤◌, List, length, inl}
 use Rattle.std.specs.Prelude.{Ok, Err, Result}
 use Rattle.sn_io.specs.Told.{AppendsPrefix}
 use Rattle.sn_lexer.specs.Answer.{IsFault, LexesAs}

@@ -27,7 +27,9 @@ pub enum Command {
         depth: u32,
     },
     /// Print the canonical text of a source.
-    Print { source: Text },
+    Print {
+        source: Text,
+    },
 }
 
 impl Command {
