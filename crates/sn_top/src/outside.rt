@@ -52,7 +52,8 @@ fn write_parts<E: Sink>(err: &mut E, label: &[u8], name: &[u8]) -> Result<(), Wr
 
 /// Writes the line that tells why a command stopped. Where `err` fails, the rest of the line is lost.
 pub fn write_line<E: Sink>(err: &mut E, label: &[u8], name: &[u8])
-    ensures { GotLine (seen_sink E.held E.faults err.old err.new) (label.now ++ (name.now ++ codes "\n")) }
+    ensures got { GotLine (seen_sink E.held E.faults err.old err.new) (label.now ++ (name.now ++ codes "\n")) }
+    ensures later { E.faults err.old ≤ E.faults err.new }
 {
     let _ = write_parts(err, label, name);
 }

@@ -1,5 +1,5 @@
 //! The top calls.
-ghost use Rattle.std.specs.Prelude.{◌≡◌, ◌≢◌, ℕ, List, Ok, IfErr, OnOk, map};
+ghost use Rattle.std.specs.Prelude.{◌≡◌, ◌≢◌, ◌≤◌, ℕ, List, Ok, IfErr, OnOk, map};
 ghost use Rattle.std.specs.String.{string_bytes};
 ghost use Rattle.sn_io.specs.Told.{appended};
 ghost use Rattle.sn_top.specs.Seen.{GotLine, seen_file, seen_sink};
@@ -40,6 +40,9 @@ fn run_once<F: Files, O: Sink>(
         (seen_file F.bytes_of F.faults files.old files.new source_name.now)
         (seen_file F.bytes_of F.faults files.old files.new input_name.now)
         (seen_sink O.held O.faults out.old out.new)) }
+    ensures same { (name : List ℕ) → F.bytes_of files.new name ≡ F.bytes_of files.old name }
+    ensures later { (name : List ℕ) → F.faults files.old name ≤ F.faults files.new name }
+    ensures out_later { O.faults out.old ≤ O.faults out.new }
 {
     let source = read_file(alloc, files, Which::Source, source_name, SOURCE_LIMIT)?;
     let program = load_source(alloc, source.as_slice())?;
@@ -62,6 +65,9 @@ fn run_print<F: Files, O: Sink>(
     ensures stopped { IfErr result (WhyUnprinted
         (seen_file F.bytes_of F.faults files.old files.new source_name.now)
         (seen_sink O.held O.faults out.old out.new)) }
+    ensures same { (name : List ℕ) → F.bytes_of files.new name ≡ F.bytes_of files.old name }
+    ensures later { (name : List ℕ) → F.faults files.old name ≤ F.faults files.new name }
+    ensures out_later { O.faults out.old ≤ O.faults out.new }
 {
     let source = read_file(alloc, files, Which::Source, source_name, SOURCE_LIMIT)?;
     let text = canonical_text(alloc, source.as_slice())?;
@@ -81,6 +87,9 @@ fn run<F: Files, O: Sink>(
     ensures stopped { IfErr result (WhyEnded command.now
         (seen_file F.bytes_of F.faults files.old files.new)
         (seen_sink O.held O.faults out.old out.new)) }
+    ensures same { (name : List ℕ) → F.bytes_of files.new name ≡ F.bytes_of files.old name }
+    ensures later { (name : List ℕ) → F.faults files.old name ≤ F.faults files.new name }
+    ensures out_later { O.faults out.old ≤ O.faults out.new }
 {
     match command {
         Command::Once { source, input, .. } => {
@@ -92,7 +101,8 @@ fn run<F: Files, O: Sink>(
 
 /// Writes the line that tells why a command stopped.
 fn tell<E: Sink>(command: &Command, stop: &Stop, err: &mut E)
-    ensures { GotLine (seen_sink E.held E.faults err.old err.new) (stop_line stop.now (source_of command.now) (input_of command.now)) }
+    ensures got { GotLine (seen_sink E.held E.faults err.old err.new) (stop_line stop.now (source_of command.now) (input_of command.now)) }
+    ensures err_later { E.faults err.old ≤ E.faults err.new }
 {
     let mut buffer = Buffer::new();
     let place = buffer.format(stop.place()).as_bytes();
@@ -117,6 +127,10 @@ pub fn serve_plain<F: Files, O: Sink, E: Sink>(
         → IsCutShort command.now (seen F.bytes_of F.faults O.held O.faults E.held E.faults files.old files.new out.old out.new err.old err.new) }
     ensures write { result ≡ Status.Write
         → IsUnwritten command.now (seen F.bytes_of F.faults O.held O.faults E.held E.faults files.old files.new out.old out.new err.old err.new) }
+    ensures same { (name : List ℕ) → F.bytes_of files.new name ≡ F.bytes_of files.old name }
+    ensures later { (name : List ℕ) → F.faults files.old name ≤ F.faults files.new name }
+    ensures out_later { O.faults out.old ≤ O.faults out.new }
+    ensures err_later { E.faults err.old ≤ E.faults err.new }
 {
     match run(alloc, command, files, out) {
         Ok(()) => Status::Ok,
@@ -145,6 +159,10 @@ pub fn serve_words<R: Threads + Wait + Sync, F: Files, O: Sink, E: Sink, G: Gate
         → IsCutShortFor (command_of (map string_bytes words.now)) (seen F.bytes_of F.faults O.held O.faults E.held E.faults files.old files.new out.old out.new err.old err.new) }
     ensures write { result ≡ Status.Write
         → OfCommand IsUnwritten (command_of (map string_bytes words.now)) (seen F.bytes_of F.faults O.held O.faults E.held E.faults files.old files.new out.old out.new err.old err.new) }
+    ensures same { (name : List ℕ) → F.bytes_of files.new name ≡ F.bytes_of files.old name }
+    ensures later { (name : List ℕ) → F.faults files.old name ≤ F.faults files.new name }
+    ensures out_later { O.faults out.old ≤ O.faults out.new }
+    ensures err_later { E.faults err.old ≤ E.faults err.new }
 {
     match read_words(alloc, words) {
         Ok(command) => serve_plain(alloc, &command, files, out, err),
