@@ -35,6 +35,6 @@ operator_text Ge = codes " >= "
 operator_text Eq = codes " == "
 operator_text Ne = codes " != "
 
--- a text that is there only sometimes
+-- an operator, which is doubled where it is deterministic
 abbrev pub chosen : Bool → List ℕ → List ℕ → List ℕ
 chosen det doubled single = if det then doubled else single
