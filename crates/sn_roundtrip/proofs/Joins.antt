@@ -36,7 +36,7 @@ any_then P (d ∷ table) c here all =
     ] refl here
 
 -- what holds of each pair of the table holds of a symbol of two characters
-pair_then : (P : List ℕ → Bool) (a b : ℕ) → is_symbol (a ∷ b ∷ []) ≡ true → list_all P (map (λ c. c ∷ []) lone_symbols) ≡ true → list_all P paired_symbols ≡ true → P (a ∷ b ∷ []) ≡ true
+pub pair_then : (P : List ℕ → Bool) (a b : ℕ) → is_symbol (a ∷ b ∷ []) ≡ true → list_all P (map (λ c. c ∷ []) lone_symbols) ≡ true → list_all P paired_symbols ≡ true → P (a ∷ b ∷ []) ≡ true
 unfolding is_symbol
 pair_then P a b h lone paired =
     elim (is_among (map (λ c. c ∷ []) lone_symbols) (a ∷ b ∷ [])) as (λ t. is_among (map (λ c. c ∷ []) lone_symbols) (a ∷ b ∷ []) ≡ t → (t || is_among paired_symbols (a ∷ b ∷ [])) ≡ true → P (a ∷ b ∷ []) ≡ true) [
@@ -270,7 +270,3 @@ wholly x = record {
   said = λ p us. x.said p us;
   tells = λ all p rest us stands ends told. x.tells all p rest us stands tt told;
 }
-
--- do the tests compute?
-probe_one : adjoin (After 61) (Exactly 40) ≡ true
-probe_one = refl

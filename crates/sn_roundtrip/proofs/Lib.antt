@@ -1,3 +1,5 @@
 pub mod Spans
 pub mod Words
 pub mod Joins
+pub mod Singles
+pub mod Telling
