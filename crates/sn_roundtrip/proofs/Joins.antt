@@ -1,21 +1,20 @@
 -- Two texts that may stand side by side are one text, and what a text begins with may be said less exactly.
-use Rattle.std.proofs.Common.{◌≡◌, ℕ, ◌+◌, ◌<◌, ◌≤◌, ◌==◌, ◌||◌, ◌&&◌, Bool, true, false, not, nat_lt, IsTrue, List, [], ◌∷◌, ◌++◌, length, length-append, append_assoc, map, refl, sym, ap, ◌∙◌, subst, inl, inr, arith}
+use Rattle.std.proofs.Common.{◌≡◌, ℕ, ◌+◌, ◌<◌, ◌≤◌, ◌==◌, ◌||◌, ◌&&◌, Bool, true, false, not, nat_lt, List, [], ◌∷◌, ◌++◌, length, length-append, append_assoc, map, refl, sym, ap, ◌∙◌, subst, arith}
 use Rattle.std.specs.Prelude.{encode_utf8_all}
 use Rattle.std.specs.Char.{is_ascii_digit, is_ascii_alphanumeric}
 use Rattle.std.specs.List.{list_any, list_all}
 use Rattle.std.specs.Str.{all_scalars}
-use Rattle.std.proofs.lemmas.Bool.{false≢true, and_parts, and_from, or_parts, or_from, or_left, not-true, ltb-true, eqb-true, eqb-false, cases_lt}
+use Rattle.std.proofs.lemmas.Bool.{false≢true, and_parts, and_from, or_from, or_right, not-true, ltb-true, eqb-true}
 use Rattle.std.proofs.lemmas.Bool.Decides.{nat_tests}
 use Rattle.std.proofs.lemmas.Str.{encodes-append}
-use Rattle.unicode_ident.specs.Ident.{is_xid_continue}
 use Rattle.unicode_ident.proofs.IdentLemmas.{is_xid_continue-ascii}
 use Rattle.sn_ast.specs.declared.terminal.Terminal.{Terminal}
-use Rattle.sn_lexer.specs.Fronts.{Stops, BeginsNoTag}
+use Rattle.sn_lexer.specs.Fronts.{BeginsNoTag}
 use Rattle.sn_lexer.specs.Gaps.{is_blank, opens_comment}
 use Rattle.sn_lexer.specs.Lexes.{width}
 use Rattle.sn_lexer.specs.Spelling.{is_among, is_symbol, starts_name, lone_symbols, paired_symbols}
 use Rattle.sn_lexer.proofs.Heads.{mark_is, symbol_second, starts_above}
-use Rattle.sn_lexer.proofs.Symbols.{NoPair, no_pair_at}
+use Rattle.sn_lexer.proofs.Symbols.{no_pair_at}
 use Rattle.sn_lexer.proofs.Tables.{among_then, pair_is}
 use Rattle.sn_lexer.proofs.Tags.{no_tag_open, no_tag_name}
 use Rattle.sn_lexer.proofs.WordKinds.{fails}
@@ -104,11 +103,11 @@ bang_follows a c rest other no_bang bang =
     after_follows a c rest (bang_ends_none a c bang no_bang) (no_tag_open (a ∷ c ∷ rest) other)
     (no_comment_at a c rest (ap is_opener bang))
 
-mild_follows : (a c : ℕ) (rest : List ℕ) → (a == 60) ≡ false → (a == 33) ≡ false → (is_calm c || (c == 33)) ≡ true → Follows (After a) (c ∷ rest)
+mild_follows : (a c : ℕ) (rest : List ℕ) → (a == 60) ≡ false → (a == 33) ≡ false → ((c == 33) || is_calm c) ≡ true → Follows (After a) (c ∷ rest)
 mild_follows a c rest other no_bang mild =
-    elim (is_calm c) as (λ b. is_calm c ≡ b → (b || (c == 33)) ≡ true → Follows (After a) (c ∷ rest)) [
-      | true ↦ λ calm h. calm_follows a c rest other calm
-      | false ↦ λ no_calm h. bang_follows a c rest other no_bang (eqb-true c 33 h)
+    elim (c == 33) as (λ b. (c == 33) ≡ b → (b || is_calm c) ≡ true → Follows (After a) (c ∷ rest)) [
+      | true ↦ λ bang h. bang_follows a c rest other no_bang (eqb-true c 33 bang)
+      | false ↦ λ no_mark calm. calm_follows a c rest other calm
     ] refl mild
 
 blank_below : (c : ℕ) → is_blank c ≡ true → c ≤ 32
@@ -225,11 +224,11 @@ exactly_calm c (d ∷ cs) calm h = ap is_calm h ∙ calm
 
 pub calm_mild : (cs : List ℕ) → Begins Calm cs → Begins Mild cs
 calm_mild [] h = h
-calm_mild (d ∷ cs) h = or_left _ _ h
+calm_mild (d ∷ cs) h = or_right _ _ h
 
-pub exactly_mild : (c : ℕ) (cs : List ℕ) → (is_calm c || (c == 33)) ≡ true → Begins (Exactly c) cs → Begins Mild cs
+pub exactly_mild : (c : ℕ) (cs : List ℕ) → ((c == 33) || is_calm c) ≡ true → Begins (Exactly c) cs → Begins Mild cs
 exactly_mild c [] mild h = h
-exactly_mild c (d ∷ cs) mild h = ap (λ x. is_calm x || (x == 33)) h ∙ mild
+exactly_mild c (d ∷ cs) mild h = ap (λ x. (x == 33) || is_calm x) h ∙ mild
 
 abbrev pub calmly : {c : ℕ} {e : End} {t : List ℕ} → is_calm c ≡ true → Span (Exactly c) e t → Span Calm e t
 calmly {c} calm x = record {
@@ -251,7 +250,7 @@ mildly x = record {
   tells = x.tells;
 }
 
-abbrev pub mildly_exact : {c : ℕ} {e : End} {t : List ℕ} → (is_calm c || (c == 33)) ≡ true → Span (Exactly c) e t → Span Mild e t
+abbrev pub mildly_exact : {c : ℕ} {e : End} {t : List ℕ} → ((c == 33) || is_calm c) ≡ true → Span (Exactly c) e t → Span Mild e t
 mildly_exact {c} mild x = record {
   piece = x.piece;
   scalar = x.scalar;

@@ -1,9 +1,9 @@
 -- The text of each single word, and a blank.
-use Rattle.std.proofs.Common.{◌≡◌, ℕ, ◌+◌, ◌-◌, ◌<◌, ◌≤◌, ◌==◌, ◌||◌, ◌&&◌, Bool, true, false, not, nat_lt, pos, IsTrue, List, [], ◌∷◌, ◌++◌, length, append_assoc, take, drop, map, codes, refl, sym, ap, ◌∙◌, subst, arith}
+use Rattle.std.proofs.Common.{◌≡◌, ℕ, ◌-◌, ◌<◌, ◌≤◌, ◌==◌, ◌||◌, ◌&&◌, Bool, true, false, pos, List, [], ◌∷◌, ◌++◌, append_assoc, take, drop, codes, refl, sym, ap, ◌∙◌, subst, arith}
 use Rattle.std.specs.Prelude.{encode_utf8_all, if◌then◌else◌}
 use Rattle.std.specs.Fmt.{decimal}
 use Rattle.std.specs.Char.{is_ascii_digit, digit_value}
-use Rattle.std.specs.List.{list_any, list_all, flat_map}
+use Rattle.std.specs.List.{list_any, list_all}
 use Rattle.std.specs.Str.{all_scalars}
 use Rattle.std.specs.Str.Parse.{digits_value, AllDigits, IsNumeral}
 use Rattle.std.proofs.lemmas.Bool.{false≢true, and_parts, and_from, or_left, or_right, ltb-true, eqb-true}
@@ -17,14 +17,12 @@ use Rattle.sn_ast.specs.declared.terminal.Symbol.{Symbol}
 use Rattle.sn_ast.specs.declared.terminal.Symbol.TheVariants.{OpenParen, CloseParen, OpenBrace, CloseBrace, OpenBracket, CloseBracket, OpenSync, CloseSync, Comma, Semicolon, Colon, Assign, Equal, NotEqual, Less, LessEqual, Greater, GreaterEqual, Plus, Minus, Star, Slash, Percent, AndAnd, BarBar, Bar, Bang, BangBang, StarStar, Dots, Arrow, Question}
 use Rattle.sn_ast.specs.declared.terminal.Terminal.{Terminal}
 use Rattle.sn_ast.specs.declared.terminal.Terminal.TheVariants as terminal
-use Rattle.sn_lexer.specs.Fronts.{Stops, BeginsNoTag}
 use Rattle.sn_lexer.specs.Gaps.{is_blank, opens_comment}
 use Rattle.sn_lexer.specs.Gaps.IsGap.{blank}
-use Rattle.sn_lexer.specs.Lexes.{width, place, IsToken, token_at, Lexes}
+use Rattle.sn_lexer.specs.Lexes.{width, place, IsToken, token_at}
 use Rattle.sn_lexer.specs.Lexes.Lexes.{gap as lex_gap, token as lex_token}
 use Rattle.sn_lexer.specs.Placed.{spelling}
-use Rattle.sn_lexer.specs.Spelling.{Spells, IsTag, IsText, is_identifier, is_name, is_keyword, is_symbol, is_among, lone_symbols, paired_symbols, is_numeral, is_printable, is_escapable, escaped, quoted, starts_name}
-use Rattle.sn_lexer.specs.declared.token.Token.{Token}
+use Rattle.sn_lexer.specs.Spelling.{IsText, is_name, is_keyword, is_symbol, is_numeral, is_printable, is_escapable, escaped, quoted}
 use Rattle.sn_lexer.specs.declared.token.TokenKind.{TokenKind}
 use Rattle.sn_lexer.specs.declared.token.TokenKind.TheVariants as kind
 use Rattle.sn_lexer.proofs.Contents.{written}
@@ -35,9 +33,9 @@ use Rattle.sn_lexer.proofs.Symbols.{NoPair}
 use Rattle.sn_lexer.proofs.Tags.{no_tag_open}
 use Rattle.sn_lexer.proofs.Tokens.{tag_token, text_token, numeral_token}
 use Rattle.sn_lexer.proofs.WordKinds.{fails, name_starts, identifier_name}
-use Rattle.sn_terminal.specs.Words.{keyword_word, symbol_word, bracketed, Says, name, tag, number, literal, keyword, symbol, Say}
+use Rattle.sn_terminal.specs.Words.{keyword_word, symbol_word, bracketed, Says, name, tag, number, literal, keyword, symbol}
 use Rattle.sn_terminal.proofs.Bytes.{number_bytes, numeral_digits, text_bytes, tag_bytes, keyword_bytes, symbol_bytes}
-use Rattle.sn_roundtrip.proofs.Spans.{Begin, Calm, Mild, Exactly, End, Free, Whole, After, is_calm, Begins, Follows, Stands, Told, Span}
+use Rattle.sn_roundtrip.proofs.Spans.{Calm, Exactly, End, Free, Whole, After, Begins, Follows, Stands, Told, Span}
 use Rattle.sn_roundtrip.proofs.Words.{IsIdentifier}
 use Rattle.sn_roundtrip.proofs.Joins.{scalars_append, width_append, pair_then}
 

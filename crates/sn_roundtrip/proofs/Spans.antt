@@ -1,5 +1,5 @@
 -- Texts that are read as terminals wherever they stand, and how they are put together.
-use Rattle.std.proofs.Common.{◌≡◌, ℕ, ◌+◌, ◌==◌, ◌||◌, ◌&&◌, Bool, true, false, not, nat_eq, IsTrue, List, [], ◌∷◌, ◌++◌, length}
+use Rattle.std.proofs.Common.{◌≡◌, ℕ, ◌==◌, ◌||◌, ◌&&◌, Bool, true, false, not, nat_eq, IsTrue, List, [], ◌∷◌, ◌++◌}
 use Rattle.std.specs.Prelude.{encode_utf8_all}
 use Rattle.std.specs.Char.{is_ascii_digit}
 use Rattle.std.specs.List.{list_any}
@@ -32,7 +32,7 @@ is_calm c = list_any (λ d. d == c) (34 ∷ 40 ∷ 45 ∷ 60 ∷ 91 ∷ 123 ∷ 
 abbrev pub Begins : Begin → List ℕ → Type 0
 Begins b [] = ⊥
 Begins Calm (c ∷ cs) = IsTrue (is_calm c)
-Begins Mild (c ∷ cs) = IsTrue (is_calm c || (c == 33))
+Begins Mild (c ∷ cs) = IsTrue ((c == 33) || is_calm c)
 Begins (Exactly d) (c ∷ cs) = c ≡ d
 
 abbrev pub Follows : End → List ℕ → Type 0

@@ -1,5 +1,5 @@
 -- A text that stands alone has tokens that say its terminals, and what the tokens of a source say are words.
-use Rattle.std.proofs.Common.{◌≡◌, ℕ, ◌≤◌, ◌&&◌, Bool, true, false, not, pos, List, [], ◌∷◌, ◌++◌, length, append_assoc, append-nil, refl, sym, ap, ◌∙◌, subst, arith}
+use Rattle.std.proofs.Common.{◌≡◌, ℕ, ◌≤◌, true, List, [], ◌∷◌, ◌++◌, length, append_assoc, append-nil, refl, sym, ap, ◌∙◌, subst}
 use Rattle.std.specs.Prelude.{encode_utf8_all}
 use Rattle.std.specs.List.{list_all}
 use Rattle.std.specs.Str.{IsUtf8, all_scalars, chars}
@@ -7,22 +7,20 @@ use Rattle.std.specs.Str.Parse.{digits_value}
 use Rattle.std.proofs.lemmas.Bool.{and_parts, and_from}
 use Rattle.std.proofs.lemmas.Str.{chars_from_encodes, encodes-chars, scalars-chars}
 use Rattle.sn_ast.specs.declared.terminal.Terminal.{Terminal}
-use Rattle.sn_ast.specs.declared.terminal.Terminal.TheVariants as terminal
 use Rattle.sn_lexer.specs.Answer.{LexesAs}
 use Rattle.sn_lexer.specs.Lexes.{width, IsToken, token_at, Lexes}
 use Rattle.sn_lexer.specs.Lexes.Lexes.{end, gap, token}
 use Rattle.sn_lexer.specs.Placed.{spelling}
-use Rattle.sn_lexer.specs.Spelling.{Spells, IsWithinLimit, IsTag, IsText, is_identifier, is_printable, quoted}
+use Rattle.sn_lexer.specs.Spelling.{Spells, IsWithinLimit, is_printable}
 use Rattle.sn_lexer.specs.declared.token.Token.{Token}
 use Rattle.sn_lexer.specs.declared.token.TokenKind.{TokenKind}
-use Rattle.sn_lexer.specs.declared.token.TokenKind.TheVariants as kind
 use Rattle.sn_lexer.proofs.Passing.{gap_passed}
-use Rattle.sn_terminal.specs.Words.{bracketed, Says, name, tag, number, literal, keyword, symbol, Say}
+use Rattle.sn_terminal.specs.Words.{Says, name, tag, number, literal, keyword, symbol, Say}
 use Rattle.sn_terminal.proofs.Bytes.{number_bytes, text_bytes, tag_bytes}
 use Rattle.sn_terminal.proofs.Contents.{same_inside, written_once}
 use Rattle.sn_roundtrip.proofs.Spans.{Begin, End, Follows, Stands, Told, Span}
-use Rattle.sn_roundtrip.proofs.Words.{IsIdentifier, IsWord, AreWords}
-use Rattle.sn_roundtrip.proofs.Singles.{IsAt, is_at}
+use Rattle.sn_roundtrip.proofs.Words.{IsWord, AreWords}
+use Rattle.sn_roundtrip.proofs.Singles.{is_at}
 
 pub told_text : {b : Begin} {e : End} {text : List ℕ} (s : Span b e text) → Follows e [] → (tokens : List Token) × LexesAs text tokens × Say text tokens (s.said 0 [])
 told_text {text} s ends =
