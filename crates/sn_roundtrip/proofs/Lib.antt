@@ -1,3 +1,7 @@
 pub mod Spans
 pub mod Words
-pub mod Try
+pub mod Joins
+pub mod Singles
+pub mod Telling
+pub mod Rereads
+pub mod Tags

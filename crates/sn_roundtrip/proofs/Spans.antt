@@ -1,5 +1,5 @@
 -- Texts that are read as terminals wherever they stand, and how they are put together.
-use Rattle.std.proofs.Common.{◌≡◌, ℕ, ◌+◌, ◌==◌, ◌||◌, ◌&&◌, Bool, true, false, not, IsTrue, List, [], ◌∷◌, ◌++◌, length}
+use Rattle.std.proofs.Common.{◌≡◌, ℕ, ◌==◌, ◌||◌, ◌&&◌, Bool, true, false, not, nat_eq, IsTrue, List, [], ◌∷◌, ◌++◌}
 use Rattle.std.specs.Prelude.{encode_utf8_all}
 use Rattle.std.specs.Char.{is_ascii_digit}
 use Rattle.std.specs.List.{list_any}
@@ -9,7 +9,7 @@ use Rattle.sn_ast.specs.declared.terminal.Terminal.{Terminal}
 use Rattle.sn_lexer.specs.Fronts.{Stops, BeginsNoTag}
 use Rattle.sn_lexer.specs.Gaps.{is_blank, opens_comment}
 use Rattle.sn_lexer.specs.Lexes.{width, Lexes}
-use Rattle.sn_lexer.specs.Spelling.{is_symbol, starts_name}
+use Rattle.sn_lexer.specs.Spelling.{starts_name}
 use Rattle.sn_lexer.specs.declared.token.Token.{Token}
 use Rattle.sn_lexer.proofs.Symbols.{NoPair}
 use Rattle.sn_terminal.specs.Words.{Say}
@@ -32,7 +32,7 @@ is_calm c = list_any (λ d. d == c) (34 ∷ 40 ∷ 45 ∷ 60 ∷ 91 ∷ 123 ∷ 
 abbrev pub Begins : Begin → List ℕ → Type 0
 Begins b [] = ⊥
 Begins Calm (c ∷ cs) = IsTrue (is_calm c)
-Begins Mild (c ∷ cs) = IsTrue (is_calm c || (c == 33))
+Begins Mild (c ∷ cs) = IsTrue ((c == 33) || is_calm c)
 Begins (Exactly d) (c ∷ cs) = c ≡ d
 
 abbrev pub Follows : End → List ℕ → Type 0
@@ -44,6 +44,10 @@ Follows (After a) rest = NoPair a rest × BeginsNoTag (a ∷ rest) × (opens_com
 abbrev pub parts_names : ℕ → Bool
 parts_names c = is_blank c || list_any (λ d. d == c) (33 ∷ 34 ∷ 40 ∷ 41 ∷ 44 ∷ 59 ∷ 61 ∷ 91 ∷ 93 ∷ 123 ∷ 124 ∷ 125 ∷ [])
 
+-- the symbols of two characters, as a test that computes
+abbrev pub is_pair : ℕ → ℕ → Bool
+is_pair a c = list_any (λ (p : ℕ × ℕ). nat_eq p.0 a && nat_eq p.1 c) ((91, 124) ∷ (124, 93) ∷ (61, 61) ∷ (33, 61) ∷ (60, 61) ∷ (62, 61) ∷ (38, 38) ∷ (124, 124) ∷ (33, 33) ∷ (42, 42) ∷ (46, 46) ∷ (45, 62) ∷ [])
+
 -- the two may stand side by side
 abbrev pub adjoin : End → Begin → Bool
 adjoin Free b = true
@@ -52,7 +56,7 @@ adjoin Whole Calm = false
 adjoin Whole Mild = false
 adjoin (After a) Calm = not (a == 60)
 adjoin (After a) Mild = not (a == 60) && not (a == 33)
-adjoin (After a) (Exactly c) = is_blank c || (not (a == 60) && (not (is_symbol (a ∷ c ∷ [])) && not (opens_comment (a ∷ c ∷ []))))
+adjoin (After a) (Exactly c) = is_blank c || (not (a == 60) && (not (is_pair a c) && not (opens_comment (a ∷ c ∷ []))))
 
 -- `cs` stands in the characters at the place p
 pub record Stands (all : List ℕ) (p : ℕ) (cs : List ℕ) : Type 0 where
