@@ -4,4 +4,6 @@ pub mod Joins
 pub mod Singles
 pub mod Telling
 pub mod Rereads
+pub mod Rows
+pub mod Labels
 pub mod Tags

@@ -35,7 +35,8 @@ use Rattle.sn_lexer.proofs.Tokens.{tag_token, text_token, numeral_token}
 use Rattle.sn_lexer.proofs.WordKinds.{fails, name_starts, identifier_name}
 use Rattle.sn_terminal.specs.Words.{keyword_word, symbol_word, bracketed, Says, name, tag, number, literal, keyword, symbol}
 use Rattle.sn_terminal.proofs.Bytes.{number_bytes, numeral_digits, text_bytes, tag_bytes, keyword_bytes, symbol_bytes}
-use Rattle.sn_roundtrip.proofs.Spans.{Calm, Exactly, End, Free, Whole, After, Begins, Follows, Stands, Told, Span}
+use Rattle.sn_roundtrip.proofs.Joins.{before}
+use Rattle.sn_roundtrip.proofs.Spans.{Calm, Exactly, End, Free, Whole, After, Begins, Follows, Stands, Told, Span, adjoin}
 use Rattle.sn_roundtrip.proofs.Words.{IsIdentifier}
 use Rattle.sn_roundtrip.proofs.Joins.{scalars_append, width_append, pair_then}
 
@@ -404,3 +405,15 @@ literal_span content h = record {
   said = λ p us. terminal.Literal content p ∷ us;
   tells = literal_tells content h;
 }
+
+-- a symbol between blanks
+abbrev pub spaced_text : Symbol → List ℕ
+spaced_text s = 32 ∷ (symbol_word s ++ 32 ∷ [])
+
+pub blank_fits : (e : End) → adjoin e (Exactly 32) ≡ true
+blank_fits Free = refl
+blank_fits Whole = refl
+blank_fits (After a) = refl
+
+abbrev pub spaced : (s : Symbol) → Span (Exactly 32) Free (spaced_text s)
+spaced s = before (gap 32 refl) (before (symbol_span s) (gap 32 refl) (blank_fits (symbol_end s))) refl
