@@ -17,8 +17,8 @@ use Rattle.sn_lexer.proofs.Heads.{mark_is, symbol_second, starts_above}
 use Rattle.sn_lexer.proofs.Symbols.{no_pair_at}
 use Rattle.sn_lexer.proofs.Tables.{among_then, pair_is}
 use Rattle.sn_lexer.proofs.Tags.{no_tag_open, no_tag_name}
-use Rattle.sn_lexer.proofs.WordKinds.{fails}
-use Rattle.sn_roundtrip.proofs.Spans.{Begin, Calm, Mild, Exactly, End, Free, Whole, After, is_calm, Begins, Follows, parts_names, adjoin, is_pair, Stands, Told, Span}
+use Rattle.sn_lexer.proofs.WordKinds.{fails, digit_above}
+use Rattle.sn_roundtrip.proofs.Spans.{HeadAt, Heads, Begin, Calm, Mild, Exactly, End, Free, Whole, After, is_calm, Begins, Follows, parts_names, adjoin, is_pair, Stands, Told, Span}
 
 pub scalars_append : (xs ys : List ℕ) → all_scalars xs ≡ true → all_scalars ys ≡ true → all_scalars (xs ++ ys) ≡ true
 scalars_append [] ys p q = q
@@ -208,6 +208,11 @@ tells_both {c} {e} {s} x y beside all p rest us stands ends told =
     let whole = x.tells all p (y.piece ++ rest) (y.said (p + length s) us) here (follows e c y.piece rest beside y.begins) second in
     subst (λ cs. Told all cs (x.said p (y.said (p + length s) us))) (sym assoc) whole
 
+pub heads_both : (b : Begin) (said : ℕ → List Terminal → List Terminal) (more : ℕ → List Terminal → List Terminal) → Heads b said → Heads b (λ p us. said p (more p us))
+heads_both Calm said more h = λ p us. h p (more p us)
+heads_both Mild said more h = λ p us. h p (more p us)
+heads_both (Exactly c) said more h = λ no p us. h no p (more p us)
+
 abbrev pub before : {b c : Begin} {e f : End} {s t : List ℕ} → Span b e s → Span c f t → adjoin e c ≡ true → Span b f (s ++ t)
 before {b} {c} {e} {f} {s} {t} x y beside = record {
   piece = x.piece ++ y.piece;
@@ -215,6 +220,7 @@ before {b} {c} {e} {f} {s} {t} x y beside = record {
   encoded = encoded_append x.piece y.piece s t x.encoded y.encoded;
   begins = begins_append b x.piece y.piece x.begins;
   said = λ p us. x.said p (y.said (p + length s) us);
+  heads = heads_both b x.said (λ p us. y.said (p + length s) us) x.heads;
   tells = tells_both x y beside;
 }
 
@@ -230,6 +236,28 @@ pub exactly_mild : (c : ℕ) (cs : List ℕ) → ((c == 33) || is_calm c) ≡ tr
 exactly_mild c [] mild h = h
 exactly_mild c (d ∷ cs) mild h = ap (λ x. (x == 33) || is_calm x) h ∙ mild
 
+-- what begins calmly begins with no blank
+abbrev above : ℕ → Bool
+above c = nat_lt 33 c
+
+mark_above : (c : ℕ) → is_calm_mark c ≡ true → 33 < c
+mark_above c h = ltb-true 33 c (any_then above (34 ∷ 40 ∷ 45 ∷ 60 ∷ 91 ∷ 123 ∷ []) c h refl)
+
+pub calm_no_blank : (c : ℕ) → is_calm c ≡ true → is_blank c ≡ false
+calm_no_blank c calm = fails (is_blank c) (λ h.
+    let low = blank_below c h in
+    false≢true (sym (no_calm c
+        (fails (is_calm_mark c) (λ m. let high = mark_above c m in omega arith))
+        (fails (is_ascii_digit c) (λ d. let high = digit_above c d in omega arith))
+        (fails (starts_name c) (λ n. let high = starts_above c n in omega arith))) ∙ calm))
+
+pub mild_no_blank : (c : ℕ) → ((c == 33) || is_calm c) ≡ true → is_blank c ≡ false
+mild_no_blank c mild =
+    elim (c == 33) as (λ b. (c == 33) ≡ b → (b || is_calm c) ≡ true → is_blank c ≡ false) [
+      | true ↦ λ bang h. ap is_blank (eqb-true c 33 bang)
+      | false ↦ λ other h. calm_no_blank c h
+    ] refl mild
+
 abbrev pub calmly : {c : ℕ} {e : End} {t : List ℕ} → is_calm c ≡ true → Span (Exactly c) e t → Span Calm e t
 calmly {c} calm x = record {
   piece = x.piece;
@@ -237,6 +265,7 @@ calmly {c} calm x = record {
   encoded = x.encoded;
   begins = exactly_calm c x.piece calm x.begins;
   said = λ p us. x.said p us;
+  heads = x.heads (calm_no_blank c calm);
   tells = x.tells;
 }
 
@@ -247,6 +276,7 @@ mildly x = record {
   encoded = x.encoded;
   begins = calm_mild x.piece x.begins;
   said = λ p us. x.said p us;
+  heads = x.heads;
   tells = x.tells;
 }
 
@@ -257,6 +287,7 @@ mildly_exact {c} mild x = record {
   encoded = x.encoded;
   begins = exactly_mild c x.piece mild x.begins;
   said = λ p us. x.said p us;
+  heads = x.heads (mild_no_blank c mild);
   tells = x.tells;
 }
 
@@ -267,5 +298,6 @@ wholly x = record {
   encoded = x.encoded;
   begins = x.begins;
   said = λ p us. x.said p us;
+  heads = heads_both _ x.said (λ p us. us) x.heads;
   tells = λ all p rest us stands ends told. x.tells all p rest us stands tt told;
 }

@@ -22,9 +22,9 @@ use Rattle.sn_print.specs.Words.{in_angles}
 use Rattle.sn_roundtrip.specs.Unplaced.{unplaced_ident, unplaced_label, unplaced_variant, unplaced_tuple, unplaced_part, unplaced_sig}
 use Rattle.sn_roundtrip.proofs.Joins.{before, calmly, mildly, mildly_exact, wholly}
 use Rattle.sn_roundtrip.proofs.Rereads.{Readable, Reread, reread, Shows, same_two}
-use Rattle.sn_roundtrip.proofs.Rows.{RowOf, GoodRow, row_begins, row_goes_on}
+use Rattle.sn_roundtrip.proofs.Rows.{RowOf, GoodRow, row_begins, row_goes_on, calm_head}
 use Rattle.sn_roundtrip.proofs.Singles.{symbol_span, name_span, tag_span, spaced}
-use Rattle.sn_roundtrip.proofs.Spans.{Begin, Calm, Mild, Exactly, End, Free, Whole, After, Span, adjoin}
+use Rattle.sn_roundtrip.proofs.Spans.{HeadAt, Begin, Calm, Mild, Exactly, End, Free, Whole, After, Span, adjoin}
 use Rattle.sn_roundtrip.proofs.Words.{IsIdentifier, IsWord, AreWords}
 
 -- what is read again is the same apart from places
@@ -70,18 +70,18 @@ good_label (terminal.Symbol s at) l is w = cc
 abbrev GoodLabels : Bracket → List LabelAt → Type 0
 GoodLabels b row = GoodRow Calm Whole (codes ",") label_text (Labels b) (MoreLabels b) row (SameRow unplaced_label row)
 
-labels_begin : (b : Bracket) (l : LabelAt) (ts us : List Terminal) (w : List LabelAt) (vs : List Terminal) → IsLabel ts l us → MoreLabels b (l ∷ []) us w vs → Labels b ts w vs
-labels_begin b l ts us w vs (one_label is) k = labels is k
+labels_begin : (b : Bracket) (p : ℕ) (l : LabelAt) (ts us : List Terminal) (w : List LabelAt) (vs : List Terminal) → HeadAt p ts → IsLabel ts l us → MoreLabels b (l ∷ []) us w vs → Labels b ts w vs
+labels_begin b p l ts us w vs h (one_label is) k = labels is k
 
 labels_go_on : (b : Bracket) (q : ℕ) (row : List LabelAt) (l : LabelAt) (ts us : List Terminal) (w : List LabelAt) (vs : List Terminal) → IsLabel ts l us →
     MoreLabels b (row ++ (l ∷ [])) us w vs → MoreLabels b row (terminal.Symbol symbol.Comma q ∷ ts) w vs
 labels_go_on b q row l ts us w vs (one_label is) k = more_labels is k
 
 first_label : (b : Bracket) (l : LabelAt) → GoodLabel l → GoodLabels b (l ∷ [])
-first_label b l x = row_begins (codes ",") label_text (Labels b) (MoreLabels b) (λ l. l ∷ []) (labels_begin b) (same_first unplaced_label l) x
+first_label b l x = row_begins (codes ",") label_text (Labels b) (MoreLabels b) (λ p l. l ∷ []) (labels_begin b) (λ p. same_first unplaced_label l) calm_head x
 
 next_label : (b : Bracket) (row : List LabelAt) (l : LabelAt) → GoodLabels b row → GoodLabel l → GoodLabels b (row ++ (l ∷ []))
-next_label b row l r x = row_goes_on (codes ",") label_text (Labels b) (MoreLabels b) (symbol_span symbol.Comma) refl append (labels_go_on b) (λ acc y. same_more unplaced_label row acc l y) r x
+next_label b row l r x = row_goes_on (codes ",") label_text (Labels b) (MoreLabels b) (MoreLabels b) (symbol_span symbol.Comma) refl (λ q. append) (labels_go_on b) (λ q acc y. same_more unplaced_label row acc l y) r x
 
 good_more_labels : (b : Bracket) {row all : List LabelAt} {ts us : List Terminal} → MoreLabels b row ts all us → GoodLabels b row → AreWords ts → GoodLabels b all × AreWords us
 good_more_labels b (last_label is) r w = (r, w.1)
@@ -166,18 +166,18 @@ good_part (named {name}) w = (record {
 abbrev pub GoodTypes : List TypePart → Type 0
 GoodTypes row = GoodRow Calm Whole (codes " | ") part_text Types MoreParts row (SameRow unplaced_part row)
 
-types_begin : (p : TypePart) (ts us : List Terminal) (w : List TypePart) (vs : List Terminal) → Part ts p us → MoreParts (p ∷ []) us w vs → Types ts w vs
-types_begin p ts us w vs d k = types d k
+types_begin : (at : ℕ) (p : TypePart) (ts us : List Terminal) (w : List TypePart) (vs : List Terminal) → HeadAt at ts → Part ts p us → MoreParts (p ∷ []) us w vs → Types ts w vs
+types_begin at p ts us w vs h d k = types d k
 
 types_go_on : (q : ℕ) (row : List TypePart) (p : TypePart) (ts us : List Terminal) (w : List TypePart) (vs : List Terminal) → Part ts p us →
     MoreParts (row ++ (p ∷ [])) us w vs → MoreParts row (terminal.Symbol symbol.Bar (q + 1) ∷ ts) w vs
 types_go_on q row p ts us w vs d k = more_parts d k
 
 first_part : (p : TypePart) → GoodPart p → GoodTypes (p ∷ [])
-first_part p x = row_begins (codes " | ") part_text Types MoreParts (λ p. p ∷ []) types_begin (same_first unplaced_part p) x
+first_part p x = row_begins (codes " | ") part_text Types MoreParts (λ at p. p ∷ []) types_begin (λ at. same_first unplaced_part p) calm_head x
 
 next_part : (row : List TypePart) (p : TypePart) → GoodTypes row → GoodPart p → GoodTypes (row ++ (p ∷ []))
-next_part row p r x = row_goes_on (codes " | ") part_text Types MoreParts (spaced symbol.Bar) refl append types_go_on (λ acc y. same_more unplaced_part row acc p y) r x
+next_part row p r x = row_goes_on (codes " | ") part_text Types MoreParts MoreParts (spaced symbol.Bar) refl (λ q. append) types_go_on (λ q acc y. same_more unplaced_part row acc p y) r x
 
 good_more_parts : {row all : List TypePart} {ts us : List Terminal} → MoreParts row ts all us → GoodTypes row → AreWords ts → GoodTypes all × AreWords us
 good_more_parts last_part r w = (r, w)

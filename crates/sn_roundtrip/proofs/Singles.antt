@@ -36,7 +36,7 @@ use Rattle.sn_lexer.proofs.WordKinds.{fails, name_starts, identifier_name}
 use Rattle.sn_terminal.specs.Words.{keyword_word, symbol_word, bracketed, Says, name, tag, number, literal, keyword, symbol}
 use Rattle.sn_terminal.proofs.Bytes.{number_bytes, numeral_digits, text_bytes, tag_bytes, keyword_bytes, symbol_bytes}
 use Rattle.sn_roundtrip.proofs.Joins.{before}
-use Rattle.sn_roundtrip.proofs.Spans.{Calm, Exactly, End, Free, Whole, After, Begins, Follows, Stands, Told, Span, adjoin}
+use Rattle.sn_roundtrip.proofs.Spans.{head_at, Calm, Exactly, End, Free, Whole, After, Begins, Follows, Stands, Told, Span, adjoin}
 use Rattle.sn_roundtrip.proofs.Words.{IsIdentifier}
 use Rattle.sn_roundtrip.proofs.Joins.{scalars_append, width_append, pair_then}
 
@@ -214,6 +214,7 @@ symbol_span s = record {
   encoded = symbol_encoded s;
   begins = symbol_begins s;
   said = λ p us. terminal.Symbol s p ∷ us;
+  heads = λ _ p us. head_at refl;
   tells = symbol_tells s;
 }
 
@@ -242,6 +243,7 @@ keyword_span k = record {
   encoded = keyword_encoded k;
   begins = keyword_begins k;
   said = λ p us. terminal.Keyword k p ∷ us;
+  heads = λ p us. head_at refl;
   tells = keyword_tells k;
 }
 
@@ -264,6 +266,7 @@ gap c h = record {
   encoded = gap_encoded c h;
   begins = refl;
   said = λ p us. us;
+  heads = λ no p us. absurd (false≢true (sym no ∙ h));
   tells = gap_tells c h;
 }
 
@@ -283,6 +286,7 @@ name_span {text} n = record {
   encoded = n.encoded;
   begins = name_calm n;
   said = λ p us. terminal.Name (record { text = text; at = p }) ∷ us;
+  heads = λ p us. head_at refl;
   tells = name_tells n;
 }
 
@@ -307,6 +311,7 @@ tag_span {text} n = record {
   encoded = tag_encoded n;
   begins = refl;
   said = λ p us. terminal.Tag (record { text = text; at = p }) ∷ us;
+  heads = λ p us. head_at refl;
   tells = tag_tells n;
 }
 
@@ -364,6 +369,7 @@ number_span n h = record {
   encoded = number_encoded n h;
   begins = number_begins n h;
   said = λ p us. terminal.Number (pos n) p ∷ us;
+  heads = λ p us. head_at refl;
   tells = number_tells n h;
 }
 
@@ -403,6 +409,7 @@ literal_span content h = record {
   encoded = literal_encoded content h;
   begins = refl;
   said = λ p us. terminal.Literal content p ∷ us;
+  heads = λ p us. head_at refl;
   tells = literal_tells content h;
 }
 

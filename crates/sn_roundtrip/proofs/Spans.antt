@@ -5,6 +5,7 @@ use Rattle.std.specs.Char.{is_ascii_digit}
 use Rattle.std.specs.List.{list_any}
 use Rattle.std.specs.Str.{all_scalars}
 use Rattle.unicode_ident.specs.Ident.{is_xid_continue}
+use Rattle.sn_ast.specs.Terminals.{place_of}
 use Rattle.sn_ast.specs.declared.terminal.Terminal.{Terminal}
 use Rattle.sn_lexer.specs.Fronts.{Stops, BeginsNoTag}
 use Rattle.sn_lexer.specs.Gaps.{is_blank, opens_comment}
@@ -70,6 +71,16 @@ pub record Told (all cs : List ℕ) (ts : List Terminal) : Type 0 where
   pub lexes : Lexes (width all) cs tokens
   pub says : Say (encode_utf8_all all) tokens ts
 
+-- the first terminal stands at p
+pub data HeadAt (p : ℕ) : List Terminal → Type 0 where
+  head_at : {x : Terminal} {ts : List Terminal} → place_of x ≡ p → HeadAt p (x ∷ ts)
+
+-- a text that begins with no blank says its first terminal where it stands
+abbrev pub Heads : Begin → (ℕ → List Terminal → List Terminal) → Type 0
+Heads Calm said = (p : ℕ) (us : List Terminal) → HeadAt p (said p us)
+Heads Mild said = (p : ℕ) (us : List Terminal) → HeadAt p (said p us)
+Heads (Exactly c) said = is_blank c ≡ false → (p : ℕ) (us : List Terminal) → HeadAt p (said p us)
+
 -- A text that says terminals: `said p us` are those that it says where it stands at the place p, before us.
 pub record Span (b : Begin) (e : End) (text : List ℕ) : Type 0 where
   pub piece : List ℕ
@@ -77,4 +88,5 @@ pub record Span (b : Begin) (e : End) (text : List ℕ) : Type 0 where
   pub encoded : encode_utf8_all piece ≡ text
   pub begins : Begins b piece
   pub said : ℕ → List Terminal → List Terminal
+  pub heads : Heads b said
   pub tells : (all : List ℕ) (p : ℕ) (rest : List ℕ) (us : List Terminal) → Stands all p (piece ++ rest) → Follows e rest → Told all rest us → Told all (piece ++ rest) (said p us)
