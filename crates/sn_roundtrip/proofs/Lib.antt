@@ -7,3 +7,4 @@ pub mod Rereads
 pub mod Rows
 pub mod Labels
 pub mod Tags
+pub mod Boxes

@@ -127,7 +127,7 @@ pub record GoodTag (e : Measured TExpr) : Type 0 where
 abbrev pub TagOperand : Measured TExpr → List ℕ → Type 0
 TagOperand e text = Readable Calm Whole text (Operand measured) (Like unplaced_tag 0 e)
 
-abbrev parens_span : {text : List ℕ} → Span Mild Whole text → Span Calm Whole (in_parentheses text)
+abbrev pub parens_span : {text : List ℕ} → Span Mild Whole text → Span Calm Whole (in_parentheses text)
 parens_span s = wholly (calmly refl (before (symbol_span symbol.OpenParen) (before s (symbol_span symbol.CloseParen) refl) refl))
 
 -- in parentheses where it must be
@@ -152,10 +152,10 @@ pub tag_whole : {e : Measured TExpr} (x : GoodTag e) → Readable Mild Whole x.s
 tag_whole x = as_whole x.shown.rank x.shown.text x.reads
 
 -- operands with an operator between them
-abbrev between : {s t : List ℕ} → Span Calm Whole s → (x : SomeSymbol) → Span Calm Whole t → Span Mild Whole (s ++ (spaced_text x ++ t))
+abbrev pub between : {s t : List ℕ} → Span Calm Whole s → (x : SomeSymbol) → Span Calm Whole t → Span Mild Whole (s ++ (spaced_text x ++ t))
 between s x t = mildly (before s (before (spaced x) t refl) refl)
 
-op_text : (op : Operator) → operator_text op ≡ spaced_text (symbol_of op)
+pub op_text : (op : Operator) → operator_text op ≡ spaced_text (symbol_of op)
 op_text Add = refl
 op_text Sub = refl
 op_text Mul = refl
