@@ -334,10 +334,10 @@ good_literal text at w = record {
 }
 
 -- a keyword before a blank, and one between blanks
-abbrev led : (k : _) → Span Calm Free (keyword_word k ++ 32 ∷ [])
+abbrev pub led : (k : _) → Span Calm Free (keyword_word k ++ 32 ∷ [])
 led k = before (keyword_span k) (gap 32 refl) refl
 
-abbrev spaced_key : (k : _) → Span (Exactly 32) Free (32 ∷ (keyword_word k ++ 32 ∷ []))
+abbrev pub spaced_key : (k : _) → Span (Exactly 32) Free (32 ∷ (keyword_word k ++ 32 ∷ []))
 spaced_key k = before (gap 32 refl) (before (keyword_span k) (gap 32 refl) refl) refl
 
 good_if : (at : ℕ) {c e f : Measured BExpr} → GoodBox c → GoodBox e → GoodBox f → GoodBox (with_condition measured at c e f)

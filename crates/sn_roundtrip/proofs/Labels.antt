@@ -42,16 +42,16 @@ pub same_first : {A : Type 0} (plain : A → A) (x again : A) → Same plain x a
 same_first plain x again s = ap (λ y. y ∷ []) s
 
 -- one label
-data IsLabel : List Terminal → LabelAt → List Terminal → Type 0 where
+pub data IsLabel : List Terminal → LabelAt → List Terminal → Type 0 where
   one_label : {x : Terminal} {l : LabelAt} {us : List Terminal} → label_of x ≡ Some l → IsLabel (x ∷ us) l us
 
-abbrev GoodLabel : LabelAt → Type 0
+abbrev pub GoodLabel : LabelAt → Type 0
 GoodLabel l = Shows Calm Whole (label_text l) IsLabel (Same unplaced_label l)
 
 some_same : {l m : LabelAt} → Some l ≡ Some m → l ≡ m
 some_same e = cc
 
-good_label : (x : Terminal) (l : LabelAt) → label_of x ≡ Some l → IsWord x → GoodLabel l
+pub good_label : (x : Terminal) (l : LabelAt) → label_of x ≡ Some l → IsWord x → GoodLabel l
 good_label (terminal.Name name) l is w = record {
   text = name.text;
   is = ap label_text (sym (some_same is));

@@ -8,3 +8,4 @@ pub mod Rows
 pub mod Labels
 pub mod Tags
 pub mod Boxes
+pub mod Networks
