@@ -9,3 +9,4 @@ pub mod Labels
 pub mod Tags
 pub mod Boxes
 pub mod Networks
+pub mod Declarations

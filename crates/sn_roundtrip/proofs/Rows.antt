@@ -24,7 +24,7 @@ pub not_nil : {A : Type 0} (xs : List A) (x : A) → xs ++ (x ∷ []) ≢ []
 not_nil [] x e = cc
 not_nil (y ∷ xs) x e = cc
 
-map_filled : {A B : Type 0} (f : A → B) (xs : List A) → xs ≢ [] → map f xs ≢ []
+pub map_filled : {A B : Type 0} (f : A → B) (xs : List A) → xs ≢ [] → map f xs ≢ []
 map_filled f [] filled e = filled refl
 map_filled f (x ∷ xs) filled e = cc
 
