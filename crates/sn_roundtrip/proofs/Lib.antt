@@ -10,3 +10,4 @@ pub mod Tags
 pub mod Boxes
 pub mod Networks
 pub mod Declarations
+pub mod Programs

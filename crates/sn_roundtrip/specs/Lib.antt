@@ -1,1 +1,2 @@
 pub mod Unplaced
+pub mod ReadsBack

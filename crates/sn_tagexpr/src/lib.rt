@@ -1,0 +1,6 @@
+//! Expressions over the tags of a record.
+#![tactic(auto)]
+
+mod expr;
+
+pub use expr::{BinOp, TagExpr};
