@@ -1,12 +1,11 @@
 -- Expressions in boxes read back.
-use Rattle.std.proofs.Common.{◌≡◌, ℕ, ℤ, true, ◌+◌, ◌++◌, length, List, [], ◌∷◌, map, pos, unsigned_abs, codes, decimal, Option, Some, None, refl, sym, ap, ◌∙◌, subst}
+use Rattle.std.proofs.Common.{◌≡◌, ℕ, ℤ, true, ◌++◌, List, [], ◌∷◌, map, pos, unsigned_abs, codes, decimal, Some, None, refl, sym, ap, ◌∙◌}
 use Rattle.std.specs.Fmt.{signed_decimal}
 use Rattle.std.specs.List.{list_all}
-use Rattle.sn_ast.specs.BoxExprs.{Head, Function, Variant, Elements, applied, with_binding, with_condition, with_arguments, sequence_of, with_step, bound, conditional, BoxExpr, bind, choose, plain, Disjunction, disjunction, Disjunctions, no_or, or, Conjunction, conjunction, Conjunctions, no_and, and, Comparison, no_compare, compare, Sum, sum, Sums, no_sum, add, Product, product, Products, no_product, multiply, Operand, sign, number as numbered, literal, tag, name as named, call, list, out, parens, Arguments, no_arguments, arguments, MoreArguments, last_argument, more_arguments, Sequence, sequence, Steps, last_step, more_steps}
+use Rattle.sn_ast.specs.BoxExprs.{Function, Variant, Elements, applied, with_binding, with_condition, with_arguments, BoxExpr, bind, choose, plain, Disjunction, disjunction, Disjunctions, no_or, or, Conjunction, conjunction, Conjunctions, no_and, and, Comparison, no_compare, compare, Sum, sum, Sums, no_sum, add, Product, product, Products, no_product, multiply, Operand, sign, number as numbered, literal, tag, name as named, call, list, out, parens, Arguments, no_arguments, arguments, MoreArguments, last_argument, more_arguments, Sequence, sequence, Steps, last_step, more_steps}
 use Rattle.sn_ast.specs.Measures.{measured}
 use Rattle.sn_ast.specs.Operators.{box_operations, with_sign, with_operator, with_and, with_or}
 use Rattle.sn_ast.specs.Rows.{no_parts, with_part}
-use Rattle.sn_ast.specs.Terminals.{place_of}
 use Rattle.sn_ast.specs.declared.box_expr.BExpr.{BExpr, BExpr-F, fold-BExpr, fold-roll-BExpr}
 use Rattle.sn_ast.specs.declared.box_expr.BForm.{BForm, fold-BForm}
 use Rattle.sn_ast.specs.declared.box_expr.BForm.TheOpen.{BForm-F}
@@ -20,23 +19,22 @@ use Rattle.sn_ast.specs.declared.terminal.Bracket.{Bracket}
 use Rattle.sn_ast.specs.declared.terminal.Bracket.TheVariants.{Paren, Square}
 use Rattle.sn_ast.specs.declared.terminal.Keyword.TheVariants as keyword
 use Rattle.sn_ast.specs.declared.terminal.Sign.TheVariants.{Minus, Not}
-use Rattle.sn_ast.specs.declared.terminal.Symbol.{Symbol as SomeSymbol}
 use Rattle.sn_ast.specs.declared.terminal.Symbol.TheVariants as symbol
 use Rattle.sn_ast.specs.declared.terminal.Terminal.{Terminal}
-use Rattle.sn_ast.specs.declared.terminal.Terminal.TheVariants.{Symbol, Number, Literal}
+use Rattle.sn_ast.specs.declared.terminal.Terminal.TheVariants.{Symbol, Number}
 use Rattle.sn_lexer.specs.Spelling.{quoted, is_printable}
-use Rattle.sn_print.specs.Expressions.{Rank, Alone, Compound, Sequence as SequenceRank, Shown, alone, compound, operand, by_rank, part, part_by_rank, box_shown, box_step, box_text}
+use Rattle.sn_print.specs.Expressions.{Rank, Alone, Compound, Sequence as SequenceRank, Shown, alone, compound, operand, by_rank, part, part_by_rank, box_shown, box_step}
 use Rattle.sn_print.specs.Expressions.{arguments as arguments_text}
-use Rattle.sn_print.specs.Words.{operator_text, in_angles, in_parentheses, joined}
+use Rattle.sn_print.specs.Words.{in_angles, in_parentheses, joined}
 use Rattle.sn_roundtrip.specs.Unplaced.{unplaced_ident, unplaced_box, unplaced_box_form, at_no_box_place}
 use Rattle.sn_roundtrip.proofs.Joins.{before, calmly, mildly, mildly_exact, wholly}
-use Rattle.sn_roundtrip.proofs.Rereads.{Readable, Reread, reread, Shows, Like, like_leaf, like_inside, like_parens, like_loose, like_each, like_raise, like_join, like_three, like_row}
-use Rattle.sn_roundtrip.proofs.Rows.{RowOf, GoodRow, row_begins, row_goes_on, mild_head}
+use Rattle.sn_roundtrip.proofs.Rereads.{Readable, reread, Shows, Like, like_leaf, like_inside, like_parens, like_loose, like_each, like_raise, like_join, like_three, like_row}
+use Rattle.sn_roundtrip.proofs.Rows.{GoodRow, row_begins, row_goes_on, mild_head}
 use Rattle.sn_roundtrip.proofs.Singles.{symbol_span, keyword_span, number_span, tag_span, name_span, literal_span, spaced_text, spaced, gap}
-use Rattle.sn_roundtrip.proofs.Spans.{HeadAt, head_at, Begin, Calm, Mild, Exactly, End, Free, Whole, After, Span, adjoin}
+use Rattle.sn_roundtrip.proofs.Spans.{HeadAt, head_at, Calm, Mild, Exactly, Free, Whole, Span}
 use Rattle.sn_roundtrip.proofs.Tags.{symbol_of, op_text, between, parens_span}
 use Rattle.sn_roundtrip.proofs.Words.{IsIdentifier, IsWord, AreWords}
-use Rattle.sn_terminal.specs.Words.{symbol_word, keyword_word}
+use Rattle.sn_terminal.specs.Words.{keyword_word}
 
 -- a fold of an expression is one step over the folds of its parts
 module _ {A B : Type 0} (s : BForm-F A B → A) (t : BExpr-F A B → B) (at : ℕ) where
@@ -259,7 +257,7 @@ good_neg at {e} x = record {
     span = mildly_exact refl (before (symbol_span symbol.Minus) (box_operand x).span refl);
     rereads = λ p. reread _ (λ us. of_operand (sign refl (((box_operand x).rereads _).reads us)))
         (like_raise unplaced_box (like_each unplaced_box unplaced_box (λ a. record { at = 0; form = form.Neg a }) _ _
-            (fold_neg unplaced_box_form at_no_box_place at) (fold_neg unplaced_box_form at_no_box_place p) ((box_operand x).rereads _).good));
+        (fold_neg unplaced_box_form at_no_box_place at) (fold_neg unplaced_box_form at_no_box_place p) ((box_operand x).rereads _).good));
   };
 }
 
@@ -271,7 +269,7 @@ good_not at {e} x = record {
     span = mildly_exact refl (before (symbol_span symbol.Bang) (box_operand x).span refl);
     rereads = λ p. reread _ (λ us. of_operand (sign refl (((box_operand x).rereads _).reads us)))
         (like_raise unplaced_box (like_each unplaced_box unplaced_box (λ a. record { at = 0; form = form.Not a }) _ _
-            (fold_not unplaced_box_form at_no_box_place at) (fold_not unplaced_box_form at_no_box_place p) ((box_operand x).rereads _).good));
+        (fold_not unplaced_box_form at_no_box_place at) (fold_not unplaced_box_form at_no_box_place p) ((box_operand x).rereads _).good));
   };
 }
 
@@ -283,7 +281,7 @@ good_op op at {e} {f} x y = record {
     span = between (box_operand x).span (symbol_of op) (box_operand y).span;
     rereads = λ p. reread _ (λ us. reads_op op (((box_operand x).rereads p).reads _) (((box_operand y).rereads _).reads us))
         (like_raise unplaced_box (like_join unplaced_box unplaced_box unplaced_box (λ a b. record { at = 0; form = form.Op op a b }) _ _
-            (fold_op unplaced_box_form at_no_box_place at op) (fold_op unplaced_box_form at_no_box_place _ op) ((box_operand x).rereads p).good ((box_operand y).rereads _).good));
+        (fold_op unplaced_box_form at_no_box_place at op) (fold_op unplaced_box_form at_no_box_place _ op) ((box_operand x).rereads p).good ((box_operand y).rereads _).good));
   };
 }
 
@@ -295,7 +293,7 @@ good_and at {e} {f} x y = record {
     span = between (box_operand x).span symbol.AndAnd (box_operand y).span;
     rereads = λ p. reread _ (λ us. plain (disjunction (conjunction (as_compared (((box_operand x).rereads p).reads _)) (and refl (as_compared (((box_operand y).rereads _).reads us)) no_and)) no_or))
         (like_raise unplaced_box (like_join unplaced_box unplaced_box unplaced_box (λ a b. record { at = 0; form = form.And a b }) _ _
-            (fold_and unplaced_box_form at_no_box_place at) (fold_and unplaced_box_form at_no_box_place _) ((box_operand x).rereads p).good ((box_operand y).rereads _).good));
+        (fold_and unplaced_box_form at_no_box_place at) (fold_and unplaced_box_form at_no_box_place _) ((box_operand x).rereads p).good ((box_operand y).rereads _).good));
   };
 }
 
@@ -307,7 +305,7 @@ good_or at {e} {f} x y = record {
     span = between (box_operand x).span symbol.BarBar (box_operand y).span;
     rereads = λ p. reread _ (λ us. plain (disjunction (as_conjunction (as_compared (((box_operand x).rereads p).reads _))) (or refl (as_conjunction (as_compared (((box_operand y).rereads _).reads us))) no_or)))
         (like_raise unplaced_box (like_join unplaced_box unplaced_box unplaced_box (λ a b. record { at = 0; form = form.Or a b }) _ _
-            (fold_or unplaced_box_form at_no_box_place at) (fold_or unplaced_box_form at_no_box_place _) ((box_operand x).rereads p).good ((box_operand y).rereads _).good));
+        (fold_or unplaced_box_form at_no_box_place at) (fold_or unplaced_box_form at_no_box_place _) ((box_operand x).rereads p).good ((box_operand y).rereads _).good));
   };
 }
 
@@ -348,7 +346,7 @@ good_if at {c} {e} {f} x y z = record {
     span = mildly (before (led keyword.If) (before (box_operand x).span (before (spaced_key keyword.Then) (before (box_operand y).span (before (spaced_key keyword.Else) (box_operand z).span refl) refl) refl) refl) refl);
     rereads = λ p. reread _ (λ us. choose (of_operand (((box_operand x).rereads _).reads _)) (of_operand (((box_operand y).rereads _).reads _)) (of_operand (((box_operand z).rereads _).reads us)))
         (like_raise unplaced_box (like_three unplaced_box unplaced_box unplaced_box unplaced_box (λ a b d. record { at = 0; form = form.If a b d }) _ _
-            (fold_if unplaced_box_form at_no_box_place at) (fold_if unplaced_box_form at_no_box_place _) ((box_operand x).rereads _).good ((box_operand y).rereads _).good ((box_operand z).rereads _).good));
+        (fold_if unplaced_box_form at_no_box_place at) (fold_if unplaced_box_form at_no_box_place _) ((box_operand x).rereads _).good ((box_operand y).rereads _).good ((box_operand z).rereads _).good));
   };
 }
 
@@ -360,7 +358,7 @@ good_let at name {e} {f} w x y = record {
     span = mildly (before (led keyword.Let) (before (name_span w) (before (spaced symbol.Assign) (before (box_operand x).span (before (spaced_key keyword.In) (box_operand y).span refl) refl) refl) refl) refl);
     rereads = λ p. reread _ (λ us. bind (of_operand (((box_operand x).rereads _).reads _)) (of_operand (((box_operand y).rereads _).reads us)))
         (like_raise unplaced_box (like_join unplaced_box unplaced_box unplaced_box (λ a b. record { at = 0; form = form.Let (unplaced_ident name) a b }) _ _
-            (fold_let unplaced_box_form at_no_box_place at name) (fold_let unplaced_box_form at_no_box_place _ _) ((box_operand x).rereads _).good ((box_operand y).rereads _).good));
+        (fold_let unplaced_box_form at_no_box_place at name) (fold_let unplaced_box_form at_no_box_place _ _) ((box_operand x).rereads _).good ((box_operand y).rereads _).good));
   };
 }
 
@@ -413,7 +411,7 @@ good_call name es w none = record {
     span = wholly (before (name_span w) (before (symbol_span symbol.OpenParen) (symbol_span symbol.CloseParen) refl) refl);
     rereads = λ p. reread _ (λ us. call (no_arguments refl))
         (like_loose unplaced_box (like_raise unplaced_box (like_each (map unplaced_box) unplaced_box (λ es. record { at = 0; form = form.Call (unplaced_ident name) es }) _ _
-            (fold_call unplaced_box_form at_no_box_place name.at name) (fold_call unplaced_box_form at_no_box_place p (record { text = name.text; at = p })) like_none)));
+        (fold_call unplaced_box_form at_no_box_place name.at name) (fold_call unplaced_box_form at_no_box_place p (record { text = name.text; at = p })) like_none)));
   };
 }
 good_call name es w (some r) = record {
@@ -423,7 +421,7 @@ good_call name es w (some r) = record {
     span = wholly (before (name_span w) (before (symbol_span symbol.OpenParen) (before r.shows.reads.span (symbol_span symbol.CloseParen) refl) refl) refl);
     rereads = λ p. reread _ (λ us. call ((r.shows.reads.rereads _).reads _ _ us (last_argument refl)))
         (like_loose unplaced_box (like_raise unplaced_box (like_each (map unplaced_box) unplaced_box (λ es. record { at = 0; form = form.Call (unplaced_ident name) es }) _ _
-            (fold_call unplaced_box_form at_no_box_place name.at name) (fold_call unplaced_box_form at_no_box_place p (record { text = name.text; at = p })) (r.shows.reads.rereads _).good)));
+        (fold_call unplaced_box_form at_no_box_place name.at name) (fold_call unplaced_box_form at_no_box_place p (record { text = name.text; at = p })) (r.shows.reads.rereads _).good)));
   };
 }
 
@@ -435,7 +433,7 @@ good_list at es none = record {
     span = wholly (calmly refl (before (symbol_span symbol.OpenBracket) (symbol_span symbol.CloseBracket) refl));
     rereads = λ p. reread _ (λ us. list (no_arguments refl))
         (like_loose unplaced_box (like_raise unplaced_box (like_each (map unplaced_box) unplaced_box (λ es. record { at = 0; form = form.ListLit es }) _ _
-            (fold_list unplaced_box_form at_no_box_place at) (fold_list unplaced_box_form at_no_box_place p) like_none)));
+        (fold_list unplaced_box_form at_no_box_place at) (fold_list unplaced_box_form at_no_box_place p) like_none)));
   };
 }
 good_list at es (some r) = record {
@@ -445,7 +443,7 @@ good_list at es (some r) = record {
     span = wholly (calmly refl (before (symbol_span symbol.OpenBracket) (before r.shows.reads.span (symbol_span symbol.CloseBracket) refl) refl));
     rereads = λ p. reread _ (λ us. list ((r.shows.reads.rereads _).reads _ _ us (last_argument refl)))
         (like_loose unplaced_box (like_raise unplaced_box (like_each (map unplaced_box) unplaced_box (λ es. record { at = 0; form = form.ListLit es }) _ _
-            (fold_list unplaced_box_form at_no_box_place at) (fold_list unplaced_box_form at_no_box_place p) (r.shows.reads.rereads _).good)));
+        (fold_list unplaced_box_form at_no_box_place at) (fold_list unplaced_box_form at_no_box_place p) (r.shows.reads.rereads _).good)));
   };
 }
 
@@ -460,7 +458,7 @@ good_out at n number_at es w none = record {
     span = wholly (before (led keyword.Out) (before (number_span w.0 w.2) (before (symbol_span symbol.OpenParen) (symbol_span symbol.CloseParen) refl) refl) refl);
     rereads = λ p. reread _ (λ us. out (no_arguments refl))
         (like_loose unplaced_box (like_raise unplaced_box (like_each (map unplaced_box) unplaced_box (λ es. record { at = 0; form = form.Out w.0 es }) _ _
-            (out_value at n w.0 w.1) (out_value p (pos w.0) w.0 refl) like_none)));
+        (out_value at n w.0 w.1) (out_value p (pos w.0) w.0 refl) like_none)));
   };
 }
 good_out at n number_at es w (some r) = record {
@@ -472,7 +470,7 @@ good_out at n number_at es w (some r) = record {
     span = wholly (before (led keyword.Out) (before (number_span w.0 w.2) (before (symbol_span symbol.OpenParen) (before r.shows.reads.span (symbol_span symbol.CloseParen) refl) refl) refl) refl);
     rereads = λ p. reread _ (λ us. out ((r.shows.reads.rereads _).reads _ _ us (last_argument refl)))
         (like_loose unplaced_box (like_raise unplaced_box (like_each (map unplaced_box) unplaced_box (λ es. record { at = 0; form = form.Out w.0 es }) _ _
-            (out_value at n w.0 w.1) (out_value p (pos w.0) w.0 refl) (r.shows.reads.rereads _).good)));
+        (out_value at n w.0 w.1) (out_value p (pos w.0) w.0 refl) (r.shows.reads.rereads _).good)));
   };
 }
 
@@ -531,7 +529,7 @@ good_seq at row r = record {
     span = r.shows.reads.span;
     rereads = λ p. reread _ (λ us. (r.shows.reads.rereads p).reads us _ us last_step)
         (like_raise unplaced_box (like_each (map unplaced_box) unplaced_box (sequence_at 0) _ _
-            (fold_seq unplaced_box_form at_no_box_place at) (fold_seq unplaced_box_form at_no_box_place _) (r.shows.reads.rereads p).good));
+        (fold_seq unplaced_box_form at_no_box_place at) (fold_seq unplaced_box_form at_no_box_place _) (r.shows.reads.rereads p).good));
   };
 }
 

@@ -1,12 +1,10 @@
 -- Declarations read back.
-use Rattle.std.proofs.Common.{◌≡◌, ◌≢◌, ℕ, true, ◌+◌, ◌++◌, length, List, [], ◌∷◌, map, append-nil, codes, Option, Some, None, refl, sym, ap, ◌∙◌}
+use Rattle.std.proofs.Common.{◌≡◌, ◌≢◌, ℕ, ◌+◌, ◌++◌, List, [], ◌∷◌, map, append-nil, codes, Option, Some, None, refl, sym, ap, ◌∙◌}
 use Rattle.std.specs.List.{flat_map}
 use Rattle.std.specs.Option.{option_map}
 use Rattle.std.proofs.lemmas.Grind.{flat_map-append}
-use Rattle.std.proofs.lemmas.List.{map-append}
-use Rattle.sn_ast.specs.BoxExprs.{BoxExpr, Sequence}
 use Rattle.sn_ast.specs.Declarations.{function_of, box_of, net_of, with_body, with_connect, MoreTuples, last_tuple, more_tuples, MoreParams, last_param, more_params, Params, no_params, params, Function, function, Body, body, with_function, RestOfBox, rest_of_box, Signature, no_signature, signature, Declaration, box, net, type_name, sig_name, Inner, no_inner, inner, MoreInner, last_inner, more_inner}
-use Rattle.sn_ast.specs.Labels.{IsSig, IsTuple, Types, last_part}
+use Rattle.sn_ast.specs.Labels.{IsTuple, last_part}
 use Rattle.sn_ast.specs.Measures.{measured}
 use Rattle.sn_ast.specs.Networks.{Network}
 use Rattle.sn_ast.specs.Rows.{append, no_parts, with_part}
@@ -17,7 +15,7 @@ use Rattle.sn_ast.specs.declared.declaration.Decl.TheFolds.{fold-roll-Decl}
 use Rattle.sn_ast.specs.declared.declaration.Decl.TheOpen.{Decl-F}
 use Rattle.sn_ast.specs.declared.declaration.Decl.TheVariants as form
 use Rattle.sn_ast.specs.declared.declaration.FunDecl.{FunDecl}
-use Rattle.sn_ast.specs.declared.declaration.NetDecl.{NetDecl, NetDecl-F, fold-NetDecl, fold-roll-NetDecl}
+use Rattle.sn_ast.specs.declared.declaration.NetDecl.{NetDecl, NetDecl-F, fold-roll-NetDecl}
 use Rattle.sn_ast.specs.declared.label.Ident.{Ident}
 use Rattle.sn_ast.specs.declared.label.Sig.{Sig}
 use Rattle.sn_ast.specs.declared.label.Tuple.{Tuple}
@@ -28,21 +26,21 @@ use Rattle.sn_ast.specs.declared.terminal.Keyword.TheVariants as keyword
 use Rattle.sn_ast.specs.declared.terminal.Symbol.TheVariants as symbol
 use Rattle.sn_ast.specs.declared.terminal.Terminal.{Terminal}
 use Rattle.sn_ast.specs.declared.terminal.Terminal.TheVariants.{Name, Keyword, Symbol}
-use Rattle.sn_print.specs.Declarations.{fun_text, box_sig_text, body_text, box_decl_text, sig_part, inner_part, net_decl_step, decl_step, decl_text, net_decl_text}
-use Rattle.sn_print.specs.Expressions.{box_shown, part, box_text}
-use Rattle.sn_print.specs.Labels.{sig_text, tuple_text, types_text}
+use Rattle.sn_print.specs.Declarations.{fun_text, sig_part, inner_part, net_decl_step, decl_step, decl_text}
+use Rattle.sn_print.specs.Expressions.{part, box_text}
+use Rattle.sn_print.specs.Labels.{tuple_text}
 use Rattle.sn_print.specs.Networks.{net_text}
 use Rattle.sn_print.specs.Words.{joined}
-use Rattle.sn_roundtrip.specs.Unplaced.{unplaced_ident, unplaced_tuple, unplaced_part, unplaced_sig, unplaced_box, unplaced_net, unplaced_fun, unplaced_box_decl, unplaced_decl, unplaced_decl_step, unplaced_net_decl}
+use Rattle.sn_roundtrip.specs.Unplaced.{unplaced_ident, unplaced_tuple, unplaced_sig, unplaced_box, unplaced_net, unplaced_fun, unplaced_decl, unplaced_decl_step, unplaced_net_decl}
 use Rattle.sn_roundtrip.proofs.Boxes.{GoodBox, good_box_expr, good_sequence, box_part, box_body, led, spaced_key}
-use Rattle.sn_roundtrip.proofs.Joins.{before, calmly, mildly, mildly_exact, wholly}
+use Rattle.sn_roundtrip.proofs.Joins.{before, mildly}
 use Rattle.sn_roundtrip.proofs.Labels.{GoodTuple, good_tuple, GoodTypes, good_types, GoodSig, good_sig, Same as SamePart, SameRow, same_more, same_first}
 use Rattle.sn_roundtrip.proofs.Networks.{GoodNet, good_network, net_whole}
-use Rattle.sn_roundtrip.proofs.Rereads.{Readable, Reread, reread, Shows, Like, like_leaf, like_inside, like_parens, like_loose, like_each, like_raise, like_join, like_row, same_two}
-use Rattle.sn_roundtrip.proofs.Rows.{RowOf, GoodRow, row_begins, row_goes_on, calm_head, map_filled}
-use Rattle.sn_roundtrip.proofs.Singles.{symbol_span, keyword_span, name_span, spaced_text, spaced, gap}
-use Rattle.sn_roundtrip.proofs.Spans.{HeadAt, Begin, Calm, Mild, Exactly, End, Free, Whole, After, Span, adjoin}
-use Rattle.sn_roundtrip.proofs.Words.{IsIdentifier, IsWord, AreWords}
+use Rattle.sn_roundtrip.proofs.Rereads.{reread, Shows, Like, like_leaf, like_loose, like_each, like_raise, like_join, like_row}
+use Rattle.sn_roundtrip.proofs.Rows.{GoodRow, row_begins, row_goes_on, calm_head, map_filled}
+use Rattle.sn_roundtrip.proofs.Singles.{symbol_span, name_span, spaced_text, spaced, gap}
+use Rattle.sn_roundtrip.proofs.Spans.{HeadAt, Calm, Mild, Exactly, Free, Whole, Span}
+use Rattle.sn_roundtrip.proofs.Words.{IsIdentifier, AreWords}
 
 -- a fold of a declaration is one step over the folds of its parts
 module _ {A B : Type 0} (s : Decl-F A B → A) (t : NetDecl-F A B → B) where
@@ -263,7 +261,7 @@ like_box name other input again_input outputs again_outputs named in_is out_is l
     (box_of (unplaced_ident name) (unplaced_tuple input) (map unplaced_tuple outputs)) (box_of name input outputs) (box_of other again_input again_outputs)
     (λ fs e. fold_box unplaced_decl_step unplaced_net_decl (record { name = name; input = input; outputs = outputs; funs = fs; body = e }))
     (λ fs e. fold_box unplaced_decl_step unplaced_net_decl (record { name = other; input = again_input; outputs = again_outputs; funs = fs; body = e })
-        ∙ (λ i. box_of (named i) (in_is i) (out_is i) (map unplaced_fun fs) (unplaced_box e))) l m))
+    ∙ (λ i. box_of (named i) (in_is i) (out_is i) (map unplaced_fun fs) (unplaced_box e))) l m))
 
 rest_by : {opening arrow brace : ℕ} {name : Ident} {input : Tuple} {outputs : List Tuple} {d : Measured Decl} {ts us vs ws : List Terminal} → IsTuple ts input (Symbol symbol.Arrow arrow ∷ us) →
     TupleRow us outputs (Symbol symbol.OpenBrace brace ∷ vs) → Body measured name input outputs (no_parts measured) vs d ws → RestOfBox measured name (Symbol symbol.OpenParen opening ∷ ts) d ws

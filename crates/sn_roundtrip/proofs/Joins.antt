@@ -18,7 +18,7 @@ use Rattle.sn_lexer.proofs.Symbols.{no_pair_at}
 use Rattle.sn_lexer.proofs.Tables.{among_then, pair_is}
 use Rattle.sn_lexer.proofs.Tags.{no_tag_open, no_tag_name}
 use Rattle.sn_lexer.proofs.WordKinds.{fails, digit_above}
-use Rattle.sn_roundtrip.proofs.Spans.{HeadAt, Heads, Begin, Calm, Mild, Exactly, End, Free, Whole, After, is_calm, Begins, Follows, parts_names, adjoin, is_pair, Stands, Told, Span}
+use Rattle.sn_roundtrip.proofs.Spans.{Heads, Begin, Calm, Mild, Exactly, End, Free, Whole, After, is_calm, Begins, Follows, parts_names, adjoin, is_pair, Stands, Told, Span}
 
 pub scalars_append : (xs ys : List ℕ) → all_scalars xs ≡ true → all_scalars ys ≡ true → all_scalars (xs ++ ys) ≡ true
 scalars_append [] ys p q = q
@@ -247,9 +247,9 @@ pub calm_no_blank : (c : ℕ) → is_calm c ≡ true → is_blank c ≡ false
 calm_no_blank c calm = fails (is_blank c) (λ h.
     let low = blank_below c h in
     false≢true (sym (no_calm c
-        (fails (is_calm_mark c) (λ m. let high = mark_above c m in omega arith))
-        (fails (is_ascii_digit c) (λ d. let high = digit_above c d in omega arith))
-        (fails (starts_name c) (λ n. let high = starts_above c n in omega arith))) ∙ calm))
+    (fails (is_calm_mark c) (λ m. let high = mark_above c m in omega arith))
+    (fails (is_ascii_digit c) (λ d. let high = digit_above c d in omega arith))
+    (fails (starts_name c) (λ n. let high = starts_above c n in omega arith))) ∙ calm))
 
 pub mild_no_blank : (c : ℕ) → ((c == 33) || is_calm c) ≡ true → is_blank c ≡ false
 mild_no_blank c mild =

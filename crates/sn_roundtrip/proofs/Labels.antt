@@ -1,10 +1,9 @@
 -- Labels, variants, tuples, types and signatures read back.
-use Rattle.std.proofs.Common.{◌≡◌, ℕ, ◌+◌, true, false, ◌++◌, List, [], ◌∷◌, map, codes, Some, refl, sym, ap, ◌∙◌}
+use Rattle.std.proofs.Common.{◌≡◌, ℕ, ◌+◌, ◌++◌, List, [], ◌∷◌, map, codes, Some, refl, sym, ap, ◌∙◌}
 use Rattle.std.proofs.lemmas.List.{map-append}
 use Rattle.sn_ast.specs.Labels.{MoreLabels, last_label, more_labels, Labels, no_labels, labels, IsVariant, variant, IsTuple, tuple, Part, set, named, MoreParts, last_part, more_parts, Types, types, IsSig, arrow, signature}
 use Rattle.sn_ast.specs.Rows.{append}
-use Rattle.sn_ast.specs.Terminals.{label_of, closing}
-use Rattle.sn_ast.specs.declared.label.Ident.{Ident}
+use Rattle.sn_ast.specs.Terminals.{label_of}
 use Rattle.sn_ast.specs.declared.label.LabelAt.{LabelAt}
 use Rattle.sn_ast.specs.declared.label.Sig.{Sig}
 use Rattle.sn_ast.specs.declared.label.Sig.TheVariants as sig_form
@@ -17,15 +16,15 @@ use Rattle.sn_ast.specs.declared.terminal.Bracket.TheVariants.{Paren, Brace}
 use Rattle.sn_ast.specs.declared.terminal.Symbol.TheVariants as symbol
 use Rattle.sn_ast.specs.declared.terminal.Terminal.{Terminal}
 use Rattle.sn_ast.specs.declared.terminal.Terminal.TheVariants as terminal
-use Rattle.sn_print.specs.Labels.{label_text, labels_text, variant_text, tuple_text, part_text, types_text, sig_text}
+use Rattle.sn_print.specs.Labels.{label_text, variant_text, tuple_text, part_text, sig_text}
 use Rattle.sn_print.specs.Words.{in_angles}
-use Rattle.sn_roundtrip.specs.Unplaced.{unplaced_ident, unplaced_label, unplaced_variant, unplaced_tuple, unplaced_part, unplaced_sig}
-use Rattle.sn_roundtrip.proofs.Joins.{before, calmly, mildly, mildly_exact, wholly}
-use Rattle.sn_roundtrip.proofs.Rereads.{Readable, Reread, reread, Shows, same_two}
-use Rattle.sn_roundtrip.proofs.Rows.{RowOf, GoodRow, row_begins, row_goes_on, calm_head}
+use Rattle.sn_roundtrip.specs.Unplaced.{unplaced_label, unplaced_variant, unplaced_tuple, unplaced_part, unplaced_sig}
+use Rattle.sn_roundtrip.proofs.Joins.{before, calmly, wholly}
+use Rattle.sn_roundtrip.proofs.Rereads.{reread, Shows, same_two}
+use Rattle.sn_roundtrip.proofs.Rows.{GoodRow, row_begins, row_goes_on, calm_head}
 use Rattle.sn_roundtrip.proofs.Singles.{symbol_span, name_span, tag_span, spaced}
-use Rattle.sn_roundtrip.proofs.Spans.{HeadAt, Begin, Calm, Mild, Exactly, End, Free, Whole, After, Span, adjoin}
-use Rattle.sn_roundtrip.proofs.Words.{IsIdentifier, IsWord, AreWords}
+use Rattle.sn_roundtrip.proofs.Spans.{HeadAt, Calm, Free, Whole}
+use Rattle.sn_roundtrip.proofs.Words.{IsWord, AreWords}
 
 -- what is read again is the same apart from places
 abbrev pub Same : {A : Type 0} → (A → A) → A → A → Type 0
@@ -151,17 +150,22 @@ GoodPart p = Shows Calm Whole (part_text p) Part (Same unplaced_part p)
 
 good_part : {p : TypePart} {ts us : List Terminal} → Part ts p us → AreWords ts → GoodPart p × AreWords us
 good_part (set {v} d) w =
-    let x = good_variant d w in
-    (record {
-      text = x.0.text;
-      is = x.0.is;
-      reads = record { span = wholly x.0.reads.span; rereads = λ p. reread _ (λ us. set ((x.0.reads.rereads p).reads us)) (ap Set (x.0.reads.rereads p).good) };
-    }, x.1)
-good_part (named {name}) w = (record {
-  text = name.text;
-  is = refl;
-  reads = record { span = name_span w.0; rereads = λ p. reread (Named (record { text = name.text; at = p })) (λ us. named) refl };
-}, w.1)
+    let x = good_variant d w in (
+      record {
+        text = x.0.text;
+        is = x.0.is;
+        reads = record { span = wholly x.0.reads.span; rereads = λ p. reread _ (λ us. set ((x.0.reads.rereads p).reads us)) (ap Set (x.0.reads.rereads p).good) };
+      },
+      x.1,
+    )
+good_part (named {name}) w = (
+  record {
+    text = name.text;
+    is = refl;
+    reads = record { span = name_span w.0; rereads = λ p. reread (Named (record { text = name.text; at = p })) (λ us. named) refl };
+  },
+  w.1,
+)
 
 abbrev pub GoodTypes : List TypePart → Type 0
 GoodTypes row = GoodRow Calm Whole (codes " | ") part_text Types MoreParts row (SameRow unplaced_part row)
@@ -204,8 +208,11 @@ arrow_of input output x y = record {
 
 pub good_sig : {s : Sig} {ts us : List Terminal} → IsSig ts s us → AreWords ts → GoodSig s × AreWords us
 good_sig (arrow {input = input} {output = output} a b) w = let x = good_types a w in let y = good_types b x.1.1 in (arrow_of input output x.0 y.0, y.1)
-good_sig (signature {name}) w = (record {
-  text = name.text;
-  is = refl;
-  reads = record { span = name_span w.0; rereads = λ p. reread (sig_form.Named (record { text = name.text; at = p })) (λ us. signature) refl };
-}, w.1)
+good_sig (signature {name}) w = (
+  record {
+    text = name.text;
+    is = refl;
+    reads = record { span = name_span w.0; rereads = λ p. reread (sig_form.Named (record { text = name.text; at = p })) (λ us. signature) refl };
+  },
+  w.1,
+)

@@ -1,17 +1,16 @@
 -- Networks read back.
-use Rattle.std.proofs.Common.{◌≡◌, ℕ, true, false, Bool, ◌+◌, ◌++◌, length, List, [], ◌∷◌, map, append-nil, codes, Option, Some, None, refl, sym, ap, ◌∙◌}
-use Rattle.std.specs.Option.{option_map}
+use Rattle.std.proofs.Common.{◌≡◌, ℕ, true, false, Bool, ◌+◌, ◌++◌, List, [], ◌∷◌, map, append-nil, codes, Option, Some, None, refl, sym, ap, ◌∙◌}
 use Rattle.sn_ast.specs.Labels.{IsVariant}
 use Rattle.sn_ast.specs.Measures.{measured}
-use Rattle.sn_ast.specs.Networks.{same_item, renamed_item, computed_item, filter_at, sync_at, serial_at, choice_at, star_at, split_at, with_star, with_guarded_star, with_split, serial_of, chained, choice_with, branched, GoesOn, Item, same, renamed, computed, MoreItems, last_item, more_items, Items, no_items, items, Template, template, MoreTemplates, last_template, more_templates, Filter, filter, MorePatterns, last_pattern, more_patterns, Patterns, patterns, Atom, name as named, identity, filtered, sync, parens, Post, post, Posts, bare, star, guarded_star, split, Serial, serial, MoreSerial, last, dots, Network, network, MoreBranches, final, branch}
+use Rattle.sn_ast.specs.Networks.{same_item, renamed_item, computed_item, filter_at, sync_at, serial_at, choice_at, star_at, split_at, with_star, with_guarded_star, with_split, Item, same, renamed, computed, MoreItems, last_item, more_items, Items, no_items, items, Template, template, MoreTemplates, last_template, more_templates, filter, MorePatterns, last_pattern, more_patterns, Patterns, patterns, Atom, name as named, identity, filtered, sync, parens, Post, post, Posts, bare, star, guarded_star, split, Serial, serial, MoreSerial, last, dots, Network, network, MoreBranches, final, branch}
 use Rattle.sn_ast.specs.Rows.{append, no_parts, with_part}
-use Rattle.sn_ast.specs.Terminals.{label_of, link_of}
+use Rattle.sn_ast.specs.Terminals.{link_of}
 use Rattle.sn_ast.specs.declared.label.Ident.{Ident}
 use Rattle.sn_ast.specs.declared.label.LabelAt.{LabelAt}
 use Rattle.sn_ast.specs.declared.label.Variant.{Variant}
 use Rattle.sn_ast.specs.declared.measure.Measured.{Measured}
 use Rattle.sn_ast.specs.declared.network.ItemAt.{ItemAt}
-use Rattle.sn_ast.specs.declared.network.ItemSource.TheVariants.{Same, Field, Expr}
+use Rattle.sn_ast.specs.declared.network.ItemSource.TheVariants.{Same}
 use Rattle.sn_ast.specs.declared.network.NetExpr.{NetExpr, NetExpr-F, fold-NetExpr, fold-roll-NetExpr}
 use Rattle.sn_ast.specs.declared.network.NetForm.{NetForm, fold-NetForm}
 use Rattle.sn_ast.specs.declared.network.NetForm.TheOpen.{NetForm-F}
@@ -25,20 +24,20 @@ use Rattle.sn_ast.specs.declared.terminal.Symbol.{Symbol as SomeSymbol}
 use Rattle.sn_ast.specs.declared.terminal.Symbol.TheVariants as symbol
 use Rattle.sn_ast.specs.declared.terminal.Terminal.{Terminal}
 use Rattle.sn_ast.specs.declared.terminal.Terminal.TheVariants.{Symbol}
-use Rattle.sn_print.specs.Expressions.{Rank, Alone, Compound, Sequence as SequenceRank, Shown, alone, compound, operand, by_rank, tag_text}
+use Rattle.sn_print.specs.Expressions.{Rank, Alone, Compound, Sequence as SequenceRank, Shown, alone, compound, operand, by_rank}
 use Rattle.sn_print.specs.Labels.{label_text, variant_text}
-use Rattle.sn_print.specs.Networks.{net_shown, net_step, net_text, guard_text, item_text, source_text, template_text}
+use Rattle.sn_print.specs.Networks.{net_shown, net_step, item_text, template_text}
 use Rattle.sn_print.specs.Words.{chosen, in_angles, in_parentheses, joined}
-use Rattle.sn_roundtrip.specs.Unplaced.{unplaced_ident, unplaced_label, unplaced_variant, unplaced_tag, unplaced_item, unplaced_template, unplaced_net, unplaced_net_form, at_no_net_place}
-use Rattle.sn_roundtrip.proofs.Boxes.{led, spaced_key}
-use Rattle.sn_roundtrip.proofs.Joins.{before, calmly, mildly, mildly_exact, wholly}
-use Rattle.sn_roundtrip.proofs.Labels.{IsLabel, one_label, GoodLabel, good_label, GoodVariant, good_variant, Same as SamePart, SameRow, same_more, same_first}
-use Rattle.sn_roundtrip.proofs.Rereads.{Readable, Reread, reread, Shows, Like, like_leaf, like_inside, like_parens, like_loose, like_each, like_raise, like_join, like_row, same_two}
-use Rattle.sn_roundtrip.proofs.Rows.{RowOf, GoodRow, row_begins, row_goes_on, calm_head}
-use Rattle.sn_roundtrip.proofs.Singles.{symbol_span, tag_span, name_span, spaced_text, spaced, gap}
-use Rattle.sn_roundtrip.proofs.Spans.{HeadAt, Begin, Calm, Mild, Exactly, End, Free, Whole, After, Span, adjoin}
+use Rattle.sn_roundtrip.specs.Unplaced.{unplaced_ident, unplaced_variant, unplaced_tag, unplaced_item, unplaced_template, unplaced_net, unplaced_net_form, at_no_net_place}
+use Rattle.sn_roundtrip.proofs.Boxes.{spaced_key}
+use Rattle.sn_roundtrip.proofs.Joins.{before, calmly, mildly, wholly}
+use Rattle.sn_roundtrip.proofs.Labels.{IsLabel, one_label, GoodLabel, good_label, GoodVariant, good_variant, SameRow, same_more, same_first}
+use Rattle.sn_roundtrip.proofs.Rereads.{Readable, reread, Shows, Like, like_leaf, like_inside, like_parens, like_loose, like_each, like_raise, like_join, like_row}
+use Rattle.sn_roundtrip.proofs.Rows.{GoodRow, row_begins, row_goes_on, calm_head}
+use Rattle.sn_roundtrip.proofs.Singles.{symbol_span, tag_span, name_span, spaced_text, spaced}
+use Rattle.sn_roundtrip.proofs.Spans.{HeadAt, Calm, Free, Whole}
 use Rattle.sn_roundtrip.proofs.Tags.{GoodTag, good_tag_expr, tag_whole, parens_span}
-use Rattle.sn_roundtrip.proofs.Words.{IsIdentifier, IsWord, AreWords}
+use Rattle.sn_roundtrip.proofs.Words.{IsIdentifier, AreWords}
 
 -- a fold of a network is one step over the folds of its parts
 module _ {A B : Type 0} (s : NetForm-F A B → A) (t : NetExpr-F A B → B) (at : ℕ) where

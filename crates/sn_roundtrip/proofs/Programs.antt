@@ -1,12 +1,11 @@
 -- Programs read back.
-use Rattle.std.proofs.Common.{◌≡◌, ℕ, ◌≤◌, ◌++◌, List, [], ◌∷◌, map, append-nil, codes, refl, sym, ap, ◌∙◌, subst, arith}
+use Rattle.std.proofs.Common.{◌≡◌, ℕ, ◌++◌, List, [], ◌∷◌, map, append-nil, codes, refl, sym, ap, ◌∙◌, subst, arith}
 use Rattle.std.specs.List.{flat_map}
-use Rattle.std.specs.Str.{chars}
 use Rattle.std.proofs.lemmas.Grind.{flat_map-append}
 use Rattle.std.proofs.lemmas.List.{map-append}
 use Rattle.std.proofs.lemmas.Str.{chars_from_encodes}
-use Rattle.sn_ast.specs.Declarations.{Declaration, Declarations, no_more, declaration}
-use Rattle.sn_ast.specs.Measures.{measured, IsWithin}
+use Rattle.sn_ast.specs.Declarations.{Declarations, no_more, declaration}
+use Rattle.sn_ast.specs.Measures.{measured}
 use Rattle.sn_ast.specs.Rows.{append}
 use Rattle.sn_ast.specs.declared.declaration.Decl.{Decl}
 use Rattle.sn_ast.specs.declared.declaration.Program.{Program}
@@ -16,13 +15,13 @@ use Rattle.sn_lexer.specs.Answer.{LexesAs}
 use Rattle.sn_lexer.specs.Lexes.Lexes.{end}
 use Rattle.sn_lexer.specs.Lexes.{Lexes}
 use Rattle.sn_lexer.specs.declared.token.Token.{Token}
-use Rattle.sn_parser.specs.Answer.{Spells, AreWithin, program_of, IsProgram, Spell}
-use Rattle.sn_print.specs.Declarations.{decl_text, program_text}
+use Rattle.sn_parser.specs.Answer.{AreWithin, program_of, IsProgram, Spell}
+use Rattle.sn_print.specs.Declarations.{decl_text}
 use Rattle.sn_roundtrip.specs.ReadsBack.{ReadsBack}
-use Rattle.sn_roundtrip.specs.Unplaced.{unplaced, unplaced_decl}
+use Rattle.sn_roundtrip.specs.Unplaced.{unplaced_decl}
 use Rattle.sn_roundtrip.proofs.Declarations.{GoodDecl, good_declaration}
 use Rattle.sn_roundtrip.proofs.Joins.{before}
-use Rattle.sn_roundtrip.proofs.Rereads.{Readable, Reread, reread, Shows, Like}
+use Rattle.sn_roundtrip.proofs.Rereads.{reread, Shows, Like}
 use Rattle.sn_roundtrip.proofs.Singles.{gap}
 use Rattle.sn_roundtrip.proofs.Spans.{Calm, Free}
 use Rattle.sn_roundtrip.proofs.Telling.{told_text, are_words}
@@ -104,7 +103,7 @@ good_lines no_more w = no_lines
 good_lines (declaration {at = at} {d = d} a k) w = let x = good_declaration a w in some_lines (good_more_lines k (first_line at d x.0) x.1)
 
 nothing_lexes : LexesAs [] []
-nothing_lexes = record { utf8 = ([], refl, refl); lexes = subst (λ cs. Lexes 0 cs []) (chars_from_encodes [] [] ([], refl, refl) refl) end }
+nothing_lexes = record { utf8 = ([], (refl, refl)); lexes = subst (λ cs. Lexes 0 cs []) (chars_from_encodes [] [] ([], (refl, refl)) refl) end }
 
 reads_back_by : {ds : Decls} → SomeLines ds → AreWithin ds → ReadsBack (program_of ds)
 reads_back_by no_lines within = record {

@@ -2,7 +2,7 @@
 use Rattle.std.proofs.Common.{◌≡◌, ℕ, ◌+◌, ◌≤◌, max, List, map, refl, sym, ap, ◌∙◌, arith}
 use Rattle.std.proofs.lemmas.List.{map-append}
 use Rattle.sn_ast.specs.Measures.{measured}
-use Rattle.sn_ast.specs.Rows.{append, no_parts, with_part}
+use Rattle.sn_ast.specs.Rows.{append, with_part}
 use Rattle.sn_ast.specs.declared.measure.Measured.{Measured}
 use Rattle.sn_ast.specs.declared.terminal.Terminal.{Terminal}
 use Rattle.sn_roundtrip.proofs.Spans.{Begin, End, Span}

@@ -6,8 +6,8 @@ use Rattle.std.proofs.lemmas.List.{map-append}
 use Rattle.sn_ast.specs.declared.terminal.Terminal.{Terminal}
 use Rattle.sn_print.specs.Words.{joined}
 use Rattle.sn_roundtrip.proofs.Joins.{before}
-use Rattle.sn_roundtrip.proofs.Rereads.{Readable, Reread, reread, Shows}
-use Rattle.sn_roundtrip.proofs.Spans.{HeadAt, Heads, Begin, Calm, Mild, Exactly, End, Free, Whole, Span, adjoin}
+use Rattle.sn_roundtrip.proofs.Rereads.{reread, Shows}
+use Rattle.sn_roundtrip.proofs.Spans.{HeadAt, Heads, Begin, Calm, Mild, Exactly, End, Free, Span, adjoin}
 
 -- what goes on after the parts so far goes on from before them
 abbrev pub RowOf : {W Acc : Type 0} → (List Terminal → W → List Terminal → Type 0) → (Acc → List Terminal → W → List Terminal → Type 0) → List Terminal → Acc → List Terminal → Type 0

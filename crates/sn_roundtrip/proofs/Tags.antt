@@ -1,9 +1,9 @@
 -- Expressions over tags read back.
-use Rattle.std.proofs.Common.{◌≡◌, ℕ, ℤ, true, ◌+◌, ◌++◌, length, List, [], ◌∷◌, map, pos, codes, decimal, refl, sym, ap, ◌∙◌}
+use Rattle.std.proofs.Common.{◌≡◌, ℕ, ℤ, ◌++◌, List, ◌∷◌, pos, codes, decimal, refl, sym, ap, ◌∙◌}
 use Rattle.std.specs.Fmt.{signed_decimal}
 use Rattle.sn_ast.specs.Measures.{measured}
 use Rattle.sn_ast.specs.Operators.{tag_operations, with_sign, with_operator, with_and, with_or}
-use Rattle.sn_ast.specs.TagExprs.{with_condition, conditional, TagExpr, plain, choose, Disjunction, disjunction, Disjunctions, no_or, or, Conjunction, conjunction, Conjunctions, no_and, and, Comparison, no_compare, compare, Sum, sum, Sums, no_sum, add, Product, product, Products, no_product, multiply, Operand, sign, number, tag, parens}
+use Rattle.sn_ast.specs.TagExprs.{with_condition, TagExpr, plain, choose, Disjunction, disjunction, Disjunctions, no_or, or, Conjunction, conjunction, Conjunctions, no_and, and, Comparison, no_compare, compare, Sum, sum, Sums, no_sum, add, Product, product, Products, no_product, multiply, Operand, sign, number, tag, parens}
 use Rattle.sn_ast.specs.declared.label.Ident.{Ident}
 use Rattle.sn_ast.specs.declared.measure.Measured.{Measured}
 use Rattle.sn_ast.specs.declared.tag_expr.Operator.{Operator}
@@ -18,14 +18,13 @@ use Rattle.sn_ast.specs.declared.terminal.Symbol.TheVariants as symbol
 use Rattle.sn_ast.specs.declared.terminal.Terminal.{Terminal}
 use Rattle.sn_ast.specs.declared.terminal.Terminal.TheVariants.{Symbol, Number}
 use Rattle.sn_ast.specs.declared.terminal.Sign.TheVariants.{Minus, Not}
-use Rattle.sn_terminal.specs.Words.{symbol_word}
 use Rattle.sn_print.specs.Expressions.{Rank, Alone, Compound, Sequence, Shown, alone, compound, operand, by_rank, tag_shown, tag_step}
 use Rattle.sn_print.specs.Words.{operator_text, in_angles, in_parentheses}
-use Rattle.sn_roundtrip.specs.Unplaced.{unplaced_ident, unplaced_tag, unplaced_tag_form, at_no_tag_place}
+use Rattle.sn_roundtrip.specs.Unplaced.{unplaced_tag, unplaced_tag_form, at_no_tag_place}
 use Rattle.sn_roundtrip.proofs.Joins.{before, calmly, mildly, mildly_exact, wholly}
-use Rattle.sn_roundtrip.proofs.Rereads.{Readable, Reread, reread, Like, like_leaf, like_inside, like_parens, like_loose, like_each, like_raise, like_join, like_three}
+use Rattle.sn_roundtrip.proofs.Rereads.{Readable, reread, Like, like_leaf, like_inside, like_parens, like_loose, like_each, like_raise, like_join, like_three}
 use Rattle.sn_roundtrip.proofs.Singles.{symbol_span, number_span, tag_span, spaced_text, spaced}
-use Rattle.sn_roundtrip.proofs.Spans.{Begin, Calm, Mild, Exactly, End, Free, Whole, After, Span, adjoin}
+use Rattle.sn_roundtrip.proofs.Spans.{Calm, Mild, Whole, Span}
 use Rattle.sn_roundtrip.proofs.Words.{IsIdentifier, IsWord, AreWords}
 
 -- a fold of an expression is one step over the folds of its parts
@@ -199,7 +198,7 @@ good_neg at {e} x = record {
     span = mildly_exact refl (before (symbol_span symbol.Minus) (tag_operand x).span refl);
     rereads = λ p. reread _ (λ us. of_operand (sign refl (((tag_operand x).rereads _).reads us)))
         (like_raise unplaced_tag (like_each unplaced_tag unplaced_tag (λ a. record { at = 0; form = form.Neg a }) _ _
-            (fold_neg unplaced_tag_form at_no_tag_place at) (fold_neg unplaced_tag_form at_no_tag_place p) ((tag_operand x).rereads _).good));
+        (fold_neg unplaced_tag_form at_no_tag_place at) (fold_neg unplaced_tag_form at_no_tag_place p) ((tag_operand x).rereads _).good));
   };
 }
 
@@ -211,7 +210,7 @@ good_not at {e} x = record {
     span = mildly_exact refl (before (symbol_span symbol.Bang) (tag_operand x).span refl);
     rereads = λ p. reread _ (λ us. of_operand (sign refl (((tag_operand x).rereads _).reads us)))
         (like_raise unplaced_tag (like_each unplaced_tag unplaced_tag (λ a. record { at = 0; form = form.Not a }) _ _
-            (fold_not unplaced_tag_form at_no_tag_place at) (fold_not unplaced_tag_form at_no_tag_place p) ((tag_operand x).rereads _).good));
+        (fold_not unplaced_tag_form at_no_tag_place at) (fold_not unplaced_tag_form at_no_tag_place p) ((tag_operand x).rereads _).good));
   };
 }
 
@@ -223,7 +222,7 @@ good_op op at {e} {f} x y = record {
     span = between (tag_operand x).span (symbol_of op) (tag_operand y).span;
     rereads = λ p. reread _ (λ us. reads_op op (((tag_operand x).rereads p).reads _) (((tag_operand y).rereads _).reads us))
         (like_raise unplaced_tag (like_join unplaced_tag unplaced_tag unplaced_tag (λ a b. record { at = 0; form = form.Op op a b }) _ _
-            (fold_op unplaced_tag_form at_no_tag_place at op) (fold_op unplaced_tag_form at_no_tag_place _ op) ((tag_operand x).rereads p).good ((tag_operand y).rereads _).good));
+        (fold_op unplaced_tag_form at_no_tag_place at op) (fold_op unplaced_tag_form at_no_tag_place _ op) ((tag_operand x).rereads p).good ((tag_operand y).rereads _).good));
   };
 }
 
@@ -235,7 +234,7 @@ good_and at {e} {f} x y = record {
     span = between (tag_operand x).span symbol.AndAnd (tag_operand y).span;
     rereads = λ p. reread _ (λ us. plain (disjunction (conjunction (as_compared (((tag_operand x).rereads p).reads _)) (and refl (as_compared (((tag_operand y).rereads _).reads us)) no_and)) no_or))
         (like_raise unplaced_tag (like_join unplaced_tag unplaced_tag unplaced_tag (λ a b. record { at = 0; form = form.And a b }) _ _
-            (fold_and unplaced_tag_form at_no_tag_place at) (fold_and unplaced_tag_form at_no_tag_place _) ((tag_operand x).rereads p).good ((tag_operand y).rereads _).good));
+        (fold_and unplaced_tag_form at_no_tag_place at) (fold_and unplaced_tag_form at_no_tag_place _) ((tag_operand x).rereads p).good ((tag_operand y).rereads _).good));
   };
 }
 
@@ -247,7 +246,7 @@ good_or at {e} {f} x y = record {
     span = between (tag_operand x).span symbol.BarBar (tag_operand y).span;
     rereads = λ p. reread _ (λ us. plain (disjunction (as_conjunction (as_compared (((tag_operand x).rereads p).reads _))) (or refl (as_conjunction (as_compared (((tag_operand y).rereads _).reads us))) no_or)))
         (like_raise unplaced_tag (like_join unplaced_tag unplaced_tag unplaced_tag (λ a b. record { at = 0; form = form.Or a b }) _ _
-            (fold_or unplaced_tag_form at_no_tag_place at) (fold_or unplaced_tag_form at_no_tag_place _) ((tag_operand x).rereads p).good ((tag_operand y).rereads _).good));
+        (fold_or unplaced_tag_form at_no_tag_place at) (fold_or unplaced_tag_form at_no_tag_place _) ((tag_operand x).rereads p).good ((tag_operand y).rereads _).good));
   };
 }
 
@@ -259,7 +258,7 @@ good_cond at {c} {e} {f} x y z = record {
     span = mildly (before (tag_operand x).span (before (spaced symbol.Question) (before (tag_operand y).span (before (spaced symbol.Colon) (tag_operand z).span refl) refl) refl) refl);
     rereads = λ p. reread _ (λ us. choose (as_disjunction (as_compared (((tag_operand x).rereads p).reads _))) (of_operand (((tag_operand y).rereads _).reads _)) (of_operand (((tag_operand z).rereads _).reads us)))
         (like_raise unplaced_tag (like_three unplaced_tag unplaced_tag unplaced_tag unplaced_tag (λ a b d. record { at = 0; form = form.Cond a b d }) _ _
-            (fold_cond unplaced_tag_form at_no_tag_place at) (fold_cond unplaced_tag_form at_no_tag_place _) ((tag_operand x).rereads p).good ((tag_operand y).rereads _).good ((tag_operand z).rereads _).good));
+        (fold_cond unplaced_tag_form at_no_tag_place at) (fold_cond unplaced_tag_form at_no_tag_place _) ((tag_operand x).rereads p).good ((tag_operand y).rereads _).good ((tag_operand z).rereads _).good));
   };
 }
 

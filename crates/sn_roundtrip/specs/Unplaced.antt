@@ -1,5 +1,5 @@
 -- A program without its places: each place is 0. Two programs are the same apart from places where these are equal.
-use Rattle.std.specs.Prelude.{List, map, Option}
+use Rattle.std.specs.Prelude.{map}
 use Rattle.std.specs.Option.{option_map}
 use Rattle.sn_ast.specs.declared.box_expr.BExpr.{BExpr, BExpr-F, fold-BExpr}
 use Rattle.sn_ast.specs.declared.box_expr.BForm.{BForm}
