@@ -13,7 +13,7 @@ use Rattle.sn_net.specs.declared.net.Net.{Net}
 use Rattle.sn_net.specs.declared.net.Net.TheOpen.{Net-F}
 use Rattle.sn_net.specs.declared.net.Net.TheFolds.{fold-roll-Net}
 use Rattle.sn_net.specs.declared.net.Net.TheVariants.{Filter as FilterLeaf, Serial, rolls-Filter, rolls-Serial}
-use Rattle.sn_net.specs.Filter.{target, source, IsClosedTemplate, IsClosed}
+use Rattle.sn_net.specs.Filter.{target, is_from, IsClosedTemplate, IsClosed}
 use Rattle.sn_net.specs.Net.{filters, filters_step, AllClosed}
 
 -- the template of some parts
@@ -29,9 +29,9 @@ earlier_apart pattern parts i d closed here k e within =
 
 -- a template that is closed as far as place i, with one part more
 pub closed_more : (pattern : Labels) (parts : List Part) (i : ℕ) (d : Part) → IsClosedTemplate pattern (with_parts (take i parts)) → i < length parts
-    → IsTrue (contains pattern (source (get_or parts i d))) → All (λ earlier. target earlier ≢ target (get_or parts i d)) (take i parts) → IsClosedTemplate pattern (with_parts (take (i + 1) parts))
+    → IsTrue (is_from pattern (get_or parts i d)) → All (λ earlier. target earlier ≢ target (get_or parts i d)) (take i parts) → IsClosedTemplate pattern (with_parts (take (i + 1) parts))
 closed_more pattern parts i d closed here named apart = record {
-  named = All-more (λ part. IsTrue (contains pattern (source part))) parts i d here closed.named named;
+  named = All-more (λ part. IsTrue (is_from pattern part)) parts i d here closed.named named;
   apart = subst (λ ps. AllPairs (λ part other. target part ≢ target other) ps) (sym (take_more parts i d here)) (all_pairs_push (λ part other. target part ≢ target other) (take i parts) (get_or parts i d) closed.apart apart);
 }
 

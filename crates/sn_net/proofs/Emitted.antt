@@ -9,17 +9,24 @@ use Rattle.std.proofs.lemmas.List.Elements.{All-head, All-tail, filter_map-appen
 use Rattle.sn_record.specs.declared.label.Label.{Label}
 use Rattle.sn_record.specs.declared.value.Value.{Value}
 use Rattle.sn_record.specs.Label.{label_cmp, label_cmp_total, label_cmp-IsAntisymmetric}
-use Rattle.sn_record.specs.LabelSet.{Labels}
+use Rattle.sn_record.specs.LabelSet.{Labels, contains}
 use Rattle.sn_record.specs.Record.{Entries, Matches}
 use Rattle.sn_record.proofs.Maps.{same_label}
 use Rattle.sn_net.specs.declared.filter.Part.{Part}
-use Rattle.sn_net.specs.Filter.{target, source, IsClosedTemplate, part_entry, template_record}
+use Rattle.sn_net.specs.declared.filter.Part.TheVariants.{Copy, Rename, Compute}
+use Rattle.sn_net.specs.Filter.{target, source, is_plain, is_from, IsClosedTemplate, part_entry, template_record}
 use Rattle.sn_net.proofs.Closed.{with_parts, earlier_apart}
 
--- a record that matches the pattern of a closed template has the source of each part
-pub has_source : (pattern : Labels) (r : Entries) (parts : List Part) (i : ℕ) (d : Part) → IsClosedTemplate pattern (with_parts parts) → Matches r pattern → i < length parts
-    → IsTrue (contains_key r (source (get_or parts i d)))
-has_source pattern r parts i d closed matches here = matches _ (closed.named i d here)
+-- a plain part that takes from the labels has its source among them
+plain_from : (labels : Labels) (part : Part) → IsTrue (is_plain part) → IsTrue (is_from labels part) → IsTrue (contains labels (source part))
+plain_from labels (Copy label) plain from = from
+plain_from labels (Rename new old) plain from = from
+plain_from labels (Compute id expr) plain from = cc
+
+-- a record that matches the pattern of a closed template has the source of each plain part
+pub has_source : (pattern : Labels) (r : Entries) (parts : List Part) (i : ℕ) (d : Part) → IsClosedTemplate pattern (with_parts parts) → IsTrue (is_plain (get_or parts i d)) → Matches r pattern
+    → i < length parts → IsTrue (contains_key r (source (get_or parts i d)))
+has_source pattern r parts i d closed plain matches here = matches _ (plain_from pattern (get_or parts i d) plain (closed.named i d here))
 
 -- what no part sets has no value among the entries of the parts
 find_unset : (r : Entries) (parts : List Part) (l : Label) → All (λ part. target part ≢ l) parts → find label_cmp l (filter_map (part_entry r) parts) ≡ None

@@ -1,5 +1,5 @@
 -- What filters and networks in series answer.
-use Rattle.std.proofs.Common.{◌≡◌, Bool, true, false, cond, ◌||◌, IsTrue, ◌↔◌, List, [], ◌∷◌, refl, sym, ap, ◌∙◌, subst, map}
+use Rattle.std.proofs.Common.{◌≡◌, Bool, true, false, cond, ◌||◌, ◌&&◌, IsTrue, ◌↔◌, List, [], ◌∷◌, refl, sym, ap, ◌∙◌, subst, map}
 use Rattle.std.specs.List.{flat_map}
 use Rattle.std.specs.FinMap.{contains_key}
 use Rattle.std.proofs.lemmas.List.Folds.{list_any-append, list_all-map}
@@ -13,6 +13,8 @@ use Rattle.sn_net.specs.declared.net.Net.TheFolds.{fold-roll-Net, ind-Net, map-N
 use Rattle.sn_net.specs.declared.net.Net.TheViews.{roll-Net}
 use Rattle.sn_net.specs.declared.net.Net.TheVariants.{Filter as FilterLeaf, Serial, rolls-Filter, rolls-Serial}
 use Rattle.sn_net.specs.Filter.{filter_answer}
+use Rattle.std.proofs.lemmas.Bool.{false≢true, and_parts}
+use Rattle.sn_net.specs.Net.{chain_step, is_chain}
 use Rattle.sn_net.specs.Meaning.{ModelItem, Rec, Fault, Stuck, is_stuck, holds_stuck, is_match, answer, one_step, one}
 
 -- the test of a match holds exactly where there is one
@@ -66,12 +68,29 @@ filter_stuck f (item ∷ items) stuck =
 abbrev KeepsStuck : Net → Type 0
 KeepsStuck net = (items : List ModelItem) → IsTrue (holds_stuck items) → IsTrue (holds_stuck (one net items))
 
--- what is stuck stays so to the end
-pub one-stuck : (net : Net) → KeepsStuck net
-one-stuck = ind-Net KeepsStuck (λ x y is. subst (λ z. KeepsStuck (roll-Net z)) is
-    (elim y as (λ z. KeepsStuck (roll-Net (map-Net _ _ (λ e. e.0) z))) [
-      | Net-F.Filter f ↦ λ items stuck. ap (λ (g : List ModelItem → List ModelItem). holds_stuck (g items)) (fold-roll-Net (List ModelItem → List ModelItem) one_step (Net-F.Filter f)) ∙ filter_stuck f items stuck
-      | Net-F.Serial left right ↦ λ items stuck. ap (λ (g : List ModelItem → List ModelItem). holds_stuck (g items)) (fold-roll-Net (List ModelItem → List ModelItem) one_step (Net-F.Serial left.0 right.0)) ∙ right.1 _ (left.1 items stuck)
+-- a chain of two networks is a chain of each
+pub chain-Serial : (left right : Net) → is_chain (Serial left right) ≡ (is_chain left && is_chain right)
+chain-Serial left right = ap is_chain (sym (rolls-Serial left right)) ∙ fold-roll-Net Bool chain_step (Net-F.Serial left right)
+
+-- what is stuck stays so to the end of a chain
+abbrev Keeps : Net → Type 0
+Keeps net = IsTrue (is_chain net) → KeepsStuck net
+
+no_chain : (x : Net-F Net) → chain_step (map-Net _ _ is_chain x) ≡ false → Keeps (roll-Net x)
+no_chain x broken chain = absurd (false≢true (sym broken ∙ sym (fold-roll-Net Bool chain_step x) ∙ chain))
+
+pub one-stuck : (net : Net) → Keeps net
+one-stuck = ind-Net Keeps (λ x y is. subst (λ z. Keeps (roll-Net z)) is
+    (elim y as (λ z. Keeps (roll-Net (map-Net _ _ (λ e. e.0) z))) [
+      | Net-F.Box place number ↦ no_chain (Net-F.Box place number) refl
+      | Net-F.Filter f ↦ λ chain items stuck. ap (λ (g : List ModelItem → List ModelItem). holds_stuck (g items)) (fold-roll-Net (List ModelItem → List ModelItem) one_step (Net-F.Filter f)) ∙ filter_stuck f items stuck
+      | Net-F.Sync place patterns ↦ no_chain (Net-F.Sync place patterns) refl
+      | Net-F.Serial left right ↦ λ chain items stuck.
+          let parts = and_parts (is_chain left.0) (is_chain right.0) (sym (fold-roll-Net Bool chain_step (Net-F.Serial left.0 right.0)) ∙ chain) in
+          ap (λ (g : List ModelItem → List ModelItem). holds_stuck (g items)) (fold-roll-Net (List ModelItem → List ModelItem) one_step (Net-F.Serial left.0 right.0)) ∙ right.1 parts.1 _ (left.1 parts.0 items stuck)
+      | Net-F.Choice place merge branches faces ↦ no_chain (Net-F.Choice place merge (map (λ e. e.0) branches) faces) refl
+      | Net-F.Star place merge body exit guard ↦ no_chain (Net-F.Star place merge body.0 exit guard) refl
+      | Net-F.Split place merge body tag ↦ no_chain (Net-F.Split place merge body.0 tag) refl
     ]))
 
 -- records are not stuck

@@ -36,11 +36,12 @@ answer filter (Rec r) = if is_match r filter.pattern then map Rec (filter_answer
 answer filter (Fault fault) = Fault fault ∷ []
 answer filter (Stuck place) = Stuck place ∷ []
 
--- one level, with the meaning of each part in its place
+-- one level, with the meaning of each part in its place. Chains alone have a meaning so far.
 abbrev pub one_step : Net-F (List ModelItem → List ModelItem) → List ModelItem → List ModelItem
 one_step (Net-F.Filter filter) items = flat_map (answer filter) items
 one_step (Net-F.Serial left right) items = right (left items)
+one_step other items = []
 
--- what a network answers to the items that flow into it, in order
+-- what a chain answers to the items that flow into it, in order
 abbrev pub one : Net → List ModelItem → List ModelItem
 one = fold-Net (List ModelItem → List ModelItem) one_step

@@ -1,16 +1,19 @@
 ghost use Rattle.std.specs.Prelude.{◌≡◌, ◌≢◌, IsTrue, ◌↔◌, All};
-ghost use Rattle.sn_net.specs.Filter.{target, source, IsClosedTemplate, IsClosed};
+ghost use Rattle.sn_net.specs.Filter.{field, tag, target, source, is_from, is_over, is_plain, IsClosedTemplate, IsClosed};
 
 use sn_list::Seq;
 use sn_record::{Kind, Label, LabelSet};
+use sn_tagexpr::TagExpr;
 
 /// What gives one label of a template its value.
-#[derive(Clone, Copy, PartialEq, Eq, Debug)]
+#[derive(PartialEq, Eq, Debug, Drop)]
 pub enum Part {
     /// The label at its value in the record that was taken.
     Copy(Label),
     /// The first field at the value of the second.
     Rename(u32, u32),
+    /// The tag at the value of the expression over the tags of the record that was taken.
+    Compute(u32, TagExpr),
 }
 
 /// How a filter makes one record of the record that it takes.
@@ -28,6 +31,44 @@ pub struct Filter {
     pub templates: Seq<Template>,
 }
 
+/// The field with a number.
+fn field(id: u32) -> Label
+    ensures { result ≡ field id }
+{
+    Label {
+        kind: Kind::Field,
+        id,
+    }
+}
+
+/// The tag with a number.
+fn tag(id: u32) -> Label
+    ensures { result ≡ tag id }
+{
+    Label {
+        kind: Kind::Tag,
+        id,
+    }
+}
+
+/// Whether each tag that the expression names is in `labels`.
+pub fn is_over(labels: &LabelSet, expr: &TagExpr) -> bool
+    ensures { result ≡ is_over labels.now expr.now }
+{
+    match expr {
+        TagExpr::Number(_) => true,
+        TagExpr::Tag(id) => labels.contains(tag(*id)),
+        TagExpr::Neg(part) | TagExpr::Not(part) => is_over(labels, part.get()),
+        TagExpr::Op(_, left, right) => is_over(labels, left.get()) && is_over(labels, right.get()),
+        TagExpr::And(left, right) | TagExpr::Or(left, right) => {
+            is_over(labels, left.get()) && is_over(labels, right.get())
+        }
+        TagExpr::Cond(test, left, right) => {
+            is_over(labels, test.get()) && is_over(labels, left.get()) && is_over(labels, right.get())
+        }
+    }
+}
+
 impl Part {
     /// The label that the part sets.
     pub fn target(&self) -> Label
@@ -35,23 +76,41 @@ impl Part {
     {
         match self {
             Part::Copy(label) => *label,
-            Part::Rename(new, _) => Label {
-                kind: Kind::Field,
-                id: *new,
-            },
+            Part::Rename(new, _) => field(*new),
+            Part::Compute(id, _) => tag(*id),
         }
     }
 
-    /// The label whose value the part takes.
+    /// Whether the part sets its label at a value that the record has, and computes none.
+    pub fn is_plain(&self) -> bool
+        ensures { result ≡ is_plain self.now }
+    {
+        match self {
+            Part::Copy(_) | Part::Rename(_, _) => true,
+            Part::Compute(_, _) => false,
+        }
+    }
+
+    /// The label whose value a plain part takes.
     pub fn source(&self) -> Label
+        requires { IsTrue (is_plain self.now) }
         ensures { result ≡ source self.now }
     {
         match self {
             Part::Copy(label) => *label,
-            Part::Rename(_, old) => Label {
-                kind: Kind::Field,
-                id: *old,
-            },
+            Part::Rename(_, old) => field(*old),
+            Part::Compute(_, _) => unreachable!(),
+        }
+    }
+
+    /// Whether each label that the part copies, renames or computes from is in `pattern`.
+    fn is_from(&self, pattern: &LabelSet) -> bool
+        ensures { result ≡ is_from pattern.now self.now }
+    {
+        match self {
+            Part::Copy(label) => pattern.contains(*label),
+            Part::Rename(_, old) => pattern.contains(field(*old)),
+            Part::Compute(_, expr) => is_over(pattern, expr),
         }
     }
 }
@@ -69,13 +128,13 @@ fn is_unset(parts: &[Part], label: Label) -> bool
 }
 
 impl Template {
-    /// Whether each part takes its value from a label of `pattern`, and no two parts set one label.
+    /// Whether each part takes its value from labels of `pattern`, and no two parts set one label.
     pub fn is_closed(&self, pattern: &LabelSet) -> bool
         ensures { IsTrue result ↔ IsClosedTemplate pattern.now self.now }
     {
         let parts = self.parts.as_slice();
         for (place, part) in parts.iter().enumerate() {
-            if !pattern.contains(part.source()) || !is_unset(&parts[..place], part.target()) {
+            if !part.is_from(pattern) || !is_unset(&parts[..place], part.target()) {
                 return false;
             }
         }

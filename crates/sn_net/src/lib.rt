@@ -1,11 +1,14 @@
 //! Networks: what they are made of, when they are closed, and what a chain of them means on one thread.
 #![tactic(auto)]
 
+mod expr;
 mod filter;
 mod net;
 
-pub use filter::{Filter, Part, Template};
-pub use net::Net;
+pub use expr::{Boxes, BoxProgram, BuiltinKind, Expr, Fun};
+pub use filter::{Filter, Part, Template, is_over};
+pub use net::{Claim, Merge, Net};
+pub use sn_tagexpr::{BinOp, TagExpr};
 
 #[cfg(test)]
 mod tests;
