@@ -1,10 +1,10 @@
 -- When filters and networks are closed.
-use Rattle.std.proofs.Common.{◌≡◌, ◌≢◌, ℕ, ◌<◌, ◌+◌, Bool, true, false, IsTrue, ◌↔◌, List, [], ◌∷◌, ◌++◌, length, get_or, take, drop, refl, sym, ap, ◌∙◌, subst, arith}
+use Rattle.std.proofs.Common.{◌≡◌, ◌≢◌, ℕ, ◌<◌, ◌+◌, ◌&&◌, Bool, true, false, IsTrue, ◌↔◌, List, [], ◌∷◌, ◌++◌, length, get_or, take, drop, refl, sym, ap, ◌∙◌, subst, arith}
 use Rattle.std.specs.List.{All, AllPairs}
 use Rattle.std.proofs.lemmas.List.{take_more, get_or-take, length-take, get_or_default, take_at, drop_at}
 use Rattle.std.proofs.lemmas.List.Elements.{All-more, All-take, All-drop, All-same, All-append, All-nil, All-cons, All-head}
 use Rattle.std.proofs.lemmas.List.Quantifiers.{all_pairs_push}
-use Rattle.std.proofs.lemmas.Bool.{false≢true}
+use Rattle.std.proofs.lemmas.Bool.{and_parts}
 use Rattle.sn_record.specs.LabelSet.{Labels, contains}
 use Rattle.sn_net.specs.declared.filter.Part.{Part}
 use Rattle.sn_net.specs.declared.filter.Template.{Template}
@@ -13,8 +13,8 @@ use Rattle.sn_net.specs.declared.net.Net.{Net}
 use Rattle.sn_net.specs.declared.net.Net.TheOpen.{Net-F}
 use Rattle.sn_net.specs.declared.net.Net.TheFolds.{fold-roll-Net}
 use Rattle.sn_net.specs.declared.net.Net.TheVariants.{Filter as FilterLeaf, Serial, rolls-Filter, rolls-Serial}
-use Rattle.sn_net.specs.Filter.{target, is_from, IsClosedTemplate, IsClosed}
-use Rattle.sn_net.specs.Net.{filters, filters_step, AllClosed}
+use Rattle.sn_net.specs.Filter.{target, is_from, IsClosedTemplate, IsClosed, IsPlain}
+use Rattle.sn_net.specs.Net.{filters, filters_step, chain_step, is_chain, IsClosedChain}
 
 -- the template of some parts
 abbrev pub with_parts : List Part → Template
@@ -43,34 +43,47 @@ filters-Filter f = ap filters (sym (rolls-Filter f)) ∙ fold-roll-Net (List Fil
 filters-Serial : (left right : Net) → filters (Serial left right) ≡ filters left ++ filters right
 filters-Serial left right = ap filters (sym (rolls-Serial left right)) ∙ fold-roll-Net (List Filter) filters_step (Net-F.Serial left right)
 
--- a filter alone is closed where it is as a filter
-pub AllClosed-Filter : (f : Filter) → AllClosed (FilterLeaf f) ↔ IsClosed f
-AllClosed-Filter f = (
-  λ closed. All-head IsClosed f [] (All-same IsClosed _ _ (sym (filters-Filter f)) closed),
-  λ closed. All-same IsClosed _ _ (filters-Filter f) (All-cons IsClosed f [] closed (All-nil IsClosed)),
-)
+-- what holds of each filter of a network holds of a filter alone, and of networks in series where it does of both
+module _ (P : Filter → Type 0) where
+  pub each-Filter : (f : Filter) → All P (filters (FilterLeaf f)) ↔ P f
+  each-Filter f = (
+    λ all. All-head P f [] (All-same P _ _ (sym (filters-Filter f)) all),
+    λ one. All-same P _ _ (filters-Filter f) (All-cons P f [] one (All-nil P)),
+  )
 
--- networks in series are closed where both are
-pub AllClosed-Serial : (left right : Net) → AllClosed (Serial left right) ↔ (AllClosed left × AllClosed right)
-AllClosed-Serial left right =
-    let both = filters-Serial left right in
-    let front : take (length (filters left)) (filters left ++ filters right) ≡ filters left = take_at (filters left) (filters right) _ refl in
-    let back : drop (length (filters left)) (filters left ++ filters right) ≡ filters right = drop_at (filters left) (filters right) _ refl in (
-      λ closed. let all = All-same IsClosed _ _ (sym both) closed in
-          (All-same IsClosed _ _ (sym front) (All-take IsClosed (length (filters left)) _ all), All-same IsClosed _ _ (sym back) (All-drop IsClosed (length (filters left)) _ all)),
-      λ closed. All-same IsClosed _ _ both (All-append IsClosed _ _ closed.0 closed.1),
-    )
+  pub each-Serial : (left right : Net) → All P (filters (Serial left right)) ↔ (All P (filters left) × All P (filters right))
+  each-Serial left right =
+      let both = filters-Serial left right in
+      let front : take (length (filters left)) (filters left ++ filters right) ≡ filters left = take_at (filters left) (filters right) _ refl in
+      let back : drop (length (filters left)) (filters left ++ filters right) ≡ filters right = drop_at (filters left) (filters right) _ refl in (
+        λ each. let all = All-same P _ _ (sym both) each in
+            (All-same P _ _ (sym front) (All-take P (length (filters left)) _ all), All-same P _ _ (sym back) (All-drop P (length (filters left)) _ all)),
+        λ each. All-same P _ _ both (All-append P _ _ each.0 each.1),
+      )
 
--- an answer to whether a network in series is closed, where the left part is
-pub closed_then : (left right l r : Net) (a b : Bool) → l ≡ left → r ≡ right → (IsTrue a ↔ AllClosed l) → (IsTrue b ↔ AllClosed r) → a ≡ true → IsTrue b ↔ AllClosed (Serial left right)
-closed_then left right l r a b is_left is_right at_left at_right first = (
-  λ both. (AllClosed-Serial left right).1 (subst AllClosed is_left (at_left.0 first), subst AllClosed is_right (at_right.0 both)),
-  λ closed. at_right.1 (subst AllClosed (sym is_right) ((AllClosed-Serial left right).0 closed).1),
-)
+-- the same of closed chains
+chain-Filter : (f : Filter) → is_chain (FilterLeaf f) ≡ true
+chain-Filter f = ap is_chain (sym (rolls-Filter f)) ∙ fold-roll-Net Bool chain_step (Net-F.Filter f)
 
--- the same, where the left part is not
-pub closed_else : (left right l : Net) (a : Bool) → l ≡ left → (IsTrue a ↔ AllClosed l) → a ≡ false → IsTrue a ↔ AllClosed (Serial left right)
-closed_else left right l a is_left at_left failed = (
-  λ passed. absurd (false≢true (sym failed ∙ passed)),
-  λ closed. at_left.1 (subst AllClosed (sym is_left) ((AllClosed-Serial left right).0 closed).0),
-)
+pub chain-Serial : (left right : Net) → is_chain (Serial left right) ≡ (is_chain left && is_chain right)
+chain-Serial left right = ap is_chain (sym (rolls-Serial left right)) ∙ fold-roll-Net Bool chain_step (Net-F.Serial left right)
+
+pub leaf_chain : (f : Filter) → IsClosed f → IsPlain f → IsClosedChain (FilterLeaf f)
+leaf_chain f closed plain = record { chain = chain-Filter f; closed = (each-Filter IsClosed f).1 closed; plain = (each-Filter IsPlain f).1 plain }
+
+pub leaf_of_chain : (f : Filter) → IsClosedChain (FilterLeaf f) → IsClosed f × IsPlain f
+leaf_of_chain f c = ((each-Filter IsClosed f).0 c.closed, (each-Filter IsPlain f).0 c.plain)
+
+pub both_chain : (left right : Net) → IsClosedChain left → IsClosedChain right → IsClosedChain (Serial left right)
+both_chain left right l r = record {
+  chain = chain-Serial left right ∙ (λ i. l.chain i && r.chain i);
+  closed = (each-Serial IsClosed left right).1 (l.closed, r.closed);
+  plain = (each-Serial IsPlain left right).1 (l.plain, r.plain);
+}
+
+pub both_of_chain : (left right : Net) → IsClosedChain (Serial left right) → IsClosedChain left × IsClosedChain right
+both_of_chain left right c =
+    let parts = and_parts (is_chain left) (is_chain right) (sym (chain-Serial left right) ∙ c.chain) in
+    let closed = (each-Serial IsClosed left right).0 c.closed in
+    let plain = (each-Serial IsPlain left right).0 c.plain in
+    (record { chain = parts.0; closed = closed.0; plain = plain.0 }, record { chain = parts.1; closed = closed.1; plain = plain.1 })

@@ -68,10 +68,6 @@ filter_stuck f (item ∷ items) stuck =
 abbrev KeepsStuck : Net → Type 0
 KeepsStuck net = (items : List ModelItem) → IsTrue (holds_stuck items) → IsTrue (holds_stuck (one net items))
 
--- a chain of two networks is a chain of each
-pub chain-Serial : (left right : Net) → is_chain (Serial left right) ≡ (is_chain left && is_chain right)
-chain-Serial left right = ap is_chain (sym (rolls-Serial left right)) ∙ fold-roll-Net Bool chain_step (Net-F.Serial left right)
-
 -- what is stuck stays so to the end of a chain
 abbrev Keeps : Net → Type 0
 Keeps net = IsTrue (is_chain net) → KeepsStuck net

@@ -38,7 +38,8 @@ chain_step (Net-F.Split place merge body tag) = false
 abbrev pub is_chain : Net → Bool
 is_chain = fold-Net Bool chain_step
 
--- it is made of filters in series that compute nothing
-pub record IsPlainChain (net : Net) : Type 0 where
+-- it is made of closed filters in series that compute nothing
+pub record IsClosedChain (net : Net) : Type 0 where
   pub chain : IsTrue (is_chain net)
+  pub closed : AllClosed net
   pub plain : All IsPlain (filters net)

@@ -4,7 +4,7 @@ use Rattle.std.specs.Prelude.{Result, Ok, Err, All}
 use Rattle.std.specs.List.{flat_map}
 use Rattle.sn_record.specs.Record.{Entries}
 use Rattle.sn_net.specs.declared.net.Net.{Net}
-use Rattle.sn_net.specs.Net.{AllClosed}
+use Rattle.sn_net.specs.Net.{IsClosedChain}
 use Rattle.sn_net.specs.Meaning.{Rec, holds_stuck, one}
 use Rattle.sn_net.proofs.Meanings.{none_stuck}
 use Rattle.std.proofs.lemmas.Bool.{false≢true}
@@ -67,7 +67,7 @@ module _ (bytes : List ℕ) where
   }
 
   pub source_loaded : (s : WrittenSource) (now : List (List ℕ)) (net : Net) → Reads SpellsSource bytes (Ok s) → now ≡ names_of s → length now ≤ 256
-      → IsBuildable now s → net ≡ net_of now s.filters → AllClosed net → Loads bytes (Ok (record { names = now; net = net }))
+      → IsBuildable now s → net ≡ net_of now s.filters → IsClosedChain net → Loads bytes (Ok (record { names = now; net = net }))
   source_loaded s now net read names few built is closed = record {
     ok = record {
       source = s;

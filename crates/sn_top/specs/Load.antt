@@ -1,6 +1,6 @@
 -- What the layers below the top calls give: programs, inputs and answers.
 use Rattle.std.specs.Prelude.{◌≡◌, ℕ, List, map, Result, Err, IfOk}
-use Rattle.sn_net.specs.Net.{AllClosed}
+use Rattle.sn_net.specs.Net.{IsClosedChain}
 use Rattle.sn_net.specs.Meaning.{Rec}
 use Rattle.sn_top.specs.declared.written.WrittenSource.{WrittenSource}
 use Rattle.sn_top.specs.declared.written.WrittenLine.{WrittenLine}
@@ -36,7 +36,7 @@ pub record IsProgram (bytes : List ℕ) (program : Program) : Type 0 where
   pub only : (other : WrittenSource) → SpellsSource bytes other → source ≡ other
   pub names : program.names ≡ names_of source
   pub net : program.net ≡ network_of source
-  pub closed : AllClosed program.net
+  pub closed : IsClosedChain program.net
 
 -- a small source is loaded, unless memory is wanted, and nothing else is
 pub record Loads (bytes : List ℕ) (result : Result Program ReadFault) : Type 0 where

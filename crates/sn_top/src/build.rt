@@ -1,6 +1,6 @@
 //! The network and the records that a small source and a small input stand for.
 ghost use Rattle.std.specs.Prelude.{◌≡◌, IsTrue, map, All, IfOk};
-ghost use Rattle.sn_net.specs.Net.{AllClosed};
+ghost use Rattle.sn_net.specs.Net.{IsClosedChain};
 ghost use Rattle.sn_top.specs.Numbered.{label_of as number_label, set_entries, set_of as number_set, part_of as number_part, template_of as number_template, filter_of as number_filter, net_of, line_entries, record_of as number_record, are_distinct, IsDistinctLine, IsBuildable, IsBuildableFilter, IsBuildableChain, Builds};
 
 use crate::names::SmallNames;
@@ -133,7 +133,7 @@ fn filter_of(alloc: Global, names: &SmallNames, filter: &WrittenFilter) -> Resul
 /// The filters in series, grouped to the right. It calls itself for each filter.
 fn chain_of(alloc: Global, names: &SmallNames, filters: &[WrittenFilter]) -> Result<Net, ReadFault>
     ensures chain { Builds (IsBuildableChain names.now filters.now) (net_of names.now filters.now) result }
-    ensures closed { IfOk result AllClosed }
+    ensures closed { IfOk result IsClosedChain }
 {
     match filters {
         [] => Err(ReadFault::NotBuilt),
@@ -157,7 +157,7 @@ pub fn network_of(
     source: &WrittenSource,
 ) -> Result<Net, ReadFault>
     ensures network { Builds (IsBuildable names.now source.now) (net_of names.now source.now.filters) result }
-    ensures closed { IfOk result AllClosed }
+    ensures closed { IfOk result IsClosedChain }
 {
     set_of(alloc, names, source.input.as_slice())?;
     set_of(alloc, names, source.output.as_slice())?;

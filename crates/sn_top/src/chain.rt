@@ -2,8 +2,8 @@ ghost use Rattle.std.specs.Prelude.{◌≡◌, ◌++◌, IfOk, OnOk, IfSome, IsT
 ghost use Rattle.std.specs.List.{flat_map};
 ghost use Rattle.std.specs.FinMap.{get, insert, contains_key};
 ghost use Rattle.sn_record.specs.Record.{Matches, inherit};
-ghost use Rattle.sn_net.specs.Filter.{source, target, IsClosedTemplate, IsClosed, template_record, filter_answer};
-ghost use Rattle.sn_net.specs.Net.{AllClosed};
+ghost use Rattle.sn_net.specs.Filter.{source, target, is_plain, IsClosedTemplate, IsClosed, IsPlainTemplate, IsPlain, template_record, filter_answer};
+ghost use Rattle.sn_net.specs.Net.{IsClosedChain};
 ghost use Rattle.sn_net.specs.Meaning.{Rec, holds_stuck, answer as item_answer, one};
 
 use sn_list::{Memory, Seq};
@@ -32,7 +32,8 @@ impl From<Memory> for ChainFault {
 
 /// Sets a part's target at a copy of the value that its source has in `taken`.
 fn set_part(alloc: Global, made: &mut Record, part: &Part, taken: &Record) -> Result<(), Memory>
-    requires { IsTrue (contains_key taken.now (source part.now)) }
+    requires plain { IsTrue (is_plain part.now) }
+    requires has { IsTrue (contains_key taken.now (source part.now)) }
     ensures { OnOk result (IfSome (get taken.now (source part.now)) (λ value. made.new ≡ insert made.old (target part.now) value)) }
 {
     let value = taken.get(part.source()).unwrap().copy(alloc)?;
@@ -50,6 +51,7 @@ fn emit(
     taken: &Record,
 ) -> Result<Record, Memory>
     requires closed { IsClosedTemplate pattern.now template.now }
+    requires plain { IsPlainTemplate template.now }
     requires matches { Matches taken.now pattern.now }
     ensures { IfOk result (λ emitted. emitted ≡ inherit taken.now pattern.now (template_record taken.now template.now)) }
 {
@@ -68,6 +70,7 @@ fn answer(
     out: &mut Seq<Record>,
 ) -> Result<(), Memory>
     requires closed { IsClosed filter.now }
+    requires plain { IsPlain filter.now }
     requires matches { Matches taken.now filter.now.pattern }
     ensures { OnOk result (out.new ≡ out.old ++ filter_answer filter.now taken.now) }
 {
@@ -86,7 +89,8 @@ fn run_filter(
     filter: &Filter,
     records: Seq<Record>,
 ) -> Result<Seq<Record>, ChainFault>
-    requires { IsClosed filter.now }
+    requires closed { IsClosed filter.now }
+    requires plain { IsPlain filter.now }
     ensures ok { IfOk result (λ out. flat_map (item_answer filter.now) (map Rec records) ≡ map Rec out) }
     ensures stuck { result ≡ Err ChainFault.Stuck → IsTrue (holds_stuck (flat_map (item_answer filter.now) (map Rec records))) }
 {
@@ -103,7 +107,7 @@ fn run_filter(
 /// What a chain of filters answers to the records, in order. Each filter runs over its whole input before the next one
 /// starts, and its input is then freed.
 pub fn run_chain(alloc: Global, net: &Net, records: Seq<Record>) -> Result<Seq<Record>, ChainFault>
-    requires { AllClosed net.now }
+    requires { IsClosedChain net.now }
     ensures ok { IfOk result (λ out. one net.now (map Rec records) ≡ map Rec out) }
     ensures stuck { result ≡ Err ChainFault.Stuck → IsTrue (holds_stuck (one net.now (map Rec records))) }
 {
@@ -113,5 +117,10 @@ pub fn run_chain(alloc: Global, net: &Net, records: Seq<Record>) -> Result<Seq<R
             let between = run_chain(alloc, left.get(), records)?;
             run_chain(alloc, right.get(), between)
         }
+        Net::Box { .. }
+        | Net::Sync { .. }
+        | Net::Choice { .. }
+        | Net::Star { .. }
+        | Net::Split { .. } => unreachable!(),
     }
 }

@@ -1,6 +1,6 @@
 //! From the bytes of a source and an input to the records that the network answers.
 ghost use Rattle.std.specs.Prelude.{◌≡◌, IfOk, IfErr};
-ghost use Rattle.sn_net.specs.Net.{AllClosed};
+ghost use Rattle.sn_net.specs.Net.{IsClosedChain};
 ghost use Rattle.sn_top.specs.Load.{Loads, LoadsInput, IsAnswer, WhyNoAnswer};
 
 use crate::build::{network_of, records_of};
@@ -87,7 +87,7 @@ fn load_input(alloc: Global, mut names: SmallNames, bytes: &[u8]) -> Result<Load
 
 /// The records that the network answers to a small input.
 pub fn answer_input(alloc: Global, program: Program, bytes: &[u8]) -> Result<Answered, Stop>
-    requires { AllClosed program.net }
+    requires { IsClosedChain program.net }
     ensures answered { IfOk result (IsAnswer program bytes.now) }
     ensures ended { IfErr result (WhyNoAnswer program bytes.now) }
 {
