@@ -12,20 +12,21 @@ use Rattle.sn_net.specs.declared.filter.Part.{Part}
 use Rattle.sn_net.specs.declared.filter.Filter.{Filter}
 use Rattle.sn_net.specs.declared.net.Net.{Net}
 use Rattle.sn_net.specs.declared.net.Net.TheVariants.{Serial}
-use Rattle.sn_net.specs.Filter.{source, target, IsClosedTemplate, template_record, filter_answer}
+use Rattle.sn_net.specs.Filter.{source, target, is_plain, IsClosedTemplate, template_record, filter_answer}
+use Rattle.sn_net.specs.Net.{is_chain}
 use Rattle.sn_net.specs.Meaning.{Rec, is_stuck, holds_stuck, answer, one}
 use Rattle.sn_net.proofs.Closed.{with_parts}
 use Rattle.sn_net.proofs.Emitted.{has_source, template_record_more}
 use Rattle.sn_net.proofs.Meanings.{answer-match, answer-no_match, one-Serial, one-stuck}
 
 -- the record of the parts before one, with what that one sets
-pub made_more : (pattern : Labels) (r : Entries) (parts : List Part) (i : ℕ) (d : Part) (made more : Entries) → IsClosedTemplate pattern (with_parts parts) → Matches r pattern → i < length parts
+pub made_more : (pattern : Labels) (r : Entries) (parts : List Part) (i : ℕ) (d : Part) (made more : Entries) → IsClosedTemplate pattern (with_parts parts) → IsTrue (is_plain (get_or parts i d)) → Matches r pattern → i < length parts
     → made ≡ template_record r (with_parts (take i parts)) → IfSome (get r (source (get_or parts i d))) (λ value. more ≡ insert made (target (get_or parts i d)) value)
     → more ≡ template_record r (with_parts (take (i + 1) parts))
-made_more pattern r parts i d made more closed matches here was set =
+made_more pattern r parts i d made more closed plain matches here was set =
     let part = get_or parts i d in
     elim (get r (source part)) as (λ x. get r (source part) ≡ x → IfSome x (λ value. more ≡ insert made (target part) value) → more ≡ template_record r (with_parts (take (i + 1) parts))) [
-      | None ↦ λ none _. absurd (false≢true (sym (ap is_some none) ∙ has_source pattern r parts i d closed matches here))
+      | None ↦ λ none _. absurd (false≢true (sym (ap is_some none) ∙ has_source pattern r parts i d closed plain matches here))
       | Some v ↦ λ has is. is ∙ ap (λ (m : Entries). insert m (target part) v) was ∙ sym (template_record_more pattern r parts i d v closed here has)
     ] refl set
 
@@ -57,6 +58,6 @@ stuck_at f (x ∷ rs) (suc i) r here is apart =
     ∙ or_true _
 
 -- what is stuck in the left part of a series leaves something stuck
-pub serial_stuck : (left right l : Net) (rs : List Entries) → l ≡ left → IsTrue (holds_stuck (one l (map Rec rs))) → IsTrue (holds_stuck (one (Serial left right) (map Rec rs)))
-serial_stuck left right l rs is stuck =
-    ap holds_stuck (one-Serial left right (map Rec rs)) ∙ one-stuck right (one left (map Rec rs)) (subst (λ (net : Net). IsTrue (holds_stuck (one net (map Rec rs)))) is stuck)
+pub serial_stuck : (left right l : Net) (rs : List Entries) → IsTrue (is_chain right) → l ≡ left → IsTrue (holds_stuck (one l (map Rec rs))) → IsTrue (holds_stuck (one (Serial left right) (map Rec rs)))
+serial_stuck left right l rs chain is stuck =
+    ap holds_stuck (one-Serial left right (map Rec rs)) ∙ one-stuck right chain (one left (map Rec rs)) (subst (λ (net : Net). IsTrue (holds_stuck (one net (map Rec rs)))) is stuck)

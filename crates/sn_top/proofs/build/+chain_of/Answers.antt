@@ -1,7 +1,7 @@
 use Rattle.std.proofs.Common.{sym, subst, ◌∙◌, ap}
 use Rattle.sn_net.specs.declared.net.Net.TheVariants.{Filter as FilterLeaf}
-use Rattle.sn_net.proofs.Closed.{AllClosed-Serial}
-use Rattle.sn_net.specs.Net.{AllClosed}
+use Rattle.sn_net.proofs.Closed.{both_chain}
+use Rattle.sn_net.specs.Net.{IsClosedChain}
 use Rattle.sn_top.proofs.Building.{leaf_closed, chain_more}
 use Rattle.sn_top.proofs.build.+chain_of.Goals as goal
 
@@ -28,7 +28,6 @@ returns-in_ok-right-in-len1-up-clause-closed t c =
     let left = rw c.in_ok-left-in-len1-up.was at c.new.ensures in
     let right = rw c.in_ok-right-in-len1-up.was at c.new-in-len1-up.ensures in
     let rest = rw c.in_ok-chain_of-in-len1-up.was at c.chain_of.ensures.closed in
-    (AllClosed-Serial c.in_ok-left-in-len1-up.left c.in_ok-right-in-len1-up.right).1 (
-      subst AllClosed (sym left) (leaf_closed c.args.names.now c.first-item.result c.in_ok-filter-in-len1-up.filter built.0 built.1),
-      subst AllClosed (sym right) rest,
-    )
+    both_chain c.in_ok-left-in-len1-up.left c.in_ok-right-in-len1-up.right
+    (subst IsClosedChain (sym left) (leaf_closed c.args.names.now c.first-item.result c.in_ok-filter-in-len1-up.filter built.0 built.1))
+    (subst IsClosedChain (sym right) rest)

@@ -2,25 +2,28 @@ use Rattle.std.proofs.Common.{◌∙◌, sym, ap, subst, rules}
 use Rattle.std.specs.Prelude.{Err}
 use Rattle.std.proofs.lemmas.Result.{err_from_is_err_and}
 use Rattle.sn_net.specs.declared.net.Net.TheViews.{the_lemmas}
-use Rattle.sn_net.specs.Net.{AllClosed}
-use Rattle.sn_net.proofs.Closed.{AllClosed-Filter, AllClosed-Serial}
+use Rattle.sn_net.specs.Net.{IsClosedChain}
+use Rattle.sn_net.proofs.Closed.{leaf_of_chain, both_of_chain}
 use Rattle.sn_top.specs.declared.chain.ChainFault.{ChainFault}
 use Rattle.sn_top.proofs.Chains.{serial_stuck}
 use Rattle.sn_top.proofs.chain.+run_chain.Goals as goal
 
-pub run_filter-requires : goal.run_filter-requires
-run_filter-requires t c = (AllClosed-Filter c.in-Filter.filter).0 (subst AllClosed c.in-Filter.is c.requires)
+pub run_filter-requires-clause-closed : goal.run_filter-requires-clause-closed
+run_filter-requires-clause-closed t c = (leaf_of_chain c.in-Filter.filter (subst IsClosedChain c.in-Filter.is c.requires)).0
+
+pub run_filter-requires-clause-plain : goal.run_filter-requires-clause-plain
+run_filter-requires-clause-plain t c = (leaf_of_chain c.in-Filter.filter (subst IsClosedChain c.in-Filter.is c.requires)).1
 
 pub run_chain-requires : goal.run_chain-requires
 run_chain-requires t c = (
   search (rules, the_lemmas),
-  subst AllClosed (sym c.get.ensures) ((AllClosed-Serial c.in-Serial.left c.in-Serial.right).0 (subst AllClosed c.in-Serial.is c.requires)).0,
+  subst IsClosedChain (sym c.get.ensures) (both_of_chain c.in-Serial.left c.in-Serial.right (subst IsClosedChain c.in-Serial.is c.requires)).0,
 )
 
 pub run_chain-requires-in-Serial : goal.run_chain-requires-in-Serial
 run_chain-requires-in-Serial t c = (
   search (rules, the_lemmas),
-  subst AllClosed (sym c.get-in-Serial.ensures) ((AllClosed-Serial c.in-Serial.left c.in-Serial.right).0 (subst AllClosed c.in-Serial.is c.requires)).1,
+  subst IsClosedChain (sym c.get-in-Serial.ensures) (both_of_chain c.in-Serial.left c.in-Serial.right (subst IsClosedChain c.in-Serial.is c.requires)).1,
 )
 
 pub returns-in_err-between-in-Serial-clause-stuck : goal.returns-in_err-between-in-Serial-clause-stuck
@@ -28,4 +31,4 @@ returns-in_err-between-in-Serial-clause-stuck t c =
     let p = err_from_is_err_and c.from_residual.result c.from_residual.ensures.1 in
     λ stuck.
     let left_stuck = c.in_err-between-in-Serial.ensures.stuck (sym (p.1 ∙ ap (λ (fault : ChainFault). Err fault) p.2) ∙ stuck) in
-    rw c.in-Serial.is (serial_stuck c.in-Serial.left c.in-Serial.right c.get.result.now c.args.records c.get.ensures left_stuck)
+    rw c.in-Serial.is (serial_stuck c.in-Serial.left c.in-Serial.right c.get.result.now c.args.records (both_of_chain c.in-Serial.left c.in-Serial.right (subst IsClosedChain c.in-Serial.is c.requires)).1.chain c.get.ensures left_stuck)
