@@ -64,7 +64,9 @@ pub fn is_over(labels: &LabelSet, expr: &TagExpr) -> bool
             is_over(labels, left.get()) && is_over(labels, right.get())
         }
         TagExpr::Cond(test, left, right) => {
-            is_over(labels, test.get()) && is_over(labels, left.get()) && is_over(labels, right.get())
+            is_over(labels, test.get())
+                && is_over(labels, left.get())
+                && is_over(labels, right.get())
         }
     }
 }

@@ -36,7 +36,11 @@ fn filter_of(alloc: Global, first: Part, second: Part) -> Result<Filter, Memory>
 
 #[test]
 fn filters_are_closed(rt: HostRuntime) -> Result<(), Fail> {
-    let closed = filter_of(rt.alloc(), Part::Rename(2, 1), Part::Compute(2, TagExpr::Tag(1)))?;
+    let closed = filter_of(
+        rt.alloc(),
+        Part::Rename(2, 1),
+        Part::Compute(2, TagExpr::Tag(1)),
+    )?;
     let twice = filter_of(rt.alloc(), Part::Copy(A), Part::Rename(1, 1))?;
     let missing = filter_of(rt.alloc(), Part::Copy(T), Part::Compute(2, TagExpr::Tag(2)))?;
     assert!(rt; closed.is_closed() && !twice.is_closed() && !missing.is_closed());
