@@ -42,7 +42,7 @@ fn field(id: u32) -> Label
 }
 
 /// The tag with a number.
-fn tag(id: u32) -> Label
+pub(crate) fn tag(id: u32) -> Label
     ensures { result ≡ tag id }
 {
     Label {
@@ -64,7 +64,9 @@ pub fn is_over(labels: &LabelSet, expr: &TagExpr) -> bool
             is_over(labels, left.get()) && is_over(labels, right.get())
         }
         TagExpr::Cond(test, left, right) => {
-            is_over(labels, test.get()) && is_over(labels, left.get()) && is_over(labels, right.get())
+            is_over(labels, test.get())
+                && is_over(labels, left.get())
+                && is_over(labels, right.get())
         }
     }
 }

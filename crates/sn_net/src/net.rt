@@ -19,12 +19,21 @@ pub enum Merge {
 #[derive(PartialEq, Eq, Debug, Drop)]
 pub enum Net {
     /// A call of the box of that number for each record.
-    Box { place: u32, number: u32 },
+    Box {
+        place: u32,
+        number: u32,
+    },
     Filter(Filter),
     /// Joins one record for each pattern.
-    Sync { place: u32, patterns: Seq<LabelSet> },
+    Sync {
+        place: u32,
+        patterns: Seq<LabelSet>,
+    },
     /// What `left` answers flows into `right`.
-    Serial { left: Boxed<Net>, right: Boxed<Net> },
+    Serial {
+        left: Boxed<Net>,
+        right: Boxed<Net>,
+    },
     /// Each record goes to the branch whose face it matches best.
     Choice {
         place: u32,

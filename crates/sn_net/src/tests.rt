@@ -1,4 +1,4 @@
-use crate::{Filter, Net, Part, TagExpr, Template};
+use crate::{Boxes, Filter, Merge, Net, Part, TagExpr, Template, face};
 use sn_list::{Boxed, Memory, Seq};
 use sn_record::{Kind, Label, LabelSet};
 use std::alloc::Global;
@@ -36,12 +36,61 @@ fn filter_of(alloc: Global, first: Part, second: Part) -> Result<Filter, Memory>
 
 #[test]
 fn filters_are_closed(rt: HostRuntime) -> Result<(), Fail> {
-    let closed = filter_of(rt.alloc(), Part::Rename(2, 1), Part::Compute(2, TagExpr::Tag(1)))?;
+    let closed = filter_of(
+        rt.alloc(),
+        Part::Rename(2, 1),
+        Part::Compute(2, TagExpr::Tag(1)),
+    )?;
     let twice = filter_of(rt.alloc(), Part::Copy(A), Part::Rename(1, 1))?;
     let missing = filter_of(rt.alloc(), Part::Copy(T), Part::Compute(2, TagExpr::Tag(2)))?;
     assert!(rt; closed.is_closed() && !twice.is_closed() && !missing.is_closed());
     let left = Boxed::new(rt.alloc(), Net::Filter(closed))?;
     let right = Boxed::new(rt.alloc(), Net::Filter(missing))?;
     assert!(rt; Net::Serial { left, right }.is_chain());
+    Ok(())
+}
+
+/// A filter that takes each record with the label, and answers none.
+fn sink(alloc: Global, label: Label) -> Result<Net, Memory> {
+    let mut pattern = LabelSet::new(alloc);
+    pattern.insert(label)?;
+    Ok(Net::Filter(Filter {
+        place: 0,
+        pattern,
+        templates: Seq::new(alloc),
+    }))
+}
+
+/// A choice of sinks, with no faces yet.
+fn choice_of(alloc: Global, labels: &[Label]) -> Result<Net, Memory> {
+    let mut branches = Seq::new(alloc);
+    for label in labels {
+        if branches.push(sink(alloc, *label)?).is_err() {
+            return Err(Memory);
+        }
+    }
+    Ok(Net::Choice {
+        place: 0,
+        merge: Merge::Free,
+        branches,
+        faces: Seq::new(alloc),
+    })
+}
+
+#[test]
+fn a_face_ascends_without_repeats(rt: HostRuntime) -> Result<(), Fail> {
+    let body = Boxed::new(rt.alloc(), choice_of(rt.alloc(), &[T, A, T])?)?;
+    let net = Net::Split {
+        place: 0,
+        merge: Merge::Free,
+        body,
+        tag: 1,
+    };
+    let boxes: Boxes = Seq::new(rt.alloc());
+    let sets = face(rt.alloc(), &net, &boxes)?;
+    assert_eq!(rt; sets.len(), 2);
+    assert_eq!(rt; sets.at(0).len(), 2);
+    assert_eq!(rt; sets.at(1).len(), 1);
+    assert!(rt; sets.at(0).contains(A) && sets.at(1).contains(T));
     Ok(())
 }
