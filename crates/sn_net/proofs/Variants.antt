@@ -1,5 +1,5 @@
 -- What the variants of a network are, form by form.
-use Rattle.std.proofs.Common.{◌≡◌, ℕ, ◌<◌, ◌≤◌, Bool, ◌&&◌, IsTrue, List, [], ◌∷◌, ◌++◌, length, get_or, take, map, refl, sym, ap, ◌∙◌, subst}
+use Rattle.std.proofs.Common.{◌≡◌, ℕ, ◌<◌, ◌≤◌, Bool, IsTrue, List, [], ◌∷◌, ◌++◌, length, get_or, take, map, sym, ap, ◌∙◌, subst}
 use Rattle.std.specs.List.{flat_map, list_all}
 use Rattle.std.proofs.lemmas.List.{append_assoc, take_all}
 use Rattle.std.proofs.lemmas.List.Folds.{list_all-map}
@@ -12,7 +12,7 @@ use Rattle.sn_net.specs.declared.net.Merge.{Merge}
 use Rattle.sn_net.specs.declared.net.Net.{Net}
 use Rattle.sn_net.specs.declared.net.Net.TheOpen.{Net-F}
 use Rattle.sn_net.specs.declared.net.Net.TheFolds.{fold-roll-Net}
-use Rattle.sn_net.specs.declared.net.Net.TheVariants.{Choice, Star, rolls-Choice, rolls-Star}
+use Rattle.sn_net.specs.declared.net.Net.TheVariants.{Choice, Star, Split, rolls-Choice, rolls-Star, rolls-Split}
 use Rattle.sn_net.specs.Face.{variants, variants_step, is_numbered, numbered_step}
 
 -- a choice has those of its branches, one after the other
@@ -28,11 +28,16 @@ variants-Star boxes place merge body exit guard =
     ap (variants boxes) (sym (rolls-Star place merge body exit guard)) ∙ fold-roll-Net (List Labels) (variants_step boxes) (Net-F.Star place merge body exit guard)
 
 -- a choice names boxes that there are where each branch does
-numbered-Choice : (boxes : List BoxProgram) (place : ℕ) (merge : Merge) (branches : List Net) (faces : List (List Labels))
+pub numbered-Choice : (boxes : List BoxProgram) (place : ℕ) (merge : Merge) (branches : List Net) (faces : List (List Labels))
     → is_numbered boxes (Choice place merge branches faces) ≡ list_all (is_numbered boxes) branches
 numbered-Choice boxes place merge branches faces =
     ap (is_numbered boxes) (sym (rolls-Choice place merge branches faces)) ∙ fold-roll-Net Bool (numbered_step (length boxes)) (Net-F.Choice place merge branches faces)
     ∙ list_all-map (λ branch. branch) (is_numbered boxes) branches
+
+-- a split does where its body does
+pub numbered-Split : (boxes : List BoxProgram) (place : ℕ) (merge : Merge) (body : Net) (id : ℕ) → is_numbered boxes (Split place merge body id) ≡ is_numbered boxes body
+numbered-Split boxes place merge body id =
+    ap (is_numbered boxes) (sym (rolls-Split place merge body id)) ∙ fold-roll-Net Bool (numbered_step (length boxes)) (Net-F.Split place merge body id)
 
 -- each branch of a choice that names boxes that there are does so
 pub branch_numbered : (boxes : List BoxProgram) (net : Net) (place : ℕ) (merge : Merge) (branches items : List Net) (faces : List (List Labels)) (i : ℕ) (branch : Net)

@@ -1,5 +1,5 @@
--- The face of a network: the variants that its records are matched with.
-use Rattle.std.specs.Prelude.{ℕ, ◌<◌, Bool, true, ◌&&◌, ◌↔◌, List, [], ◌∷◌, ◌++◌, length, Option, map as each, slice_get, unwrap_or, nat_lt}
+-- The face of a network: the variants by which records are told apart.
+use Rattle.std.specs.Prelude.{ℕ, Bool, true, ◌&&◌, ◌↔◌, List, [], ◌∷◌, ◌++◌, length, map as each, slice_get, unwrap_or, nat_lt}
 use Rattle.std.specs.List.{Contains, flat_map, fold, list_all}
 use Rattle.std.specs.List.Sorted.{IsStrictlySortedBy}
 use Rattle.std.specs.Option.{option_map}

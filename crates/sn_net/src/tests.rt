@@ -1,4 +1,7 @@
-use crate::{Boxes, Filter, Merge, Net, Part, TagExpr, Template, face};
+ghost use Rattle.std.specs.Prelude.{[], IfOk, IsTrue};
+ghost use Rattle.sn_net.specs.Face.{is_numbered};
+
+use crate::{Filter, Merge, Net, Part, TagExpr, Template, face};
 use sn_list::{Boxed, Memory, Seq};
 use sn_record::{Kind, Label, LabelSet};
 use std::alloc::Global;
@@ -51,7 +54,9 @@ fn filters_are_closed(rt: HostRuntime) -> Result<(), Fail> {
 }
 
 /// A filter that takes each record with the label, and answers none.
-fn sink(alloc: Global, label: Label) -> Result<Net, Memory> {
+fn sink(alloc: Global, label: Label) -> Result<Net, Memory>
+    ensures { IfOk result (λ net. IsTrue (is_numbered [] net)) }
+{
     let mut pattern = LabelSet::new(alloc);
     pattern.insert(label)?;
     Ok(Net::Filter(Filter {
@@ -61,36 +66,35 @@ fn sink(alloc: Global, label: Label) -> Result<Net, Memory> {
     }))
 }
 
-/// A choice of sinks, with no faces yet.
-fn choice_of(alloc: Global, labels: &[Label]) -> Result<Net, Memory> {
+/// A choice of a sink for each label, in a split, with no faces yet.
+fn split_of(alloc: Global, labels: &[Label]) -> Result<Net, Memory>
+    ensures { IfOk result (λ net. IsTrue (is_numbered [] net)) }
+{
     let mut branches = Seq::new(alloc);
     for label in labels {
         if branches.push(sink(alloc, *label)?).is_err() {
             return Err(Memory);
         }
     }
-    Ok(Net::Choice {
+    let choice = Net::Choice {
         place: 0,
         merge: Merge::Free,
         branches,
         faces: Seq::new(alloc),
+    };
+    Ok(Net::Split {
+        place: 0,
+        merge: Merge::Free,
+        body: Boxed::new(alloc, choice)?,
+        tag: 1,
     })
 }
 
 #[test]
 fn a_face_ascends_without_repeats(rt: HostRuntime) -> Result<(), Fail> {
-    let body = Boxed::new(rt.alloc(), choice_of(rt.alloc(), &[T, A, T])?)?;
-    let net = Net::Split {
-        place: 0,
-        merge: Merge::Free,
-        body,
-        tag: 1,
-    };
-    let boxes: Boxes = Seq::new(rt.alloc());
-    let sets = face(rt.alloc(), &net, &boxes)?;
+    let net = split_of(rt.alloc(), &[T, A, T])?;
+    let sets = face(rt.alloc(), &net, &Seq::new(rt.alloc()))?;
     assert_eq!(rt; sets.len(), 2);
-    assert_eq!(rt; sets.at(0).len(), 2);
-    assert_eq!(rt; sets.at(1).len(), 1);
-    assert!(rt; sets.at(0).contains(A) && sets.at(1).contains(T));
+    assert!(rt; sets.at(0).contains(A) && sets.at(0).contains(T) && !sets.at(1).contains(A));
     Ok(())
 }

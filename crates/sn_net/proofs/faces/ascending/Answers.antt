@@ -1,5 +1,5 @@
-use Rattle.std.proofs.Common.{◌≡◌, true, sym, ap, ◌∙◌, subst, refl, rules}
-use Rattle.std.specs.List.{dedup, Contains}
+use Rattle.std.proofs.Common.{◌≡◌, true, ◌∙◌, subst, refl, rules}
+use Rattle.std.specs.List.{dedup}
 use Rattle.std.specs.List.Sorted.{IsPermutation}
 use Rattle.std.specs.Ordering.{eq_by_cmp, is_lt}
 use Rattle.std.specs.FinMap as map
