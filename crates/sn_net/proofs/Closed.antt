@@ -5,7 +5,7 @@ use Rattle.std.proofs.lemmas.List.{take_more, get_or-take, length-take, get_or_d
 use Rattle.std.proofs.lemmas.List.Elements.{All-more, All-take, All-drop, All-same, All-append, All-nil, All-cons, All-head}
 use Rattle.std.proofs.lemmas.List.Quantifiers.{all_pairs_push}
 use Rattle.std.proofs.lemmas.Bool.{and_parts}
-use Rattle.sn_record.specs.LabelSet.{Labels, contains}
+use Rattle.sn_record.specs.LabelSet.{Labels}
 use Rattle.sn_net.specs.declared.filter.Part.{Part}
 use Rattle.sn_net.specs.declared.filter.Template.{Template}
 use Rattle.sn_net.specs.declared.filter.Filter.{Filter}

@@ -1,3 +1,5 @@
 pub mod Closed
 pub mod Meanings
 pub mod Emitted
+pub mod Orders
+pub mod Variants

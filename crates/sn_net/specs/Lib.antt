@@ -1,3 +1,5 @@
 pub mod Filter
 pub mod Net
 pub mod Meaning
+pub mod Face
+pub mod WellFormed

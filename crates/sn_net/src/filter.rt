@@ -42,7 +42,7 @@ fn field(id: u32) -> Label
 }
 
 /// The tag with a number.
-fn tag(id: u32) -> Label
+pub(crate) fn tag(id: u32) -> Label
     ensures { result ≡ tag id }
 {
     Label {

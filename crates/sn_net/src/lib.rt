@@ -2,10 +2,12 @@
 #![tactic(auto)]
 
 mod expr;
+mod faces;
 mod filter;
 mod net;
 
 pub use expr::{BoxProgram, Boxes, BuiltinKind, Expr, Fun};
+pub use faces::face;
 pub use filter::{Filter, Part, Template, is_over};
 pub use net::{Claim, Merge, Net};
 pub use sn_tagexpr::{BinOp, TagExpr};

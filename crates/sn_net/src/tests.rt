@@ -1,4 +1,7 @@
-use crate::{Filter, Net, Part, TagExpr, Template};
+ghost use Rattle.std.specs.Prelude.{[], IfOk, IsTrue};
+ghost use Rattle.sn_net.specs.Face.{is_numbered};
+
+use crate::{Filter, Merge, Net, Part, TagExpr, Template, face};
 use sn_list::{Boxed, Memory, Seq};
 use sn_record::{Kind, Label, LabelSet};
 use std::alloc::Global;
@@ -47,5 +50,51 @@ fn filters_are_closed(rt: HostRuntime) -> Result<(), Fail> {
     let left = Boxed::new(rt.alloc(), Net::Filter(closed))?;
     let right = Boxed::new(rt.alloc(), Net::Filter(missing))?;
     assert!(rt; Net::Serial { left, right }.is_chain());
+    Ok(())
+}
+
+/// A filter that takes each record with the label, and answers none.
+fn sink(alloc: Global, label: Label) -> Result<Net, Memory>
+    ensures { IfOk result (λ net. IsTrue (is_numbered [] net)) }
+{
+    let mut pattern = LabelSet::new(alloc);
+    pattern.insert(label)?;
+    Ok(Net::Filter(Filter {
+        place: 0,
+        pattern,
+        templates: Seq::new(alloc),
+    }))
+}
+
+/// A choice of a sink for each label, in a split, with no faces yet.
+fn split_of(alloc: Global, labels: &[Label]) -> Result<Net, Memory>
+    ensures { IfOk result (λ net. IsTrue (is_numbered [] net)) }
+{
+    let mut branches = Seq::new(alloc);
+    for label in labels {
+        if branches.push(sink(alloc, *label)?).is_err() {
+            return Err(Memory);
+        }
+    }
+    let choice = Net::Choice {
+        place: 0,
+        merge: Merge::Free,
+        branches,
+        faces: Seq::new(alloc),
+    };
+    Ok(Net::Split {
+        place: 0,
+        merge: Merge::Free,
+        body: Boxed::new(alloc, choice)?,
+        tag: 1,
+    })
+}
+
+#[test]
+fn a_face_ascends_without_repeats(rt: HostRuntime) -> Result<(), Fail> {
+    let net = split_of(rt.alloc(), &[T, A, T])?;
+    let sets = face(rt.alloc(), &net, &Seq::new(rt.alloc()))?;
+    assert_eq!(rt; sets.len(), 2);
+    assert!(rt; sets.at(0).contains(A) && sets.at(0).contains(T) && !sets.at(1).contains(A));
     Ok(())
 }
