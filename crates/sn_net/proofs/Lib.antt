@@ -3,3 +3,4 @@ pub mod Meanings
 pub mod Emitted
 pub mod Orders
 pub mod Variants
+pub mod Sound
