@@ -40,7 +40,7 @@ use Rattle.sn_roundtrip.proofs.Rereads.{reread, Shows, Like, like_leaf, like_loo
 use Rattle.sn_roundtrip.proofs.Rows.{GoodRow, row_begins, row_goes_on, calm_head, map_filled}
 use Rattle.sn_roundtrip.proofs.Singles.{symbol_span, name_span, spaced_text, spaced, gap}
 use Rattle.sn_roundtrip.proofs.Spans.{HeadAt, Calm, Mild, Exactly, Free, Whole, Span}
-use Rattle.sn_roundtrip.proofs.Words.{IsIdentifier, AreWords}
+use Rattle.sn_roundtrip.specs.Words.{IsIdentifier, AreWords}
 
 -- a fold of a declaration is one step over the folds of its parts
 module _ {A B : Type 0} (s : Decl-F A B → A) (t : NetDecl-F A B → B) where

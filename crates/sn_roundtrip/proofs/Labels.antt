@@ -24,7 +24,7 @@ use Rattle.sn_roundtrip.proofs.Rereads.{reread, Shows, same_two}
 use Rattle.sn_roundtrip.proofs.Rows.{GoodRow, row_begins, row_goes_on, calm_head}
 use Rattle.sn_roundtrip.proofs.Singles.{symbol_span, name_span, tag_span, spaced}
 use Rattle.sn_roundtrip.proofs.Spans.{HeadAt, Calm, Free, Whole}
-use Rattle.sn_roundtrip.proofs.Words.{IsWord, AreWords}
+use Rattle.sn_roundtrip.specs.Words.{IsWord, AreWords}
 
 -- what is read again is the same apart from places
 abbrev pub Same : {A : Type 0} → (A → A) → A → A → Type 0

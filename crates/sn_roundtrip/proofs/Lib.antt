@@ -1,5 +1,4 @@
 pub mod Spans
-pub mod Words
 pub mod Joins
 pub mod Singles
 pub mod Telling

@@ -37,7 +37,7 @@ use Rattle.sn_roundtrip.proofs.Rows.{GoodRow, row_begins, row_goes_on, calm_head
 use Rattle.sn_roundtrip.proofs.Singles.{symbol_span, tag_span, name_span, spaced_text, spaced}
 use Rattle.sn_roundtrip.proofs.Spans.{HeadAt, Calm, Free, Whole}
 use Rattle.sn_roundtrip.proofs.Tags.{GoodTag, good_tag_expr, tag_whole, parens_span}
-use Rattle.sn_roundtrip.proofs.Words.{IsIdentifier, AreWords}
+use Rattle.sn_roundtrip.specs.Words.{IsIdentifier, AreWords}
 
 -- a fold of a network is one step over the folds of its parts
 module _ {A B : Type 0} (s : NetForm-F A B → A) (t : NetExpr-F A B → B) (at : ℕ) where

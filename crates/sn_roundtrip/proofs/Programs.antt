@@ -25,7 +25,7 @@ use Rattle.sn_roundtrip.proofs.Rereads.{reread, Shows, Like}
 use Rattle.sn_roundtrip.proofs.Singles.{gap}
 use Rattle.sn_roundtrip.proofs.Spans.{Calm, Free}
 use Rattle.sn_roundtrip.proofs.Telling.{told_text, are_words}
-use Rattle.sn_roundtrip.proofs.Words.{AreWords}
+use Rattle.sn_roundtrip.specs.Words.{AreWords}
 
 -- outermost declarations, each with the place of its name
 abbrev Decls : Type 0
@@ -125,7 +125,9 @@ reads_back_by {ds} (some_lines r) within =
       same = ap (λ ds. record { decls = ds }) (like_same ds read.again read.good);
     }
 
-pub reads_back : (source : List ℕ) (tokens : List Token) (program : Program) → LexesAs source tokens → Spell source tokens program → ReadsBack program
-reads_back source tokens program lexed spell =
-    let words = are_words source tokens spell.said lexed spell.says in
-    subst ReadsBack (sym spell.spelled.is) (reads_back_by (good_lines spell.spelled.spelled words) spell.spelled.within)
+-- any well-formed terminals serve, and so do those of a source
+pub words_read_back : (said : List Terminal) (program : Program) → AreWords said → IsProgram said program → ReadsBack program
+words_read_back said program words spelled = subst ReadsBack (sym spelled.is) (reads_back_by (good_lines spelled.spelled words) spelled.within)
+
+pub source_reads_back : (source : List ℕ) (tokens : List Token) (program : Program) → LexesAs source tokens → Spell source tokens program → ReadsBack program
+source_reads_back source tokens program lexed spell = words_read_back spell.said program (are_words source tokens spell.said lexed spell.says) spell.spelled

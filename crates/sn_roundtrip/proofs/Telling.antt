@@ -19,7 +19,7 @@ use Rattle.sn_terminal.specs.Words.{Says, name, tag, number, literal, keyword, s
 use Rattle.sn_terminal.proofs.Bytes.{number_bytes, text_bytes, tag_bytes}
 use Rattle.sn_terminal.proofs.Contents.{same_inside, written_once}
 use Rattle.sn_roundtrip.proofs.Spans.{Begin, End, Follows, Stands, Told, Span}
-use Rattle.sn_roundtrip.proofs.Words.{IsWord, AreWords}
+use Rattle.sn_roundtrip.specs.Words.{IsWord, AreWords}
 use Rattle.sn_roundtrip.proofs.Singles.{is_at}
 
 pub told_text : {b : Begin} {e : End} {text : List ℕ} (s : Span b e text) → Follows e [] → (tokens : List Token) × LexesAs text tokens × Say text tokens (s.said 0 [])

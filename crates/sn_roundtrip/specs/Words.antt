@@ -1,6 +1,5 @@
--- The words of a source that is read: what is well formed in the terminals.
-use Rattle.std.proofs.Common.{◌≡◌, ℕ, ◌≤◌, true, pos, List, [], ◌∷◌}
-use Rattle.std.specs.Prelude.{encode_utf8_all}
+-- What the tokens of sources can say: terminals that are well formed.
+use Rattle.std.specs.Prelude.{◌≡◌, ℕ, ◌≤◌, true, pos, List, [], ◌∷◌, encode_utf8_all}
 use Rattle.std.specs.List.{list_all}
 use Rattle.std.specs.Str.{all_scalars}
 use Rattle.sn_ast.specs.declared.terminal.Terminal.{Terminal}
