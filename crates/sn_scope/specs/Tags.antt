@@ -1,0 +1,63 @@
+-- Expressions over tags by the numbers of the tags.
+use Rattle.std.specs.Prelude.{ℕ, List, Option}
+use Rattle.sn_ast.specs.declared.tag_expr.Operator.{Operator}
+use Rattle.sn_ast.specs.declared.tag_expr.Operator.TheVariants as op
+use Rattle.sn_ast.specs.declared.tag_expr.TExpr.{TExpr, fold-TExpr}
+use Rattle.sn_ast.specs.declared.tag_expr.TForm.TheOpen.{TForm-F}
+use Rattle.sn_record.specs.LabelSet.{Labels, contains}
+use Rattle.sn_tagexpr.specs.declared.expr.BinOp.{BinOp}
+use Rattle.sn_tagexpr.specs.declared.expr.BinOp.TheVariants.{Add, Sub, Mul, Div, Rem, Lt, Le, Gt, Ge, Eq, Ne}
+use Rattle.sn_tagexpr.specs.declared.expr.TagExpr.{TagExpr}
+use Rattle.sn_tagexpr.specs.declared.expr.TagExpr.TheVariants.{Number, Tag, Neg, Not, Op, And, Or, Cond}
+use Rattle.sn_names.specs.Names.{number_in}
+use Rattle.sn_net.specs.Filter.{tag}
+use Rattle.sn_scope.specs.Refusals.{required}
+use Rattle.sn_scope.specs.declared.refusal.Reason.{Reason}
+use Rattle.sn_scope.specs.declared.refusal.Refusal.{Refusal}
+
+abbrev pub bin_op : Operator → BinOp
+bin_op op.Add = Add
+bin_op op.Sub = Sub
+bin_op op.Mul = Mul
+bin_op op.Div = Div
+bin_op op.Rem = Rem
+bin_op op.Lt = Lt
+bin_op op.Le = Le
+bin_op op.Gt = Gt
+bin_op op.Ge = Ge
+bin_op op.Eq = Eq
+bin_op op.Ne = Ne
+
+-- one level, with each part by its numbers in its place
+abbrev pub tag_step : List (List ℕ) → TForm-F TagExpr TagExpr → TagExpr
+tag_step names (TForm-F.Number n) = Number n
+tag_step names (TForm-F.Tag name) = Tag (number_in names name.text)
+tag_step names (TForm-F.Neg e) = Neg e
+tag_step names (TForm-F.Not e) = Not e
+tag_step names (TForm-F.Op o e f) = Op (bin_op o) e f
+tag_step names (TForm-F.And e f) = And e f
+tag_step names (TForm-F.Or e f) = Or e f
+tag_step names (TForm-F.Cond c e f) = Cond c e f
+
+-- the expression with each tag by the number of its name
+abbrev pub tag_expr : List (List ℕ) → TExpr → TagExpr
+tag_expr names = fold-TExpr TagExpr TagExpr (tag_step names) (λ e. e.form)
+
+-- what a part of a source adds to the refusals so far
+abbrev pub Check : Type 0
+Check = Option Refusal → Option Refusal
+
+-- one level, with what each part adds in its place
+abbrev pub tags_step : List (List ℕ) → Labels → Reason → TForm-F Check Check → Check
+tags_step names pattern reason (TForm-F.Number n) least = least
+tags_step names pattern reason (TForm-F.Tag name) least = required (contains pattern (tag (number_in names name.text))) reason name.at least
+tags_step names pattern reason (TForm-F.Neg e) least = e least
+tags_step names pattern reason (TForm-F.Not e) least = e least
+tags_step names pattern reason (TForm-F.Op o e f) least = f (e least)
+tags_step names pattern reason (TForm-F.And e f) least = f (e least)
+tags_step names pattern reason (TForm-F.Or e f) least = f (e least)
+tags_step names pattern reason (TForm-F.Cond c e f) least = f (e (c least))
+
+-- each tag of the expression is in the pattern
+abbrev pub tags_required : List (List ℕ) → Labels → Reason → TExpr → Check
+tags_required names pattern reason = fold-TExpr Check Check (tags_step names pattern reason) (λ e. e.form)

@@ -1,0 +1,135 @@
+//! Filters by the numbers of their labels.
+ghost use Rattle.std.specs.Prelude.{◌≡◌, IfOk, OnOk, fold, map as each};
+ghost use Rattle.std.specs.FinMap as map;
+ghost use Rattle.sn_scope.specs.Filters.{filter_at, filter_required, identity_at, is_between, items_required, part_at, source_required, template_at, template_required};
+
+use crate::labels::{label_at, label_set};
+use crate::refusal::{Reason, Refusals};
+use crate::tags::{require_tags, tag_expr};
+use sn_ast::{ItemAt, ItemSource, TemplateAt, Variant};
+use sn_list::{Memory, Seq};
+use sn_names::NameTable;
+use sn_net::{Filter, Part, Template};
+use sn_record::{Kind, Label, LabelSet};
+use std::alloc::Global;
+
+/// Whether the count is one of those from `least` to `most`.
+pub fn is_between(least: usize, most: usize, count: usize) -> bool
+    ensures { result ≡ is_between least most count }
+{
+    least <= count && count <= most
+}
+
+/// What a template's item sets, and where the value comes from.
+fn part_at(alloc: Global, names: &NameTable, item: &ItemAt) -> Result<Part, Memory>
+    ensures { IfOk result (λ part. part ≡ part_at names.now item.now) }
+{
+    let target = names.number(item.target.name.text.as_slice());
+    match &item.source {
+        ItemSource::Same => Ok(Part::Copy(label_at(names, &item.target))),
+        ItemSource::Field(name) => Ok(Part::Rename(target, names.number(name.text.as_slice()))),
+        ItemSource::Expr(e) => Ok(Part::Compute(target, tag_expr(alloc, names, e)?)),
+    }
+}
+
+/// A label is refused that the item takes a value from and the pattern doesn't have.
+fn require_source(names: &NameTable, refusals: &mut Refusals, pattern: &LabelSet, item: &ItemAt)
+    ensures { refusals.new ≡ source_required names.now pattern.now item.now refusals.old }
+{
+    match &item.source {
+        ItemSource::Same => {
+            let label = label_at(names, &item.target);
+            refusals.require(pattern.contains(label), Reason::Unknown, item.target.name.at);
+        }
+        ItemSource::Field(name) => {
+            let label = Label {
+                kind: Kind::Field,
+                id: names.number(name.text.as_slice()),
+            };
+            refusals.require(pattern.contains(label), Reason::Unknown, name.at);
+        }
+        ItemSource::Expr(e) => require_tags(names, refusals, pattern, Reason::Unknown, e),
+    }
+}
+
+/// The template by its numbers. A label that is set twice is refused, and one that the pattern doesn't have.
+fn template_at(
+    alloc: Global,
+    names: &NameTable,
+    refusals: &mut Refusals,
+    pattern: &LabelSet,
+    template: &TemplateAt,
+) -> Result<Template, Memory>
+    ensures template { IfOk result (λ made. made ≡ template_at names.now template.now) }
+    ensures refused { OnOk result (refusals.new ≡ items_required names.now pattern.now map.empty template.now.items refusals.old) }
+{
+    let mut set = LabelSet::new(alloc);
+    let mut parts = Seq::new(alloc);
+    for item in template.items.as_slice() {
+        require_source(names, refusals, pattern, item);
+        let part = part_at(alloc, names, item)?;
+        let fresh = set.insert(part.target())?;
+        refusals.require(fresh, Reason::Twice, item.target.name.at);
+        sn_stack::append(&mut parts, part)?;
+    }
+    Ok(Template { parts })
+}
+
+/// The templates over the pattern.
+fn templates_at(
+    alloc: Global,
+    names: &NameTable,
+    refusals: &mut Refusals,
+    pattern: &LabelSet,
+    templates: &[TemplateAt],
+) -> Result<Seq<Template>, Memory>
+    ensures templates { IfOk result (λ made. made ≡ each (template_at names.now) templates.now) }
+    ensures refused { OnOk result (refusals.new ≡ fold (template_required names.now pattern.now) refusals.old templates.now) }
+{
+    let mut made = Seq::new(alloc);
+    for template in templates {
+        let template = template_at(alloc, names, refusals, pattern, template)?;
+        sn_stack::append(&mut made, template)?;
+    }
+    Ok(made)
+}
+
+/// The filter of a pattern and 1 to 16 templates. Another number of them is refused at the filter's place.
+pub fn filter_at(
+    alloc: Global,
+    names: &NameTable,
+    refusals: &mut Refusals,
+    place: u32,
+    pattern: &Variant,
+    templates: &[TemplateAt],
+) -> Result<Filter, Memory>
+    ensures filter { IfOk result (λ filter. filter ≡ filter_at names.now place pattern.now templates.now) }
+    ensures refused { OnOk result (refusals.new ≡ filter_required names.now place pattern.now templates.now refusals.old) }
+{
+    refusals.require(is_between(1, 16, templates.len()), Reason::Arity, place);
+    let pattern = label_set(alloc, names, refusals, pattern.labels.as_slice())?;
+    let templates = templates_at(alloc, names, refusals, &pattern, templates)?;
+    Ok(Filter {
+        place,
+        pattern,
+        templates,
+    })
+}
+
+/// The filter that passes each record on: its one template sets no label, so all are inherited.
+pub fn identity_at(alloc: Global, place: u32) -> Result<Filter, Memory>
+    ensures { IfOk result (λ filter. filter ≡ identity_at place) }
+{
+    let mut templates = Seq::new(alloc);
+    sn_stack::append(
+        &mut templates,
+        Template {
+            parts: Seq::new(alloc),
+        },
+    )?;
+    Ok(Filter {
+        place,
+        pattern: LabelSet::new(alloc),
+        templates,
+    })
+}

@@ -1,0 +1,10 @@
+//! Scope: from a source's tree to the networks that its claims are about, in which each name is resolved.
+#![tactic(auto)]
+
+mod filters;
+mod labels;
+mod refusal;
+mod scopes;
+mod tags;
+
+pub use refusal::{Reason, Refusal, Refusals};

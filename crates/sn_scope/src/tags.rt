@@ -1,0 +1,105 @@
+//! Expressions over tags by the numbers of the tags.
+ghost use Rattle.std.specs.Prelude.{◌≡◌, IfOk};
+ghost use Rattle.sn_scope.specs.Tags.{bin_op, tag_expr, tags_required};
+
+use crate::refusal::{Reason, Refusals};
+use sn_ast::{Operator, TExpr, TForm};
+use sn_list::{Boxed, Memory};
+use sn_names::NameTable;
+use sn_record::{Kind, Label, LabelSet};
+use sn_tagexpr::{BinOp, TagExpr};
+use std::alloc::Global;
+
+fn bin_op(operator: Operator) -> BinOp
+    ensures { result ≡ bin_op operator }
+{
+    match operator {
+        Operator::Add => BinOp::Add,
+        Operator::Sub => BinOp::Sub,
+        Operator::Mul => BinOp::Mul,
+        Operator::Div => BinOp::Div,
+        Operator::Rem => BinOp::Rem,
+        Operator::Lt => BinOp::Lt,
+        Operator::Le => BinOp::Le,
+        Operator::Gt => BinOp::Gt,
+        Operator::Ge => BinOp::Ge,
+        Operator::Eq => BinOp::Eq,
+        Operator::Ne => BinOp::Ne,
+    }
+}
+
+#[cycle(tag_expr)]
+fn boxed_expr(alloc: Global, names: &NameTable, e: &TExpr) -> Result<Boxed<TagExpr>, Memory>
+    ensures { IfOk result (λ boxed. boxed ≡ tag_expr names.now e.now) }
+{
+    Boxed::new(alloc, tag_expr(alloc, names, e)?)
+}
+
+/// The expression with each tag by its number. As deep in calls as the expression is high.
+#[cycle(tag_expr)]
+pub fn tag_expr(alloc: Global, names: &NameTable, e: &TExpr) -> Result<TagExpr, Memory>
+    ensures { IfOk result (λ expr. expr ≡ tag_expr names.now e.now) }
+{
+    match &e.form {
+        TForm::Number(n) => Ok(TagExpr::Number(*n)),
+        TForm::Tag(tag) => Ok(TagExpr::Tag(names.number(tag.text.as_slice()))),
+        TForm::Neg(part) => Ok(TagExpr::Neg(boxed_expr(alloc, names, part.get())?)),
+        TForm::Not(part) => Ok(TagExpr::Not(boxed_expr(alloc, names, part.get())?)),
+        TForm::Op(operator, left, right) => Ok(TagExpr::Op(
+            bin_op(*operator),
+            boxed_expr(alloc, names, left.get())?,
+            boxed_expr(alloc, names, right.get())?,
+        )),
+        TForm::And(left, right) => Ok(TagExpr::And(
+            boxed_expr(alloc, names, left.get())?,
+            boxed_expr(alloc, names, right.get())?,
+        )),
+        TForm::Or(left, right) => Ok(TagExpr::Or(
+            boxed_expr(alloc, names, left.get())?,
+            boxed_expr(alloc, names, right.get())?,
+        )),
+        TForm::Cond(test, left, right) => Ok(TagExpr::Cond(
+            boxed_expr(alloc, names, test.get())?,
+            boxed_expr(alloc, names, left.get())?,
+            boxed_expr(alloc, names, right.get())?,
+        )),
+    }
+}
+
+/// Each tag of the expression is refused that the pattern doesn't have.
+pub fn require_tags(
+    names: &NameTable,
+    refusals: &mut Refusals,
+    pattern: &LabelSet,
+    reason: Reason,
+    e: &TExpr,
+)
+    ensures { refusals.new ≡ tags_required names.now pattern.now reason e.now refusals.old }
+{
+    match &e.form {
+        TForm::Number(_) => {}
+        TForm::Tag(tag) => {
+            let label = Label {
+                kind: Kind::Tag,
+                id: names.number(tag.text.as_slice()),
+            };
+            refusals.require(pattern.contains(label), reason, tag.at);
+        }
+        TForm::Neg(part) | TForm::Not(part) => {
+            require_tags(names, refusals, pattern, reason, part.get());
+        }
+        TForm::Op(_, left, right) => {
+            require_tags(names, refusals, pattern, reason, left.get());
+            require_tags(names, refusals, pattern, reason, right.get());
+        }
+        TForm::And(left, right) | TForm::Or(left, right) => {
+            require_tags(names, refusals, pattern, reason, left.get());
+            require_tags(names, refusals, pattern, reason, right.get());
+        }
+        TForm::Cond(test, left, right) => {
+            require_tags(names, refusals, pattern, reason, test.get());
+            require_tags(names, refusals, pattern, reason, left.get());
+            require_tags(names, refusals, pattern, reason, right.get());
+        }
+    }
+}
