@@ -183,6 +183,14 @@ AreNames_push names n room new' small = record {
   distinct = are_distinct_push names n new' small.distinct;
 }
 
+-- at most 4,096 names are so after one is entered, where there is room
+pub AreNames_entered : (names : List (List ℕ)) (n : List ℕ) → length names < 4096 → AreNames names → AreNames (entered names n)
+AreNames_entered names n room small =
+    elim (is_held names n) as (λ b. is_held names n ≡ b → AreNames (cond b names (names ++ n ∷ []))) [
+      | true ↦ λ _. small
+      | false ↦ λ new'. AreNames_push names n room new' small
+    ] refl
+
 -- names that hold a name are not full for it
 pub not_full_held : (names : List (List ℕ)) (n : List ℕ) → number_in names n < length names → IsFull names n → ⊥
 not_full_held names n below full = false≢true (sym full.fresh ∙ held_from_number names n below)

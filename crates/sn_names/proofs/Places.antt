@@ -1,13 +1,13 @@
 -- The places of keys, each of which stands for a name.
-use Rattle.std.proofs.Common.{◌≡◌, ℕ, suc, length-append, ◌+◌, ◌<◌, ◌≤◌, ◌||◌, true, false, not, cond, List, [], ◌∷◌, ◌++◌, length, get_or, map, nat_lt, if◌then◌else◌, position, None, Some, refl, sym, ap, ◌∙◌, subst, arith}
+use Rattle.std.proofs.Common.{◌≡◌, ℕ, suc, length-append, ◌+◌, ◌<◌, ◌||◌, true, false, not, cond, IsTrue, List, [], ◌∷◌, ◌++◌, length, get_or, map, nat_lt, if◌then◌else◌, position, None, Some, refl, sym, ap, ◌∙◌, subst, arith}
 use Rattle.std.specs.List.{list_any, position_or_len}
 use Rattle.std.specs.Str.{bytes_eq}
 use Rattle.std.proofs.lemmas.Bool.{lt-ltb, le-ltb}
 use Rattle.std.proofs.lemmas.Cmp.{nat_list_eq_equiv}
 use Rattle.std.proofs.lemmas.List.{length-map, get_or-map, map_push}
 use Rattle.indexmap.specs.IndexSet.{insert_key}
-use Rattle.sn_names.specs.Names.{is_held, entered, number_in, name_at, AreNames}
-use Rattle.sn_names.proofs.NamesLaws.{number_in-held, number_in-new, number_in_last, AreNames_push}
+use Rattle.sn_names.specs.Names.{is_held, entered, number_in, name_at, are_distinct}
+use Rattle.sn_names.proofs.NamesLaws.{number_in-held, number_in-new, number_in_last, are_distinct_push}
 
 module _ {K : Type 0} (text : K → List ℕ) where
   -- a key is found where its name is held
@@ -49,22 +49,22 @@ module _ {K : Type 0} (text : K → List ℕ) where
     pub names : map text new ≡ entered (map text keys) n
     pub number : place ≡ number_in (map text new) n
     pub within : place < length (map text new)
-    pub few : length (map text new) ≤ 4096
-    pub are : AreNames (map text new)
+    pub one_more : length (map text new) ≡ suc (length (map text keys))
+    pub distinct : IsTrue (are_distinct (map text new))
 
-  pub is_entered : (keys new : List K) (k : K) (n : List ℕ) (place : ℕ) → text k ≡ n → is_held (map text keys) n ≡ false → length (map text keys) < 4096 → AreNames (map text keys)
+  pub is_entered : (keys new : List K) (k : K) (n : List ℕ) (place : ℕ) → text k ≡ n → is_held (map text keys) n ≡ false → IsTrue (are_distinct (map text keys))
       → new ≡ insert_key (λ x y. bytes_eq (text x) (text y)) keys k → place ≡ position_or_len (λ j. bytes_eq (text k) (text j)) keys → IsEntered keys new n place
-  is_entered keys new k n place same fresh room are is at =
+  is_entered keys new k n place same fresh distinct is at =
       let unfound : list_any (λ j. bytes_eq (text k) (text j)) keys ≡ false = is_held-keys keys (text k) ∙ ap (is_held (map text keys)) same ∙ fresh in
       let list : new ≡ keys ++ k ∷ [] = is ∙ rw unfound refl in
       let last : map text new ≡ map text keys ++ n ∷ [] = ap (map text) list ∙ map_push text keys k ∙ ap (λ m. map text keys ++ m ∷ []) same in
-      let names : AreNames (map text new) = subst AreNames (sym last) (AreNames_push (map text keys) n room fresh are) in
       let number : place ≡ length (map text keys) = at ∙ number_in-keys keys (text k) ∙ ap (number_in (map text keys)) same ∙ number_in-new (map text keys) n fresh in
       let end : number_in (map text new) n ≡ length (map text keys) = ap (λ ns. number_in ns n) last ∙ number_in_last (map text keys) n fresh in
+      let more : length (map text new) ≡ suc (length (map text keys)) = ap length last ∙ omega (arith, length-append (map text keys) (n ∷ [])) in
       record {
         names = last ∙ rw fresh refl;
         number = number ∙ sym end;
-        within = rw (last, number) (omega (arith, length-append (map text keys) (n ∷ [])));
-        few = names.few;
-        are = names;
+        within = omega arith;
+        one_more = more;
+        distinct = subst (λ names. IsTrue (are_distinct names)) (sym last) (are_distinct_push (map text keys) n fresh distinct);
       }

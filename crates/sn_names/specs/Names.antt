@@ -1,5 +1,5 @@
 -- Names of labels, numbered from 0 in the order in which they were entered.
-use Rattle.std.specs.Prelude.{◌≡◌, ◌≤◌, ℕ, suc, Bool, true, false, IsTrue, not, ◌&&◌, List, [], ◌∷◌, ◌++◌, length, get_or, if◌then◌else◌}
+use Rattle.std.specs.Prelude.{◌≡◌, ◌<◌, ◌≤◌, ◌^◌, ℕ, suc, Bool, true, false, IsTrue, not, ◌&&◌, List, [], ◌∷◌, ◌++◌, length, get_or, if◌then◌else◌}
 use Rattle.std.specs.List.{list_any}
 use Rattle.std.specs.Str.{bytes_eq}
 
@@ -29,6 +29,11 @@ name_at names i = get_or names i []
 abbrev pub are_distinct : List (List ℕ) → Bool
 are_distinct [] = true
 are_distinct (m ∷ names) = not (is_held names m) && are_distinct names
+
+-- different names, so few that a `u32` counts them
+pub record AreNumbered (names : List (List ℕ)) : Type 0 where
+  pub countable : length names < 2 ^ 32
+  pub distinct : IsTrue (are_distinct names)
 
 -- at most 4,096 different names
 pub record AreNames (names : List (List ℕ)) : Type 0 where

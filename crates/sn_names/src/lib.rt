@@ -3,7 +3,9 @@
 
 mod fault;
 mod names;
+mod table;
 
 pub use fault::NamesFault;
 pub use names::Names;
 pub use sn_list::Memory;
+pub use table::NameTable;

@@ -1,8 +1,8 @@
-ghost use Rattle.std.specs.Prelude.{◌≡◌, ◌<◌, ◌≤◌, ◌↔◌, [], length, false, if◌then◌else◌, OnOk, OnErr, IfOk, IfSome, IsOk};
+ghost use Rattle.std.specs.Prelude.{◌≡◌, ◌<◌, ◌≤◌, ◌↔◌, [], length, false, if◌then◌else◌, OnOk, OnErr, IfOk, IfErr, IfSome, IsOk};
 ghost use Rattle.sn_names.specs.Names.{is_held, entered, number_in, name_at, IsFull};
 
 use crate::fault::NamesFault;
-use indexmap::IndexSet;
+use crate::table::NameTable;
 use sn_list::Memory;
 use std::alloc::Global;
 use std::marker::Model;
@@ -12,19 +12,18 @@ const MOST_NAMES: u32 = 4096;
 /// At most 4,096 different names, numbered from 0 in the order in which they were entered, and seen as the list of them.
 #[derive(Debug, Drop)]
 pub struct Names {
-    names: IndexSet<Vec<u8>>,
+    table: NameTable,
 }
 
 impl Model for Names {
-    ghost use Rattle.std.specs.Prelude.{ℕ, List, map};
-    ghost use Rattle.std.specs.Vec.{vec_items};
+    ghost use Rattle.std.specs.Prelude.{ℕ, List};
     ghost use Rattle.sn_names.specs.Names.{AreNames};
 
     ghost Value = { List (List ℕ) };
 
-    ghost view = { λ s. map vec_items s.names.keys };
+    ghost view = { λ s. s.table };
 
-    ghost invariant = { λ s. AreNames (map vec_items s.names.keys) };
+    ghost invariant = { λ s. AreNames s.table };
 }
 
 impl Names {
@@ -34,8 +33,20 @@ impl Names {
         ensures succeeds { IsOk result }
     {
         Ok(Names {
-            names: IndexSet::new(alloc),
+            table: NameTable::new(alloc),
         })
+    }
+
+    /// The names of a table, which comes back where they are too many.
+    pub fn from_table(table: NameTable) -> Result<Names, NameTable>
+        ensures ok { IfOk result (λ names. names ≡ table) }
+        ensures back { IfErr result (λ refused. refused ≡ table) }
+        ensures fits { IsOk result ↔ (length table ≤ 4096) }
+    {
+        if table.count() > MOST_NAMES {
+            return Err(table);
+        }
+        Ok(Names { table })
     }
 
     /// How many names are held.
@@ -43,7 +54,7 @@ impl Names {
         ensures number { result ≡ length self.now }
         ensures most { result ≤ 4096 }
     {
-        self.names.len() as u32
+        self.table.count()
     }
 
     /// The number of a name, or nothing where it is not held. Takes no memory.
@@ -51,10 +62,7 @@ impl Names {
         ensures number { result ≡ (if is_held self.now name.now then Some (number_in self.now name.now) else None) }
         ensures within { IfSome result (λ i. i < length self.now) }
     {
-        match self.names.get_index_of(name) {
-            Some(place) => Some(place as u32),
-            None => None,
-        }
+        self.table.find(name)
     }
 
     /// The name of a number.
@@ -63,7 +71,7 @@ impl Names {
         ensures name { result.now ≡ name_at self.now id }
         ensures number { number_in self.now result.now ≡ id }
     {
-        self.names.as_slice()[id as usize].as_slice()
+        self.table.name_of(id)
     }
 
     /// The number of a name, which goes to the end where it is new. On an `Err` the names are unchanged.
@@ -83,15 +91,14 @@ impl Names {
         if self.count() == MOST_NAMES {
             return Err(NamesFault::TooMany);
         }
-        let copy = Vec::from_slice(*self.names.allocator(), name)?;
-        let (place, _) = self.names.insert_full(copy)?;
-        Ok(place as u32)
+        Ok(self.table.enter(name)?)
     }
 }
 
 #[cfg(test)]
 mod tests {
-    use crate::{Names, NamesFault};
+    use crate::{Memory, NameTable, Names, NamesFault};
+    use std::alloc::Global;
     use std::test::Fail;
 
     #[test]
@@ -106,6 +113,26 @@ mod tests {
         assert!(rt; names.find(&[63, 63]) == Some(4095) && names.find(b"zz").is_none());
         assert_eq!(rt; names.count(), 4096);
         assert!(rt; names.name_of(2) == [0, 2].as_slice());
+        Ok(())
+    }
+
+    fn table_of(alloc: Global, count: u16) -> Result<NameTable, Memory> {
+        let mut table = NameTable::new(alloc);
+        for i in 0..count {
+            table.enter(&i.to_le_bytes())?;
+        }
+        Ok(table)
+    }
+
+    #[test]
+    fn tables_of_few_names_convert(rt: HostRuntime) -> Result<(), Fail> {
+        let most = Names::from_table(table_of(rt.alloc(), 4096)?);
+        assert!(rt; most.is_ok_and(|names| names.count() == 4096));
+        let table = table_of(rt.alloc(), 4097)?;
+        assert_eq!(rt; table.count(), 4097);
+        assert!(rt; table.number(b"zzz") == 4097 && table.number(table.name_of(4096)) == 4096);
+        let refused = Names::from_table(table);
+        assert!(rt; refused.is_err_and(|back| back.count() == 4097));
         Ok(())
     }
 }

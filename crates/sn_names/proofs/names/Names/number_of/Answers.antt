@@ -1,22 +1,11 @@
-use Rattle.std.proofs.Common.{rules, ◌≡◌, false, map, vec_items, length, ap, ◌∙◌, arith}
-use Rattle.sn_names.specs.Names.{is_held, entered}
-use Rattle.sn_names.proofs.Places.{is_entered, IsEntered}
+use Rattle.std.proofs.Common.{◌≡◌, ◌<◌, length, sym, ap, subst, arith}
+use Rattle.sn_names.specs.Names.{AreNames}
+use Rattle.sn_names.proofs.NamesLaws.{AreNames_entered}
 use Rattle.sn_names.proofs.names.Names.number_of.Goals as goal
 
-last : (c : goal.In_ok-place) → IsEntered vec_items c.self.inside.names.keys c.insert_full.new.self.keys c.args.name.now c.in_ok-place.place
-last c =
-    let keys = c.self.inside.names.keys in
-    let n = c.args.name.now in
-    let fresh : is_held c.args.self.now n ≡ false = search rules in
-    let many : length (map vec_items keys) ≡ length c.args.self.now = ap length c.self.view_is in
-    is_entered vec_items keys c.insert_full.new.self.keys c.in_ok-copy.copy n c.in_ok-place.place c.in_ok-copy.ensures.items (ap (λ names. is_held names n) c.self.view_is ∙ fresh) (omega arith)
-    c.self.invariant c.in_ok-place.ensures.keys c.in_ok-place.ensures.index
-
 pub invariant_of-self-2 : goal.invariant_of-self-2
-invariant_of-self-2 c = (last c).are
-
-pub returns-clause-ok : goal.returns-clause-ok
-returns-clause-ok c = (last c).names ∙ ap (λ names. entered names c.args.name.now) c.self.view_is
-
-pub returns-clause-number : goal.returns-clause-number
-returns-clause-number c = (last c).number
+invariant_of-self-2 c =
+    let table = c.self.inside.table in
+    let many : length table ≡ length c.args.self.now = ap length c.self.view_is in
+    let room : length table < 4096 = omega arith in
+    subst AreNames (sym c.in_ok-enter.ensures.ok) (AreNames_entered table c.args.name.now room c.self.invariant)

@@ -3,7 +3,7 @@ use Rattle.std.proofs.lemmas.List.{length-map}
 use Rattle.sn_names.specs.Names.{number_in, name_at}
 use Rattle.sn_names.proofs.NamesLaws.{number_in-name_at}
 use Rattle.sn_names.proofs.Places.{name_at-key}
-use Rattle.sn_names.proofs.names.Names.name_of.Goals as goal
+use Rattle.sn_names.proofs.table.NameTable.name_of.Goals as goal
 
 pub returns-clause-number : goal.returns-clause-number
 returns-clause-number c =

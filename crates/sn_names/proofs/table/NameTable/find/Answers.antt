@@ -1,7 +1,7 @@
 use Rattle.std.proofs.Common.{vec_items, if◌then◌else◌, Some, None, ap, ◌∙◌}
 use Rattle.sn_names.specs.Names.{is_held, number_in}
 use Rattle.sn_names.proofs.Places.{place_is}
-use Rattle.sn_names.proofs.names.Names.find.Goals as goal
+use Rattle.sn_names.proofs.table.NameTable.find.Goals as goal
 
 pub returns-in-Some-clause-number : goal.returns-in-Some-clause-number
 returns-in-Some-clause-number c =
