@@ -3,6 +3,8 @@
 
 mod filters;
 mod labels;
+mod network;
+mod numbering;
 mod refusal;
 mod scopes;
 mod tags;

@@ -1,0 +1,186 @@
+//! Networks in which each name of a net is the number of its declaration.
+ghost use Rattle.std.specs.Prelude.{◌≡◌, IfOk, OnOk, fold, is_some, map as each};
+ghost use Rattle.sn_scope.specs.Networks.{guard_at, guard_required, merge_of, named_at, network_at, network_required};
+ghost use Rattle.sn_scope.specs.Refusals.{required};
+ghost use Rattle.sn_scope.specs.Scopes.{net_of};
+ghost use Rattle.sn_scope.specs.declared.refusal.Reason.TheVariants as reason;
+
+use crate::filters::{filter_at, identity_at, is_between};
+use crate::labels::{label_set, label_sets};
+use crate::refusal::{Reason, Refusals};
+use crate::scopes::Scopes;
+use crate::tags::{require_tags, tag_expr};
+use sn_ast::{Ident, NetExpr, NetForm, TExpr};
+use sn_list::{Boxed, Memory, Seq};
+use sn_names::NameTable;
+use sn_net::{Filter, Merge, TagExpr};
+use sn_record::LabelSet;
+use std::alloc::Global;
+
+/// A part of a network: a net that was declared before, by its number, or a component of its own.
+#[cycle(network)]
+#[derive(PartialEq, Eq, Debug, Drop)]
+pub enum Network {
+    Named(usize),
+    Made(Component),
+}
+
+/// A component. A place is a byte offset in the source.
+#[cycle(network)]
+#[derive(PartialEq, Eq, Debug, Drop)]
+pub enum Component {
+    Filter(Filter),
+    Sync {
+        place: u32,
+        patterns: Seq<LabelSet>,
+    },
+    /// Two or more parts. They are grouped only in trees, which are never higher than a limit.
+    Serial(Seq<Network>),
+    Choice {
+        place: u32,
+        merge: Merge,
+        branches: Seq<Network>,
+    },
+    Star {
+        place: u32,
+        merge: Merge,
+        body: Boxed<Network>,
+        exit: LabelSet,
+        guard: Option<TagExpr>,
+    },
+    Split {
+        place: u32,
+        merge: Merge,
+        body: Boxed<Network>,
+        tag: u32,
+    },
+}
+
+fn merge_of(det: bool) -> Merge
+    ensures { result ≡ merge_of det }
+{
+    if det { Merge::Det } else { Merge::Free }
+}
+
+/// The net that the name stands for. What is no net is refused, and then a filter stands for it.
+fn named_at(
+    alloc: Global,
+    scopes: &Scopes,
+    refusals: &mut Refusals,
+    name: &Ident,
+) -> Result<Network, Memory>
+    ensures network { IfOk result (λ network. network ≡ named_at (net_of scopes.now name.now.text) name.now.at) }
+    ensures refused { OnOk result (refusals.new ≡ required (is_some (net_of scopes.now name.now.text)) reason.Unknown name.now.at refusals.old) }
+{
+    let number = scopes.net_of(name.text.as_slice());
+    refusals.require(number.is_some(), Reason::Unknown, name.at);
+    match number {
+        Some(number) => Ok(Network::Named(number)),
+        None => Ok(Network::Made(Component::Filter(identity_at(alloc, name.at)?))),
+    }
+}
+
+/// The guard of a star. A tag of it that the exit pattern doesn't have is refused.
+fn guard_at(
+    alloc: Global,
+    names: &NameTable,
+    refusals: &mut Refusals,
+    exit: &LabelSet,
+    guard: &Option<TExpr>,
+) -> Result<Option<TagExpr>, Memory>
+    ensures guard { IfOk result (λ made. made ≡ guard_at names.now guard.now) }
+    ensures refused { OnOk result (refusals.new ≡ guard_required names.now exit.now guard.now refusals.old) }
+{
+    match guard {
+        Some(e) => {
+            require_tags(names, refusals, exit, Reason::GuardTag, e);
+            Ok(Some(tag_expr(alloc, names, e)?))
+        }
+        None => Ok(None),
+    }
+}
+
+/// The network with each net's name by the number of the net, and each label by the number of its name. As deep in
+/// calls as the network is high.
+#[cycle(network_at)]
+pub fn network_at(
+    alloc: Global,
+    names: &NameTable,
+    scopes: &Scopes,
+    refusals: &mut Refusals,
+    network: &NetExpr,
+) -> Result<Network, Memory>
+    ensures network { IfOk result (λ made. made ≡ network_at names.now scopes.now network.now) }
+    ensures refused { OnOk result (refusals.new ≡ network_required names.now scopes.now network.now refusals.old) }
+{
+    let place = network.at;
+    match &network.form {
+        NetForm::Name(name) => named_at(alloc, scopes, refusals, name),
+        NetForm::Identity => Ok(Network::Made(Component::Filter(identity_at(alloc, place)?))),
+        NetForm::Filter { pattern, templates } => {
+            let filter = filter_at(alloc, names, refusals, place, pattern, templates.as_slice())?;
+            Ok(Network::Made(Component::Filter(filter)))
+        }
+        NetForm::Sync { patterns } => {
+            refusals.require(is_between(2, 8, patterns.len()), Reason::Arity, place);
+            let patterns = label_sets(alloc, names, refusals, patterns.as_slice())?;
+            Ok(Network::Made(Component::Sync { place, patterns }))
+        }
+        NetForm::Serial { parts } => {
+            let parts = networks_at(alloc, names, scopes, refusals, parts.as_slice())?;
+            Ok(Network::Made(Component::Serial(parts)))
+        }
+        NetForm::Choice { det, branches } => {
+            refusals.require(is_between(2, 64, branches.len()), Reason::Arity, place);
+            let branches = networks_at(alloc, names, scopes, refusals, branches.as_slice())?;
+            let merge = merge_of(*det);
+            Ok(Network::Made(Component::Choice { place, merge, branches }))
+        }
+        NetForm::Star { det, body, exit, guard } => {
+            let body = boxed_at(alloc, names, scopes, refusals, body.get())?;
+            let exit = label_set(alloc, names, refusals, exit.labels.as_slice())?;
+            let guard = guard_at(alloc, names, refusals, &exit, guard)?;
+            let merge = merge_of(*det);
+            Ok(Network::Made(Component::Star { place, merge, body, exit, guard }))
+        }
+        NetForm::Split { det, body, tag } => {
+            let body = boxed_at(alloc, names, scopes, refusals, body.get())?;
+            let tag = names.number(tag.text.as_slice());
+            let merge = merge_of(*det);
+            Ok(Network::Made(Component::Split { place, merge, body, tag }))
+        }
+    }
+}
+
+#[cycle(network_at)]
+fn boxed_at(
+    alloc: Global,
+    names: &NameTable,
+    scopes: &Scopes,
+    refusals: &mut Refusals,
+    network: &NetExpr,
+) -> Result<Boxed<Network>, Memory>
+    ensures network { IfOk result (λ made. made ≡ network_at names.now scopes.now network.now) }
+    ensures refused { OnOk result (refusals.new ≡ network_required names.now scopes.now network.now refusals.old) }
+{
+    Boxed::new(alloc, network_at(alloc, names, scopes, refusals, network)?)
+}
+
+#[cycle(network_at)]
+fn networks_at(
+    alloc: Global,
+    names: &NameTable,
+    scopes: &Scopes,
+    refusals: &mut Refusals,
+    networks: &[NetExpr],
+) -> Result<Seq<Network>, Memory>
+    ensures networks { IfOk result (λ made. made ≡ each (network_at names.now scopes.now) networks.now) }
+    ensures refused { OnOk result (refusals.new ≡ fold (λ least check. check least) refusals.old (each (network_required names.now scopes.now) networks.now)) }
+{
+    let mut made = Seq::new(alloc);
+    for network in networks {
+        let network = network_at(alloc, names, scopes, refusals, network)?;
+        sn_stack::append(&mut made, network)?;
+    }
+    Ok(made)
+}
