@@ -5,3 +5,7 @@ pub mod Filters
 pub mod Scopes
 pub mod Networks
 pub mod Numbering
+pub mod Types
+pub mod Variants
+pub mod Keys
+pub mod Declarations

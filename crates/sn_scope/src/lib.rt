@@ -1,6 +1,7 @@
 //! Scope: from a source's tree to the networks that its claims are about, in which each name is resolved.
 #![tactic(auto)]
 
+mod declarations;
 mod filters;
 mod labels;
 mod network;
@@ -8,5 +9,8 @@ mod numbering;
 mod refusal;
 mod scopes;
 mod tags;
+mod types;
+mod variants;
 
+pub use variants::Variants;
 pub use refusal::{Reason, Refusal, Refusals};
