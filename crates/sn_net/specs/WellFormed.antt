@@ -1,12 +1,11 @@
 -- Networks that fit together: what holds of each part of one, at any depth.
-use Rattle.std.specs.Prelude.{ℕ, ◌<◌, ◌≤◌, IsTrue, IfSome, List, length}
-use Rattle.std.specs.List.{AllZip}
+use Rattle.std.specs.Prelude.{◌≡◌, ℕ, ◌<◌, ◌≤◌, IsTrue, IfSome, List, length, map}
 use Rattle.sn_record.specs.LabelSet.{Labels}
 use Rattle.sn_net.specs.declared.expr.BoxProgram.{BoxProgram}
 use Rattle.sn_net.specs.declared.net.Net.{Net}
 use Rattle.sn_net.specs.declared.net.Net.TheOpen.{Net-F}
 use Rattle.sn_net.specs.declared.net.Net.TheFolds.{every-Net}
-use Rattle.sn_net.specs.Face.{IsFace}
+use Rattle.sn_net.specs.Face.{face}
 use Rattle.sn_net.specs.Filter.{is_over, IsClosed}
 
 -- how many branches a choice may have
@@ -16,7 +15,7 @@ most_branches = 64
 -- a choice has few enough branches, and the face of each in its place
 pub record IsSoundChoice (boxes : List BoxProgram) (branches : List Net) (faces : List (List Labels)) : Type 0 where
   pub few : length branches ≤ most_branches
-  pub paired : AllZip (IsFace boxes) branches faces
+  pub paired : faces ≡ map (face boxes) branches
 
 -- one level: a box is one of the boxes, a filter is closed, a choice is sound, and a guard has only tags of the exit pattern
 abbrev pub IsSound : List BoxProgram → Net-F Net → Type 0

@@ -1,8 +1,5 @@
-ghost use Rattle.std.specs.Prelude.{◌≡◌, ◌++◌, ◌∷◌, [], ◌↔◌, IfOk, OnOk, IsTrue, map};
-ghost use Rattle.std.specs.List.{Contains};
-ghost use Rattle.std.specs.List.Sorted.{IsStrictlySortedBy};
-ghost use Rattle.sn_record.specs.LabelSet.{Labels};
-ghost use Rattle.sn_net.specs.Face.{variant_of, with_tag, variants, variant_cmp, IsFace, is_numbered};
+ghost use Rattle.std.specs.Prelude.{◌≡◌, ◌++◌, ◌∷◌, [], IfOk, OnOk, IsTrue, map};
+ghost use Rattle.sn_net.specs.Face.{variant_of, with_tag, variants, variant_cmp, ascending, face, IsFace, is_numbered};
 
 use crate::expr::Boxes;
 use crate::filter::tag;
@@ -123,8 +120,7 @@ fn compare(left: &LabelSet, right: &LabelSet) -> Ordering
 
 /// The sets in ascending order, each once.
 fn ascending(sets: Seq<LabelSet>) -> Seq<LabelSet>
-    ensures ascending { IsStrictlySortedBy variant_cmp result }
-    ensures same { (variant : Labels) → Contains result variant ↔ Contains sets variant }
+    ensures { result ≡ ascending sets }
 {
     let mut sets = sets.into_vec();
     sets.sort_unstable_by(|left, right| compare(left, right));
@@ -137,7 +133,8 @@ fn ascending(sets: Seq<LabelSet>) -> Seq<LabelSet>
 /// each branch, of a star those of its body and its exit pattern, of a split those of its body with the tag added.
 pub fn face(alloc: Global, net: &Net, boxes: &Boxes) -> Result<Seq<LabelSet>, Memory>
     requires { IsTrue (is_numbered boxes.now net.now) }
-    ensures { IfOk result (λ sets. IsFace boxes.now net.now sets) }
+    ensures exact { IfOk result (λ sets. sets ≡ face boxes.now net.now) }
+    ensures law { IfOk result (λ sets. IsFace boxes.now net.now sets) }
 {
     let mut sets = Seq::new(alloc);
     push_variants(alloc, &mut sets, net, boxes)?;
