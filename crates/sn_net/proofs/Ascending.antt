@@ -1,6 +1,6 @@
 -- Variants in ascending order, each once: such a list is settled by which variants it holds.
 use Rattle.std.proofs.Common.{◌≡◌, Bool, true, false, ◌||◌, ◌↔◌, IsTrue, List, [], ◌∷◌, ◌++◌, None, Some, Option, is_some, map as each, refl, sym, ap, ◌∙◌, subst}
-use Rattle.std.specs.List.{Contains, AllByRecursion, list_any, flat_map}
+use Rattle.std.specs.List.{Contains, AllByRecursion, list_any}
 use Rattle.std.specs.List.Sorted.{IsStrictlySortedBy}
 use Rattle.std.specs.Ordering.{eq_by_cmp, is_eq, is_lt}
 use Rattle.std.specs.declared.cmp.Ordering.{Ordering}
@@ -146,6 +146,11 @@ ascending-same (v ∷ vs) rises =
     ascending-cons v vs
     ∙ ap firsts (put_first v (map.entries (set_of vs)) (subst (AllByRecursion (λ w. variant_cmp v w ≡ Less)) (sym rest) (sorted_head variant_cmp v vs rises)))
     ∙ ap (λ ws. v ∷ ws) rest
+
+-- as one variant does
+pub ascending-one : (v : Labels) → ascending (v ∷ []) ≡ v ∷ []
+unfolding IsStrictlySortedBy
+ascending-one v = ascending-same (v ∷ []) (tt, tt)
 
 -- so it is the one list that ascends and holds what was given
 pub only_ascending : (xs ys : List Labels) → IsStrictlySortedBy variant_cmp xs → ((v : Labels) → Contains xs v ↔ Contains ys v) → xs ≡ ascending ys

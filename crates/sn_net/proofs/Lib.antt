@@ -5,3 +5,4 @@ pub mod Orders
 pub mod Ascending
 pub mod Variants
 pub mod Sound
+pub mod Forms

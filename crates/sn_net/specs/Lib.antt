@@ -2,4 +2,5 @@ pub mod Filter
 pub mod Net
 pub mod Meaning
 pub mod Face
+pub mod Faced
 pub mod WellFormed

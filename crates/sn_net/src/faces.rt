@@ -3,6 +3,7 @@ ghost use Rattle.sn_net.specs.Face.{variant_of, with_tag, variants, variant_cmp,
 
 use crate::expr::Boxes;
 use crate::filter::tag;
+use crate::list::append;
 use crate::net::Net;
 use sn_list::{Memory, Seq};
 use sn_record::{Label, LabelSet};
@@ -10,18 +11,23 @@ use std::alloc::Global;
 use std::cmp::Ordering;
 
 /// Appends a copy of `set`.
-fn push_copy(alloc: Global, sets: &mut Seq<LabelSet>, set: &LabelSet) -> Result<(), Memory>
+pub(crate) fn push_copy(
+    alloc: Global,
+    sets: &mut Seq<LabelSet>,
+    set: &LabelSet,
+) -> Result<(), Memory>
     ensures { OnOk result (sets.new ≡ sets.old ++ set.now ∷ []) }
 {
     let set = set.copy(alloc)?;
-    if sets.push(set).is_err() {
-        return Err(Memory);
-    }
-    Ok(())
+    append(sets, set)
 }
 
 /// Appends a copy of each of `more`.
-fn push_copies(alloc: Global, sets: &mut Seq<LabelSet>, more: &[LabelSet]) -> Result<(), Memory>
+pub(crate) fn push_copies(
+    alloc: Global,
+    sets: &mut Seq<LabelSet>,
+    more: &[LabelSet],
+) -> Result<(), Memory>
     ensures { OnOk result (sets.new ≡ sets.old ++ more.now) }
 {
     for set in more {
@@ -38,14 +44,11 @@ fn push_input(alloc: Global, sets: &mut Seq<LabelSet>, labels: &[Label]) -> Resu
     for label in labels {
         set.insert(*label)?;
     }
-    if sets.push(set).is_err() {
-        return Err(Memory);
-    }
-    Ok(())
+    append(sets, set)
 }
 
 /// Appends a copy of each of `more` with the tag added.
-fn push_tagged(
+pub(crate) fn push_tagged(
     alloc: Global,
     sets: &mut Seq<LabelSet>,
     id: u32,
@@ -56,9 +59,7 @@ fn push_tagged(
     for set in more {
         let mut set = set.copy(alloc)?;
         set.insert(tag(id))?;
-        if sets.push(set).is_err() {
-            return Err(Memory);
-        }
+        append(sets, set)?;
     }
     Ok(())
 }
@@ -119,13 +120,22 @@ fn compare(left: &LabelSet, right: &LabelSet) -> Ordering
 }
 
 /// The sets in ascending order, each once.
-fn ascending(sets: Seq<LabelSet>) -> Seq<LabelSet>
+pub(crate) fn ascending(sets: Seq<LabelSet>) -> Seq<LabelSet>
     ensures { result ≡ ascending sets }
 {
     let mut sets = sets.into_vec();
     sets.sort_unstable_by(|left, right| compare(left, right));
     sets.dedup();
     Seq::from_vec(sets)
+}
+
+/// A copy of each of `sets`.
+pub fn copy_sets(alloc: Global, sets: &[LabelSet]) -> Result<Seq<LabelSet>, Memory>
+    ensures { IfOk result (λ copies. copies ≡ sets.now) }
+{
+    let mut copies = Seq::new(alloc);
+    push_copies(alloc, &mut copies, sets)?;
+    Ok(copies)
 }
 
 /// The variants that records are matched with, in ascending order and each once: of a box its input labels, of a

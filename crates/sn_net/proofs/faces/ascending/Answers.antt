@@ -21,5 +21,5 @@ pub returns : goal.returns
 returns c =
     only_ascending c.from_vec.result c.args.sets
     (once_each-ascending _ _ (without_repeats c)
-      (c.sort_unstable_by.ensures.sorted (λ v w. is_lt (variant_cmp v w)) (ranks_by variant_cmp_total (λ v. v)) (always_returns_same _ (λ a r. is_lt r ≡ is_lt (variant_cmp a.0.now a.1.0.now)) _ (λ a r f' k. search rules))))
+    (c.sort_unstable_by.ensures.sorted (λ v w. is_lt (variant_cmp v w)) (ranks_by variant_cmp_total (λ v. v)) (always_returns_same _ (λ a r. is_lt r ≡ is_lt (variant_cmp a.0.now a.1.0.now)) _ (λ a r f' k. search rules))))
     (once_each-same c.args.sets _ _ (without_repeats c) (subst (λ sets. IsPermutation sets c.sort_unstable_by.new.self.items) c.into_vec-sets.ensures c.sort_unstable_by.ensures.permutation))
