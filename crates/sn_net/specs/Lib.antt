@@ -3,4 +3,5 @@ pub mod Net
 pub mod Meaning
 pub mod Face
 pub mod Faced
+pub mod Boxes
 pub mod WellFormed
