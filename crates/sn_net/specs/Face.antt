@@ -49,7 +49,7 @@ variant_cmp = on map.keys (slice_cmp label_cmp)
 abbrev pub ascending : List Labels → List Labels
 ascending sets = map.keys (map.from_entries {X = Unit {0}} {R = variant_cmp} (each (λ variant. (variant, tt)) sets))
 
--- the variants that records are matched with to tell whether they may flow into the network
+-- the face of a network: its variants in ascending order, each once
 abbrev pub face : List BoxProgram → Net → List Labels
 face boxes net = ascending (variants boxes net)
 

@@ -1,9 +1,9 @@
 //! Networks made from their parts, each beside its face.
 //!
-//! `face` walks all that is below a node. Here a node's face comes from those of its parts.
-ghost use Rattle.std.specs.Prelude.{◌≡◌, ◌++◌, IfOk, List, All, map};
+//! `face` walks all that is below a node. Here a node's face comes from those of its parts, so a network that is made from
+//! its leaves up is never walked.
+ghost use Rattle.std.specs.Prelude.{◌≡◌, IfOk, List, All, map};
 ghost use Rattle.std.specs.List.{flat_map};
-ghost use Rattle.sn_record.specs.LabelSet.{Labels};
 ghost use Rattle.sn_net.specs.declared.expr.BoxProgram.{BoxProgram};
 ghost use Rattle.sn_net.specs.declared.net.Net.TheVariants as form;
 ghost use Rattle.sn_net.specs.Faced.{IsFaced, net_of, face_of};
