@@ -2,12 +2,12 @@
 use Rattle.std.proofs.Common.{◌≡◌, ℕ, ◌<◌, Bool, true, false, ◌&&◌, IsTrue, List, [], ◌∷◌, length, map, refl, sym, ap, ◌∙◌, subst, arith}
 use Rattle.std.specs.Prelude.{nat_lt}
 use Rattle.std.specs.List.{All, list_all}
-use Rattle.std.proofs.lemmas.List.Elements.{All-head, All-tail, All-cons, All-nil}
+use Rattle.std.proofs.lemmas.List.Elements.{All-head, All-tail, All-cons, All-nil, All-weaker}
 use Rattle.std.proofs.lemmas.Bool.Decides.{nat_tests}
 use Rattle.sn_net.specs.declared.expr.BoxProgram.{BoxProgram}
 use Rattle.sn_net.specs.declared.net.Net.{Net}
 use Rattle.sn_net.specs.declared.net.Net.TheOpen.{Net-F}
-use Rattle.sn_net.specs.declared.net.Net.TheFolds.{fold-roll-Net, ind-Net, map-Net, every_here-Net, every_held-Net}
+use Rattle.sn_net.specs.declared.net.Net.TheFolds.{fold-roll-Net, ind-Net, map-Net, every-Net, every_here-Net, every_held-Net}
 use Rattle.sn_net.specs.declared.net.Net.TheViews.{roll-Net, out-roll-Net}
 use Rattle.sn_net.specs.Face.{is_numbered, numbered_step}
 use Rattle.sn_net.specs.WellFormed.{IsSound, IsWellFormed}
@@ -40,13 +40,15 @@ all_firsts P (x ∷ xs) = All-cons P x.0 (map (λ e. e.0) xs) x.1 (all_firsts P 
 module _ (boxes : List BoxProgram) where
   -- the level of a well-formed network is sound
   pub level_sound : (x : Net-F Net) → IsWellFormed boxes (roll-Net x) → IsSound boxes x
-  level_sound x formed = subst (IsSound boxes) (out-roll-Net x) (every_here-Net (IsSound boxes) (roll-Net x) formed)
+  level_sound x formed = subst (IsSound boxes) (out-roll-Net x) (every_here-Net (IsSound boxes) (roll-Net x) formed.sound)
 
   -- its parts are well formed
   pub parts_formed : (x : Net-F Net) → IsWellFormed boxes (roll-Net x) → All (IsWellFormed boxes) (parts x)
   parts_formed x formed =
-      let held = every_held-Net (IsSound boxes) (roll-Net x) formed in
-      subst (All (IsWellFormed boxes)) (sym (parts-map (λ e. e.0) held.0) ∙ ap parts (held.1 ∙ out-roll-Net x)) (all_firsts (IsWellFormed boxes) (parts held.0))
+      let sound = every-Net (IsSound boxes) in
+      let held = every_held-Net (IsSound boxes) (roll-Net x) formed.sound in
+      All-weaker sound (IsWellFormed boxes) (λ net below. record { closed = formed.closed; sound = below }) (parts x)
+      (subst (All sound) (sym (parts-map (λ e. e.0) held.0) ∙ ap parts (held.1 ∙ out-roll-Net x)) (all_firsts sound (parts held.0)))
 
   abbrev Keeps : Net → Type 0
   Keeps net = IsWellFormed boxes net → IsTrue (is_numbered boxes net)

@@ -8,24 +8,42 @@ use Rattle.sn_record.specs.LabelSet.{Labels}
 use Rattle.sn_tagexpr.specs.declared.expr.TagExpr.{TagExpr}
 use Rattle.std.specs.Prelude.{Option}
 use Rattle.sn_net.specs.declared.expr.BoxProgram.{BoxProgram}
+use Rattle.sn_net.specs.declared.filter.Filter.{Filter}
 use Rattle.sn_net.specs.declared.net.Merge.{Merge}
 use Rattle.sn_net.specs.declared.net.Net.{Net}
 use Rattle.sn_net.specs.declared.net.Net.TheOpen.{Net-F}
 use Rattle.sn_net.specs.declared.net.Net.TheFolds.{fold-roll-Net}
-use Rattle.sn_net.specs.declared.net.Net.TheVariants.{Choice, Star, Split, rolls-Choice, rolls-Star, rolls-Split}
-use Rattle.sn_net.specs.Face.{variants, variants_step, is_numbered, numbered_step}
+use Rattle.sn_net.specs.declared.net.Net.TheVariants.{Filter as FilterLeaf, Sync, Serial, Choice, Star, Split, rolls-Filter, rolls-Sync, rolls-Serial, rolls-Choice, rolls-Star, rolls-Split}
+use Rattle.sn_net.specs.Face.{variants, variants_step, with_tag, is_numbered, numbered_step}
+
+-- a filter has its pattern
+pub variants-Filter : (boxes : List BoxProgram) (filter : Filter) → variants boxes (FilterLeaf filter) ≡ filter.pattern ∷ []
+variants-Filter boxes filter = ap (variants boxes) (sym (rolls-Filter filter)) ∙ fold-roll-Net (List Labels) (variants_step boxes) (Net-F.Filter filter)
+
+-- a synchrocell has its patterns
+pub variants-Sync : (boxes : List BoxProgram) (place : ℕ) (patterns : List Labels) → variants boxes (Sync place patterns) ≡ patterns
+variants-Sync boxes place patterns = ap (variants boxes) (sym (rolls-Sync place patterns)) ∙ fold-roll-Net (List Labels) (variants_step boxes) (Net-F.Sync place patterns)
+
+-- networks in series have those of the left one
+pub variants-Serial : (boxes : List BoxProgram) (left right : Net) → variants boxes (Serial left right) ≡ variants boxes left
+variants-Serial boxes left right = ap (variants boxes) (sym (rolls-Serial left right)) ∙ fold-roll-Net (List Labels) (variants_step boxes) (Net-F.Serial left right)
 
 -- a choice has those of its branches, one after the other
-variants-Choice : (boxes : List BoxProgram) (place : ℕ) (merge : Merge) (branches : List Net) (faces : List (List Labels))
+pub variants-Choice : (boxes : List BoxProgram) (place : ℕ) (merge : Merge) (branches : List Net) (faces : List (List Labels))
     → variants boxes (Choice place merge branches faces) ≡ flat_map (λ branch. branch) (map (variants boxes) branches)
 variants-Choice boxes place merge branches faces =
     ap (variants boxes) (sym (rolls-Choice place merge branches faces)) ∙ fold-roll-Net (List Labels) (variants_step boxes) (Net-F.Choice place merge branches faces)
 
 -- a star has those of its body, and its exit pattern
-variants-Star : (boxes : List BoxProgram) (place : ℕ) (merge : Merge) (body : Net) (exit : Labels) (guard : Option TagExpr)
+pub variants-Star : (boxes : List BoxProgram) (place : ℕ) (merge : Merge) (body : Net) (exit : Labels) (guard : Option TagExpr)
     → variants boxes (Star place merge body exit guard) ≡ variants boxes body ++ exit ∷ []
 variants-Star boxes place merge body exit guard =
     ap (variants boxes) (sym (rolls-Star place merge body exit guard)) ∙ fold-roll-Net (List Labels) (variants_step boxes) (Net-F.Star place merge body exit guard)
+
+-- a split has those of its body, with the tag added
+pub variants-Split : (boxes : List BoxProgram) (place : ℕ) (merge : Merge) (body : Net) (id : ℕ) → variants boxes (Split place merge body id) ≡ map (with_tag id) (variants boxes body)
+variants-Split boxes place merge body id =
+    ap (variants boxes) (sym (rolls-Split place merge body id)) ∙ fold-roll-Net (List Labels) (variants_step boxes) (Net-F.Split place merge body id)
 
 -- a choice names boxes that there are where each branch does
 pub numbered-Choice : (boxes : List BoxProgram) (place : ℕ) (merge : Merge) (branches : List Net) (faces : List (List Labels))

@@ -45,6 +45,14 @@ variants boxes = fold-Net (List Labels) (variants_step boxes)
 abbrev pub variant_cmp : Labels → Labels → Ordering
 variant_cmp = on map.keys (slice_cmp label_cmp)
 
+-- the variants in ascending order, each once: the keys of the map with nothing at each of them
+abbrev pub ascending : List Labels → List Labels
+ascending sets = map.keys (map.from_entries {X = Unit {0}} {R = variant_cmp} (each (λ variant. (variant, tt)) sets))
+
+-- the face of a network: its variants in ascending order, each once
+abbrev pub face : List BoxProgram → Net → List Labels
+face boxes net = ascending (variants boxes net)
+
 -- the sets are the variants of the network, in ascending order and each once
 pub record IsFace (boxes : List BoxProgram) (net : Net) (sets : List Labels) : Type 0 where
   pub ascending : IsStrictlySortedBy variant_cmp sets

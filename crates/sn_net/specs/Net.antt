@@ -1,5 +1,5 @@
--- Networks, by the filters in them.
-use Rattle.std.specs.Prelude.{Bool, true, false, ◌&&◌, IsTrue, List, [], ◌∷◌, ◌++◌, All}
+-- Networks, by the filters in them and by their nodes.
+use Rattle.std.specs.Prelude.{ℕ, ◌+◌, Bool, true, false, ◌&&◌, IsTrue, List, [], ◌∷◌, ◌++◌, All, sum}
 use Rattle.std.specs.List.{flat_map}
 use Rattle.sn_net.specs.declared.filter.Filter.{Filter}
 use Rattle.sn_net.specs.declared.net.Net.{Net, fold-Net}
@@ -23,6 +23,20 @@ filters = fold-Net (List Filter) filters_step
 -- each filter in it is closed
 abbrev pub AllClosed : Net → Type 0
 AllClosed net = All IsClosed (filters net)
+
+-- how many one level has, with those of each part in its place
+abbrev pub nodes_step : Net-F ℕ → ℕ
+nodes_step (Net-F.Box place number) = 1
+nodes_step (Net-F.Filter filter) = 1
+nodes_step (Net-F.Sync place patterns) = 1
+nodes_step (Net-F.Serial left right) = 1 + left + right
+nodes_step (Net-F.Choice place merge branches faces) = 1 + sum branches
+nodes_step (Net-F.Star place merge body exit guard) = 1 + body
+nodes_step (Net-F.Split place merge body tag) = 1 + body
+
+-- the nodes of a network: each form in it counts one
+abbrev pub nodes : Net → ℕ
+nodes = fold-Net ℕ nodes_step
 
 -- one level, with whether each part is a chain in its place
 abbrev pub chain_step : Net-F Bool → Bool

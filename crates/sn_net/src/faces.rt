@@ -1,11 +1,9 @@
-ghost use Rattle.std.specs.Prelude.{◌≡◌, ◌++◌, ◌∷◌, [], ◌↔◌, IfOk, OnOk, IsTrue, map};
-ghost use Rattle.std.specs.List.{Contains};
-ghost use Rattle.std.specs.List.Sorted.{IsStrictlySortedBy};
-ghost use Rattle.sn_record.specs.LabelSet.{Labels};
-ghost use Rattle.sn_net.specs.Face.{variant_of, with_tag, variants, variant_cmp, IsFace, is_numbered};
+ghost use Rattle.std.specs.Prelude.{◌≡◌, ◌++◌, ◌∷◌, [], IfOk, OnOk, IsTrue, map};
+ghost use Rattle.sn_net.specs.Face.{variant_of, with_tag, variants, variant_cmp, ascending, face, IsFace, is_numbered};
 
 use crate::expr::Boxes;
 use crate::filter::tag;
+use crate::list::append;
 use crate::net::Net;
 use sn_list::{Memory, Seq};
 use sn_record::{Label, LabelSet};
@@ -13,18 +11,23 @@ use std::alloc::Global;
 use std::cmp::Ordering;
 
 /// Appends a copy of `set`.
-fn push_copy(alloc: Global, sets: &mut Seq<LabelSet>, set: &LabelSet) -> Result<(), Memory>
+pub(crate) fn push_copy(
+    alloc: Global,
+    sets: &mut Seq<LabelSet>,
+    set: &LabelSet,
+) -> Result<(), Memory>
     ensures { OnOk result (sets.new ≡ sets.old ++ set.now ∷ []) }
 {
     let set = set.copy(alloc)?;
-    if sets.push(set).is_err() {
-        return Err(Memory);
-    }
-    Ok(())
+    append(sets, set)
 }
 
 /// Appends a copy of each of `more`.
-fn push_copies(alloc: Global, sets: &mut Seq<LabelSet>, more: &[LabelSet]) -> Result<(), Memory>
+pub(crate) fn push_copies(
+    alloc: Global,
+    sets: &mut Seq<LabelSet>,
+    more: &[LabelSet],
+) -> Result<(), Memory>
     ensures { OnOk result (sets.new ≡ sets.old ++ more.now) }
 {
     for set in more {
@@ -41,14 +44,11 @@ fn push_input(alloc: Global, sets: &mut Seq<LabelSet>, labels: &[Label]) -> Resu
     for label in labels {
         set.insert(*label)?;
     }
-    if sets.push(set).is_err() {
-        return Err(Memory);
-    }
-    Ok(())
+    append(sets, set)
 }
 
 /// Appends a copy of each of `more` with the tag added.
-fn push_tagged(
+pub(crate) fn push_tagged(
     alloc: Global,
     sets: &mut Seq<LabelSet>,
     id: u32,
@@ -59,9 +59,7 @@ fn push_tagged(
     for set in more {
         let mut set = set.copy(alloc)?;
         set.insert(tag(id))?;
-        if sets.push(set).is_err() {
-            return Err(Memory);
-        }
+        append(sets, set)?;
     }
     Ok(())
 }
@@ -122,9 +120,8 @@ fn compare(left: &LabelSet, right: &LabelSet) -> Ordering
 }
 
 /// The sets in ascending order, each once.
-fn ascending(sets: Seq<LabelSet>) -> Seq<LabelSet>
-    ensures ascending { IsStrictlySortedBy variant_cmp result }
-    ensures same { (variant : Labels) → Contains result variant ↔ Contains sets variant }
+pub(crate) fn ascending(sets: Seq<LabelSet>) -> Seq<LabelSet>
+    ensures { result ≡ ascending sets }
 {
     let mut sets = sets.into_vec();
     sets.sort_unstable_by(|left, right| compare(left, right));
@@ -132,12 +129,22 @@ fn ascending(sets: Seq<LabelSet>) -> Seq<LabelSet>
     Seq::from_vec(sets)
 }
 
+/// A copy of each of `sets`.
+pub fn copy_sets(alloc: Global, sets: &[LabelSet]) -> Result<Seq<LabelSet>, Memory>
+    ensures { IfOk result (λ copies. copies ≡ sets.now) }
+{
+    let mut copies = Seq::new(alloc);
+    push_copies(alloc, &mut copies, sets)?;
+    Ok(copies)
+}
+
 /// The variants that records are matched with, in ascending order and each once: of a box its input labels, of a
 /// filter its pattern, of a synchrocell its patterns, of nets in series those of the left one, of a choice those of
 /// each branch, of a star those of its body and its exit pattern, of a split those of its body with the tag added.
 pub fn face(alloc: Global, net: &Net, boxes: &Boxes) -> Result<Seq<LabelSet>, Memory>
     requires { IsTrue (is_numbered boxes.now net.now) }
-    ensures { IfOk result (λ sets. IsFace boxes.now net.now sets) }
+    ensures exact { IfOk result (λ sets. sets ≡ face boxes.now net.now) }
+    ensures law { IfOk result (λ sets. IsFace boxes.now net.now sets) }
 {
     let mut sets = Seq::new(alloc);
     push_variants(alloc, &mut sets, net, boxes)?;

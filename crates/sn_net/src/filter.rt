@@ -1,9 +1,11 @@
-ghost use Rattle.std.specs.Prelude.{◌≡◌, ◌≢◌, IsTrue, ◌↔◌, All};
+ghost use Rattle.std.specs.Prelude.{◌≡◌, ◌≢◌, IfOk, IsTrue, ◌↔◌, All};
 ghost use Rattle.sn_net.specs.Filter.{field, tag, target, source, is_from, is_over, is_plain, IsClosedTemplate, IsClosed};
 
-use sn_list::Seq;
+use crate::list::append;
+use sn_list::{Memory, Seq};
 use sn_record::{Kind, Label, LabelSet};
 use sn_tagexpr::TagExpr;
+use std::alloc::Global;
 
 /// What gives one label of a template its value.
 #[derive(PartialEq, Eq, Debug, Drop)]
@@ -115,6 +117,16 @@ impl Part {
             Part::Compute(_, expr) => is_over(pattern, expr),
         }
     }
+
+    fn copy(&self, alloc: Global) -> Result<Part, Memory>
+        ensures { IfOk result (λ copy. copy ≡ self.now) }
+    {
+        match self {
+            Part::Copy(label) => Ok(Part::Copy(*label)),
+            Part::Rename(new, old) => Ok(Part::Rename(*new, *old)),
+            Part::Compute(id, expr) => Ok(Part::Compute(*id, expr.copy(alloc)?)),
+        }
+    }
 }
 
 /// Whether no part sets `label`.
@@ -142,6 +154,17 @@ impl Template {
         }
         true
     }
+
+    fn copy(&self, alloc: Global) -> Result<Template, Memory>
+        ensures { IfOk result (λ copy. copy ≡ self.now) }
+    {
+        let mut parts = Seq::new(alloc);
+        for part in self.parts.as_slice() {
+            let part = part.copy(alloc)?;
+            append(&mut parts, part)?;
+        }
+        Ok(Template { parts })
+    }
 }
 
 impl Filter {
@@ -155,5 +178,22 @@ impl Filter {
             }
         }
         true
+    }
+
+    /// A copy.
+    pub fn copy(&self, alloc: Global) -> Result<Filter, Memory>
+        ensures { IfOk result (λ copy. copy ≡ self.now) }
+    {
+        let pattern = self.pattern.copy(alloc)?;
+        let mut templates = Seq::new(alloc);
+        for template in self.templates.as_slice() {
+            let template = template.copy(alloc)?;
+            append(&mut templates, template)?;
+        }
+        Ok(Filter {
+            place: self.place,
+            pattern,
+            templates,
+        })
     }
 }

@@ -2,12 +2,15 @@
 #![tactic(auto)]
 
 mod expr;
+mod faced;
 mod faces;
 mod filter;
+mod list;
 mod net;
 
 pub use expr::{BoxProgram, Boxes, BuiltinKind, Expr, Fun};
-pub use faces::face;
+pub use faced::Faced;
+pub use faces::{copy_sets, face};
 pub use filter::{Filter, Part, Template, is_over};
 pub use net::{Claim, Merge, Net};
 pub use sn_tagexpr::{BinOp, TagExpr};

@@ -1,7 +1,7 @@
 ghost use Rattle.std.specs.Prelude.{[], IfOk, IsTrue};
 ghost use Rattle.sn_net.specs.Face.{is_numbered};
 
-use crate::{Filter, Merge, Net, Part, TagExpr, Template, face};
+use crate::{Faced, Filter, Merge, Net, Part, TagExpr, Template, face};
 use sn_list::{Boxed, Memory, Seq};
 use sn_record::{Kind, Label, LabelSet};
 use std::alloc::Global;
@@ -54,16 +54,14 @@ fn filters_are_closed(rt: HostRuntime) -> Result<(), Fail> {
 }
 
 /// A filter that takes each record with the label, and answers none.
-fn sink(alloc: Global, label: Label) -> Result<Net, Memory>
-    ensures { IfOk result (λ net. IsTrue (is_numbered [] net)) }
-{
+fn sink(alloc: Global, label: Label) -> Result<Filter, Memory> {
     let mut pattern = LabelSet::new(alloc);
     pattern.insert(label)?;
-    Ok(Net::Filter(Filter {
+    Ok(Filter {
         place: 0,
         pattern,
         templates: Seq::new(alloc),
-    }))
+    })
 }
 
 /// A choice of a sink for each label, in a split, with no faces yet.
@@ -72,7 +70,8 @@ fn split_of(alloc: Global, labels: &[Label]) -> Result<Net, Memory>
 {
     let mut branches = Seq::new(alloc);
     for label in labels {
-        if branches.push(sink(alloc, *label)?).is_err() {
+        let branch = Net::Filter(sink(alloc, *label)?);
+        if branches.push(branch).is_err() {
             return Err(Memory);
         }
     }
@@ -96,5 +95,26 @@ fn a_face_ascends_without_repeats(rt: HostRuntime) -> Result<(), Fail> {
     let sets = face(rt.alloc(), &net, &Seq::new(rt.alloc()))?;
     assert_eq!(rt; sets.len(), 2);
     assert!(rt; sets.at(0).contains(A) && sets.at(0).contains(T) && !sets.at(1).contains(A));
+    Ok(())
+}
+
+/// A choice of a sink for each label, beside its face.
+fn choice_of(alloc: Global, labels: &[Label]) -> Result<Faced, Memory> {
+    let mut branches = Seq::new(alloc);
+    for label in labels {
+        let branch = Faced::filter(alloc, sink(alloc, *label)?)?;
+        if branches.push(branch).is_err() {
+            return Err(Memory);
+        }
+    }
+    Faced::choice(alloc, 0, Merge::Free, branches)
+}
+
+#[test]
+fn a_net_is_made_beside_its_face(rt: HostRuntime) -> Result<(), Fail> {
+    let choice = choice_of(rt.alloc(), &[T, A, T])?;
+    let Faced { face, .. } = Faced::split(rt.alloc(), 0, Merge::Free, choice, 1)?;
+    assert_eq!(rt; face.len(), 2);
+    assert!(rt; face.at(0).contains(A) && face.at(0).contains(T) && !face.at(1).contains(A));
     Ok(())
 }

@@ -9,6 +9,7 @@ use Rattle.std.proofs.lemmas.List.Sorted.{ranks_by}
 use Rattle.sn_record.specs.LabelSet.{Labels}
 use Rattle.sn_net.specs.Face.{variant_cmp}
 use Rattle.sn_net.proofs.Orders.{variant_cmp_total, ties_by_keys, once_each-ascending, once_each-same}
+use Rattle.sn_net.proofs.Ascending.{only_ascending}
 use Rattle.sn_net.proofs.faces.ascending.Goals as goal
 
 without_repeats : (c : goal.After-from_vec) → c.from_vec.result ≡ dedup (eq_by_cmp variant_cmp) c.sort_unstable_by.new.self.items
@@ -16,11 +17,9 @@ without_repeats c =
     c.from_vec.ensures ∙ dedup_is _ _ _ c.dedup.ensures.filtered
     ∙ (λ i. dedup (λ (v w : Labels). ties_by_keys (λ _ _. true) (λ _ _. refl) (map.entries v) (map.entries w) i) c.sort_unstable_by.new.self.items)
 
-pub returns-clause-ascending : goal.returns-clause-ascending
-returns-clause-ascending c =
-    once_each-ascending _ _ (without_repeats c)
-    (c.sort_unstable_by.ensures.sorted (λ v w. is_lt (variant_cmp v w)) (ranks_by variant_cmp_total (λ v. v)) (always_returns_same _ (λ a r. is_lt r ≡ is_lt (variant_cmp a.0.now a.1.0.now)) _ (λ a r f' k. search rules)))
-
-pub returns-clause-same : goal.returns-clause-same
-returns-clause-same c =
-    once_each-same c.args.sets _ _ (without_repeats c) (subst (λ sets. IsPermutation sets c.sort_unstable_by.new.self.items) c.into_vec-sets.ensures c.sort_unstable_by.ensures.permutation)
+pub returns : goal.returns
+returns c =
+    only_ascending c.from_vec.result c.args.sets
+    (once_each-ascending _ _ (without_repeats c)
+    (c.sort_unstable_by.ensures.sorted (λ v w. is_lt (variant_cmp v w)) (ranks_by variant_cmp_total (λ v. v)) (always_returns_same _ (λ a r. is_lt r ≡ is_lt (variant_cmp a.0.now a.1.0.now)) _ (λ a r f' k. search rules))))
+    (once_each-same c.args.sets _ _ (without_repeats c) (subst (λ sets. IsPermutation sets c.sort_unstable_by.new.self.items) c.into_vec-sets.ensures c.sort_unstable_by.ensures.permutation))

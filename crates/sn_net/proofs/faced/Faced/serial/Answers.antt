@@ -1,0 +1,7 @@
+use Rattle.std.proofs.Common.{sym, ap, ◌∙◌}
+use Rattle.sn_net.specs.Face.{face}
+use Rattle.sn_net.proofs.Forms.{face-Serial}
+use Rattle.sn_net.proofs.faced.Faced.serial.Goals as goal
+
+pub returns-clause-face : goal.returns-clause-face
+returns-clause-face c boxes faced = faced ∙ ap (face boxes) (sym c.in_ok-left.ensures) ∙ sym (face-Serial boxes c.in_ok-left.left c.in_ok-right.right)
