@@ -9,3 +9,4 @@ pub mod Types
 pub mod Variants
 pub mod Keys
 pub mod Declarations
+pub mod Trees
