@@ -10,3 +10,4 @@ pub mod Variants
 pub mod Keys
 pub mod Declarations
 pub mod Trees
+pub mod Built

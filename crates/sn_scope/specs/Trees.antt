@@ -10,9 +10,11 @@ use Rattle.sn_scope.specs.declared.declarations.Declarations.{Declarations}
 use Rattle.sn_scope.specs.declared.declarations.Pending.{Pending}
 use Rattle.sn_scope.specs.declared.declarations.Signature.{Signature}
 use Rattle.sn_scope.specs.declared.network.Component.{Component}
-use Rattle.sn_scope.specs.declared.network.Component.TheVariants.{Filter, Sync, Serial, Choice, Star, Split}
+use Rattle.sn_scope.specs.declared.network.Component.TheOpen.{Component-F}
+use Rattle.sn_scope.specs.declared.network.Component.TheVariants.{Serial}
 use Rattle.sn_scope.specs.declared.network.Network.{Network}
-use Rattle.sn_scope.specs.declared.network.Network.TheVariants.{Named, Made}
+use Rattle.sn_scope.specs.declared.network.Component.TheOpen.{Network-F}
+use Rattle.sn_scope.specs.declared.network.Component.TheViews.{out-Component, out-Network}
 
 -- how many nodes one below another a tree may have, how many variants a face, and how many nodes all trees together
 abbrev pub most_levels : ℕ
@@ -34,9 +36,12 @@ all_some [] = Some []
 all_some (first ∷ rest) = then_some first (λ net. option_map (λ nets. net ∷ nets) (all_some rest))
 
 -- the component that a part of a network stands for
+abbrev pub component_step : List Component → Network-F Component Network → Option Component
+component_step nets (Network-F.Named number) = slice_get nets number
+component_step nets (Network-F.Made component) = Some component
+
 abbrev pub component_of : List Component → Network → Option Component
-component_of nets (Named number) = slice_get nets number
-component_of nets (Made component) = Some component
+component_of nets network = component_step nets (out-Network network)
 
 abbrev pub in_series : Option Net → Option Net → Option Net
 in_series left right = then_some left (λ l. option_map (λ r. net.Serial l r) right)
@@ -48,14 +53,18 @@ series part rest (first ∷ []) = None
 series part rest (first ∷ second ∷ []) = in_series (part first) (part second)
 series part rest (first ∷ second ∷ third ∷ more) = in_series (part first) (rest (second ∷ third ∷ more))
 
+-- one level, over the trees of its parts
+abbrev pub node_step : (Network → Option Net) → (List Network → Option Net) → Component-F Component Network → Option Net
+node_step part rest (Component-F.Filter filter) = Some (net.Filter filter)
+node_step part rest (Component-F.Sync place patterns) = Some (net.Sync place patterns)
+node_step part rest (Component-F.Serial parts) = series part rest parts
+node_step part rest (Component-F.Choice place merge branches) = option_map (λ nets. net.Choice place merge nets (each (face []) nets)) (all_some (each part branches))
+node_step part rest (Component-F.Star place merge body exit guard) = option_map (λ tree. net.Star place merge tree exit guard) (part body)
+node_step part rest (Component-F.Split place merge body tag) = option_map (λ tree. net.Split place merge tree tag) (part body)
+
 -- one node, over the trees of its parts
 abbrev pub node : (Network → Option Net) → (List Network → Option Net) → Component → Option Net
-node part rest (Filter filter) = Some (net.Filter filter)
-node part rest (Sync place patterns) = Some (net.Sync place patterns)
-node part rest (Serial parts) = series part rest parts
-node part rest (Choice place merge branches) = option_map (λ nets. net.Choice place merge nets (each (face []) nets)) (all_some (each part branches))
-node part rest (Star place merge body exit guard) = option_map (λ tree. net.Star place merge tree exit guard) (part body)
-node part rest (Split place merge body tag) = option_map (λ tree. net.Split place merge tree tag) (part body)
+node part rest component = node_step part rest (out-Component component)
 
 -- nothing where the face has too many variants
 abbrev pub narrow : Net → Option Net

@@ -9,6 +9,7 @@ mod numbering;
 mod refusal;
 mod scopes;
 mod tags;
+mod trees;
 mod types;
 mod variants;
 

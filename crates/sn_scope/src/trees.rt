@@ -1,0 +1,224 @@
+//! The trees of claims: each name of a net stands for a copy of that net's tree.
+//!
+//! A node takes its room before it is made, so a tree that is too large costs no more than one that fits.
+ghost use Rattle.std.specs.Prelude.{◌≡◌, suc, IfOk, IsTrue, IsFalse, map as each};
+ghost use Rattle.sn_scope.specs.Built.{AreBuilt, IsBuilt, narrowed, node_of, part_of, parts_of, rest_of, series_of};
+ghost use Rattle.sn_scope.specs.Trees.{all_some, tree};
+
+use crate::network::{Component, Network};
+use sn_list::{Memory, Seq};
+use sn_net::{Faced, TagExpr, copy_sets};
+use std::alloc::Global;
+
+const MOST_VARIANTS: usize = 1024;
+
+/// Nothing where the face has too many variants.
+fn narrow(built: Option<Faced>) -> Option<Faced>
+    ensures { result ≡ narrowed built }
+{
+    let faced = built?;
+    if faced.face.len() <= MOST_VARIANTS {
+        return Some(faced);
+    }
+    None
+}
+
+/// Whether there was room for one more node.
+fn take_room(room: &mut usize) -> bool
+    ensures taken { IsTrue result → suc room.new ≡ room.old }
+    ensures full { IsFalse result → (room.old ≡ 0) × (room.new ≡ 0) }
+{
+    if *room == 0 {
+        return false;
+    }
+    *room -= 1;
+    true
+}
+
+/// The tree of a component with at most so many levels, or nothing where it has more, where a face is too wide, or where
+/// there is no room for its nodes. Room is taken for each node.
+#[cycle(tree)]
+pub fn tree(
+    alloc: Global,
+    nets: &[Component],
+    component: &Component,
+    levels: u32,
+    room: &mut usize,
+) -> Result<Option<Faced>, Memory>
+    ensures { IfOk result (IsBuilt (tree levels nets.now component.now) room.old room.new) }
+{
+    if levels == 0 || !take_room(room) {
+        return Ok(None);
+    }
+    let built = node(alloc, nets, component, levels - 1, room)?;
+    Ok(narrow(built))
+}
+
+/// The tree of parts in series, as `tree` is that of a component.
+#[cycle(tree)]
+fn series_tree(
+    alloc: Global,
+    nets: &[Component],
+    parts: &[Network],
+    levels: u32,
+    room: &mut usize,
+) -> Result<Option<Faced>, Memory>
+    ensures { IfOk result (IsBuilt (parts_of levels nets.now parts.now) room.old room.new) }
+{
+    if levels == 0 || !take_room(room) {
+        return Ok(None);
+    }
+    let built = series(alloc, nets, parts, levels - 1, room)?;
+    Ok(narrow(built))
+}
+
+/// The node of a component, whose own room is taken, over the trees of its parts.
+#[cycle(tree)]
+fn node(
+    alloc: Global,
+    nets: &[Component],
+    component: &Component,
+    levels: u32,
+    room: &mut usize,
+) -> Result<Option<Faced>, Memory>
+    ensures { IfOk result (IsBuilt (node_of levels nets.now component.now) (suc room.old) room.new) }
+{
+    match component {
+        Component::Filter(filter) => Ok(Some(Faced::filter(alloc, filter.copy(alloc)?)?)),
+        Component::Sync { place, patterns } => {
+            let patterns = copy_sets(alloc, patterns.as_slice())?;
+            Ok(Some(Faced::sync(alloc, *place, patterns)?))
+        }
+        Component::Serial(parts) => series(alloc, nets, parts.as_slice(), levels, room),
+        Component::Choice {
+            place,
+            merge,
+            branches,
+        } => {
+            let built = trees(alloc, nets, branches.as_slice(), levels, room)?;
+            let Some(branches) = built else {
+                return Ok(None);
+            };
+            Ok(Some(Faced::choice(alloc, *place, *merge, branches)?))
+        }
+        Component::Star {
+            place,
+            merge,
+            body,
+            exit,
+            guard,
+        } => {
+            let built = part(alloc, nets, body.get(), levels, room)?;
+            let Some(body) = built else {
+                return Ok(None);
+            };
+            let exit = exit.copy(alloc)?;
+            let guard = copy_guard(alloc, guard)?;
+            Ok(Some(Faced::star(alloc, *place, *merge, body, exit, guard)?))
+        }
+        Component::Split {
+            place,
+            merge,
+            body,
+            tag,
+        } => {
+            let built = part(alloc, nets, body.get(), levels, room)?;
+            let Some(body) = built else {
+                return Ok(None);
+            };
+            Ok(Some(Faced::split(alloc, *place, *merge, body, *tag)?))
+        }
+    }
+}
+
+fn copy_guard(alloc: Global, guard: &Option<TagExpr>) -> Result<Option<TagExpr>, Memory>
+    ensures { IfOk result (λ copy. copy ≡ guard.now) }
+{
+    match guard {
+        Some(e) => Ok(Some(e.copy(alloc)?)),
+        None => Ok(None),
+    }
+}
+
+/// The node of two or more parts in series, whose own room is taken.
+#[cycle(tree)]
+fn series(
+    alloc: Global,
+    nets: &[Component],
+    parts: &[Network],
+    levels: u32,
+    room: &mut usize,
+) -> Result<Option<Faced>, Memory>
+    ensures { IfOk result (IsBuilt (series_of levels nets.now parts.now) (suc room.old) room.new) }
+{
+    if parts.len() < 2 {
+        return Ok(None);
+    }
+    let Some(left) = part(alloc, nets, &parts[0], levels, room)? else {
+        return Ok(None);
+    };
+    let Some(right) = rest(alloc, nets, &parts[1..], levels, room)? else {
+        return Ok(None);
+    };
+    Ok(Some(Faced::serial(alloc, left, right)?))
+}
+
+/// The tree of one part, or of several in series.
+#[cycle(tree)]
+fn rest(
+    alloc: Global,
+    nets: &[Component],
+    parts: &[Network],
+    levels: u32,
+    room: &mut usize,
+) -> Result<Option<Faced>, Memory>
+    ensures { IfOk result (IsBuilt (rest_of levels nets.now parts.now) room.old room.new) }
+{
+    if parts.len() == 1 {
+        return part(alloc, nets, &parts[0], levels, room);
+    }
+    series_tree(alloc, nets, parts, levels, room)
+}
+
+/// The tree of the component that a part of a network stands for.
+#[cycle(tree)]
+fn part(
+    alloc: Global,
+    nets: &[Component],
+    network: &Network,
+    levels: u32,
+    room: &mut usize,
+) -> Result<Option<Faced>, Memory>
+    ensures { IfOk result (IsBuilt (part_of levels nets.now network.now) room.old room.new) }
+{
+    match network {
+        Network::Named(number) => {
+            if *number >= nets.len() {
+                return Ok(None);
+            }
+            tree(alloc, nets, &nets[*number], levels, room)
+        }
+        Network::Made(component) => tree(alloc, nets, component, levels, room),
+    }
+}
+
+/// The trees of branches.
+#[cycle(tree)]
+fn trees(
+    alloc: Global,
+    nets: &[Component],
+    networks: &[Network],
+    levels: u32,
+    room: &mut usize,
+) -> Result<Option<Seq<Faced>>, Memory>
+    ensures { IfOk result (AreBuilt (all_some (each (part_of levels nets.now) networks.now)) room.old room.new) }
+{
+    let mut made = Seq::new(alloc);
+    for network in networks {
+        let Some(faced) = part(alloc, nets, network, levels, room)? else {
+            return Ok(None);
+        };
+        sn_stack::append(&mut made, faced)?;
+    }
+    Ok(Some(made))
+}
