@@ -1,2 +1,5 @@
 pub mod Members
 pub mod Nets
+pub mod SoundChecks
+pub mod SoundTags
+pub mod SoundFilters
