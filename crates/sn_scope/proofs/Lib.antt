@@ -3,3 +3,5 @@ pub mod Nets
 pub mod SoundChecks
 pub mod SoundTags
 pub mod SoundFilters
+pub mod SoundComponents
+pub mod SoundNetworks
