@@ -5,3 +5,4 @@ pub mod SoundTags
 pub mod SoundFilters
 pub mod SoundComponents
 pub mod SoundNetworks
+pub mod SoundDeclarations
