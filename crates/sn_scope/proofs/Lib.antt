@@ -6,3 +6,4 @@ pub mod SoundFilters
 pub mod SoundComponents
 pub mod SoundNetworks
 pub mod SoundDeclarations
+pub mod SoundTrees
