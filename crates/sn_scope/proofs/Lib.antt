@@ -3,3 +3,12 @@ pub mod Nets
 pub mod Nodes
 pub mod Levels
 pub mod Building
+pub mod Fitting
+pub mod SoundChecks
+pub mod SoundTags
+pub mod SoundFilters
+pub mod SoundComponents
+pub mod SoundNetworks
+pub mod SoundDeclarations
+pub mod SoundTrees
+pub mod Resolving

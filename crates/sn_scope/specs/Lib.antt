@@ -11,3 +11,5 @@ pub mod Keys
 pub mod Declarations
 pub mod Trees
 pub mod Built
+pub mod Resolution
+pub mod Claims

@@ -7,11 +7,11 @@ mod labels;
 mod network;
 mod numbering;
 mod refusal;
+mod resolution;
 mod scopes;
 mod tags;
 mod trees;
 mod types;
 mod variants;
 
-pub use variants::Variants;
-pub use refusal::{Reason, Refusal, Refusals};
+pub use resolution::{Resolved, ScopeFault, resolve};

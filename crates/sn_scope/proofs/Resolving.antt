@@ -1,0 +1,79 @@
+-- From what was declared to what a program is resolved to.
+use Rattle.std.proofs.Common.{◌≡◌, ℕ, ◌-◌, nat_le, Bool, true, false, cond, List, [], ◌∷◌, ◌++◌, length, All, Option, Some, None, Result, Ok, Err, IfOk, refl, sym, ap, subst, ◌∙◌}
+use Rattle.std.proofs.lemmas.List.Elements.{All-nil, All-cons}
+use Rattle.sn_ast.specs.declared.declaration.Program.{Program}
+use Rattle.sn_net.specs.Net.{nodes}
+use Rattle.sn_net.specs.WellFormed.{IsWellFormed}
+use Rattle.sn_net.specs.declared.net.Claim.{Claim}
+use Rattle.sn_net.specs.declared.net.Net.{Net}
+use Rattle.sn_scope.specs.Declarations.{declarations_of}
+use Rattle.sn_scope.specs.Numbering.{names_of}
+use Rattle.sn_scope.specs.Resolution.{fault_at, most_names, resolution, resolution_under, resolved, unless_refused, with_main}
+use Rattle.sn_scope.specs.Trees.{claim_at, claims_within, fitting, led_by, most_nodes, or_refused, tree_of}
+use Rattle.sn_scope.specs.declared.declarations.Declarations.{Declarations}
+use Rattle.sn_scope.specs.declared.declarations.Pending.{Pending}
+use Rattle.sn_scope.specs.declared.refusal.Refusal.{Refusal}
+use Rattle.sn_scope.specs.declared.resolution.Resolved.{Resolved}
+use Rattle.sn_scope.specs.declared.resolution.ScopeFault.TheVariants as cause
+use Rattle.sn_scope.proofs.SoundTrees.{trees_are_sound}
+
+-- what is decided where the names and the declarations are known
+under : (program : Program) (names : List (List ℕ)) (st : Declarations) → names ≡ names_of program → st ≡ declarations_of names program → resolution program ≡ unless_refused names st st.refusals
+under program names st is_names is_st = ap (λ ns. resolution_under ns program) (sym is_names) ∙ ap (λ s. unless_refused names s s.refusals) (sym is_st)
+
+pub refused_at : (program : Program) (names : List (List ℕ)) (st : Declarations) (refusal : Refusal) → names ≡ names_of program → st ≡ declarations_of names program → st.refusals ≡ Some refusal →
+    resolution program ≡ Err (fault_at refusal.reason refusal.at)
+refused_at program names st refusal is_names is_st some = under program names st is_names is_st ∙ ap (unless_refused names st) some
+
+pub not_refused : (program : Program) (names : List (List ℕ)) (st : Declarations) → names ≡ names_of program → st ≡ declarations_of names program → st.refusals ≡ None →
+    resolution program ≡ with_main names st st.main
+not_refused program names st is_names is_st none = under program names st is_names is_st ∙ ap (unless_refused names st) none
+
+abbrev AreFormed : List Claim → Type 0
+AreFormed claims = All (λ claim. IsWellFormed [] claim.net) claims
+
+abbrev AllFormed : Result (List Claim) ℕ → Type 0
+AllFormed claims = IfOk claims AreFormed
+
+led_formed : (claim : Claim) → IsWellFormed [] claim.net → (claims : Result (List Claim) ℕ) → AllFormed claims → AllFormed (led_by (claim ∷ []) claims)
+led_formed claim formed (Ok more) all = All-cons (λ c. IsWellFormed [] c.net) claim more formed all
+led_formed claim formed (Err place) all = tt
+
+-- a claim that is not refused, before others
+claim_formed : (st : Declarations) (room : ℕ) (pending : Pending) (rest : Net → Result (List Claim) ℕ) → ((tree : Net) → AllFormed (rest tree)) →
+    (made : Option Net) → ((tree : Net) → made ≡ Some tree → IsWellFormed [] tree) →
+    AllFormed (or_refused pending.place (fitting room made) (λ tree. led_by (claim_at st pending tree ∷ []) (rest tree)))
+claim_formed st room pending rest all None formed = tt
+claim_formed st room pending rest all (Some tree) formed =
+    elim (nat_le (nodes tree) room) as (λ b. AllFormed (or_refused pending.place (cond b (Some tree) None) (λ t. led_by (claim_at st pending t ∷ []) (rest t)))) [
+      | true ↦ led_formed (claim_at st pending tree) (formed tree refl) (rest tree) (all tree)
+      | false ↦ tt
+    ]
+
+-- where each tree is well formed, each claim is
+claims_formed : (st : Declarations) → ((number : ℕ) (tree : Net) → tree_of st.nets number ≡ Some tree → IsWellFormed [] tree) → (room : ℕ) (pending : List Pending) → AllFormed (claims_within st room pending)
+claims_formed st sound room [] = All-nil (λ c. IsWellFormed [] c.net)
+claims_formed st sound room (pending ∷ more) =
+    claim_formed st room pending (λ tree. claims_within st (room - nodes tree) more) (λ tree. claims_formed st sound (room - nodes tree) more) (tree_of st.nets pending.net) (sound pending.net)
+
+abbrev IsFormed : Resolved → Type 0
+IsFormed r = All (λ claim. IsWellFormed r.boxes claim.net) r.claims
+
+resolved_formed : (names : List (List ℕ)) (main : ℕ) (claims : Result (List Claim) ℕ) → AllFormed claims → IfOk (resolved names main claims) IsFormed
+resolved_formed names main (Ok claims) formed = formed
+resolved_formed names main (Err place) formed = tt
+
+main_formed : (names : List (List ℕ)) (st : Declarations) → ((number : ℕ) (tree : Net) → tree_of st.nets number ≡ Some tree → IsWellFormed [] tree) → (main : Option ℕ) → IfOk (with_main names st main) IsFormed
+main_formed names st sound None = tt
+main_formed names st sound (Some main) =
+    elim (nat_le (length names) most_names) as (λ b. IfOk (cond b (resolved names main (claims_within st most_nodes st.claims)) (Err cause.TooManyNames)) IsFormed) [
+      | true ↦ resolved_formed names main (claims_within st most_nodes st.claims) (claims_formed st sound most_nodes st.claims)
+      | false ↦ tt
+    ]
+
+-- where nothing is refused, what is resolved is well formed
+pub all_formed : (program : Program) (names : List (List ℕ)) (st : Declarations) (r : Resolved) → st ≡ declarations_of names program → st.refusals ≡ None → with_main names st st.main ≡ Ok r → IsFormed r
+all_formed program names st r is_st none is =
+    let sound : (number : ℕ) (tree : Net) → tree_of st.nets number ≡ Some tree → IsWellFormed [] tree =
+      λ number tree made. trees_are_sound names program number tree (ap (λ s. s.refusals) (sym is_st) ∙ none) (ap (λ s. tree_of s.nets number) (sym is_st) ∙ made) in
+    subst (λ x. IfOk x IsFormed) is (main_formed names st sound st.main)

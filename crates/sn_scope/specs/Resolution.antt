@@ -1,0 +1,71 @@
+-- What a program is resolved to, or which refusal comes.
+use Rattle.std.specs.Prelude.{ℕ, Bool, true, false, nat_le, if◌then◌else◌, List, [], length, map, Option, Some, None, Result, Ok, Err}
+use Rattle.std.specs.List.{list_any}
+use Rattle.sn_ast.specs.declared.declaration.Decl.{Decl, fold-Decl}
+use Rattle.sn_ast.specs.declared.declaration.Decl.TheOpen.{Decl-F}
+use Rattle.sn_ast.specs.declared.declaration.NetDecl.{NetDecl, NetDecl-F, fold-NetDecl}
+use Rattle.sn_ast.specs.declared.declaration.Program.{Program}
+use Rattle.sn_net.specs.declared.net.Claim.{Claim}
+use Rattle.sn_scope.specs.Declarations.{declarations_of}
+use Rattle.sn_scope.specs.Numbering.{names_of}
+use Rattle.sn_scope.specs.Trees.{claims_within, most_nodes}
+use Rattle.sn_scope.specs.declared.declarations.Declarations.{Declarations}
+use Rattle.sn_scope.specs.declared.refusal.Reason.{Reason}
+use Rattle.sn_scope.specs.declared.refusal.Reason.TheVariants as reason
+use Rattle.sn_scope.specs.declared.refusal.Refusal.{Refusal}
+use Rattle.sn_scope.specs.declared.resolution.Resolved.{Resolved}
+use Rattle.sn_scope.specs.declared.resolution.ScopeFault.{ScopeFault}
+use Rattle.sn_scope.specs.declared.resolution.ScopeFault.TheVariants.{Unknown, Twice, Arity, NoMain, GuardTag, TooLarge, TooManyNames}
+
+-- how many different names the labels may have
+abbrev pub most_names : ℕ
+most_names = 4096
+
+abbrev pub fault_at : Reason → ℕ → ScopeFault
+fault_at reason.Unknown at = Unknown at
+fault_at reason.Twice at = Twice at
+fault_at reason.Arity at = Arity at
+fault_at reason.GuardTag at = GuardTag at
+
+-- the claims with their trees, or that one is too large
+abbrev pub resolved : List (List ℕ) → ℕ → Result (List Claim) ℕ → Result Resolved ScopeFault
+resolved names main (Ok claims) = Ok (record { names = names; boxes = []; claims = claims; main = main })
+resolved names main (Err place) = Err (TooLarge place)
+
+-- one of the outermost nets is the program's, or there is none
+abbrev pub with_main : List (List ℕ) → Declarations → Option ℕ → Result Resolved ScopeFault
+with_main names st None = Err NoMain
+with_main names st (Some main) = if nat_le (length names) most_names then resolved names main (claims_within st most_nodes st.claims) else Err TooManyNames
+
+-- nothing is refused at a place, or the first refusal comes
+abbrev pub unless_refused : List (List ℕ) → Declarations → Option Refusal → Result Resolved ScopeFault
+unless_refused names st None = with_main names st st.main
+unless_refused names st (Some refusal) = Err (fault_at refusal.reason refusal.at)
+
+-- what is declared under names
+abbrev pub resolution_under : List (List ℕ) → Program → Result Resolved ScopeFault
+resolution_under names program = unless_refused names (declarations_of names program) (declarations_of names program).refusals
+
+-- the program with the names of its labels: refusals at a place come first, then that there is no main net, that there are too many names, and that a tree is too large
+abbrev pub resolution : Program → Result Resolved ScopeFault
+resolution program = resolution_under (names_of program) program
+
+-- one level, with whether each part holds a box in its place
+abbrev pub box_step : Decl-F Bool Bool → Bool
+box_step (Decl-F.BoxDecl b) = true
+box_step (Decl-F.NetDecl net) = net
+box_step (Decl-F.TypeDecl name parts) = false
+box_step (Decl-F.SigDecl name sig) = false
+
+abbrev pub net_box_step : NetDecl-F Bool Bool → Bool
+net_box_step net = list_any (λ held. held) net.decls
+
+-- a box is declared somewhere in the declaration
+abbrev pub holds_box : Decl → Bool
+holds_box = fold-Decl Bool Bool box_step net_box_step
+
+abbrev pub net_holds_box : NetDecl → Bool
+net_holds_box = fold-NetDecl Bool Bool box_step net_box_step
+
+abbrev pub has_box : Program → Bool
+has_box program = list_any (λ held. held) (map holds_box program.decls)

@@ -1,0 +1,183 @@
+//! From a program to its claims.
+ghost use Rattle.std.specs.Prelude.{◌≡◌, ◌⊎◌, IfOk, IfErr, IfSome, All, false, [], Ok, Err, length};
+ghost use Rattle.sn_net.specs.WellFormed.{IsWellFormed};
+ghost use Rattle.sn_scope.specs.Claims.{IsClaim};
+ghost use Rattle.sn_scope.specs.Resolution.{fault_at, has_box, resolution, with_main};
+ghost use Rattle.sn_scope.specs.Trees.{claims_within, most_nodes, signature_at};
+ghost use Rattle.sn_scope.specs.declared.resolution.ScopeFault.TheVariants as cause;
+
+use crate::declarations::{Declarations, Pending};
+use crate::numbering::enter_decls;
+use crate::refusal::{Reason, Refusal};
+use crate::trees::tree;
+use sn_ast::Program;
+use sn_list::{Memory, Seq};
+use sn_names::{NameTable, Names};
+use sn_net::{Boxes, Claim, copy_sets};
+use sn_record::LabelSet;
+use std::alloc::Global;
+
+/// How many nodes one below another a tree may have.
+const MOST_LEVELS: u32 = 256;
+
+/// How many nodes all trees may have together.
+const MOST_NODES: usize = 65_536;
+
+/// Why a program is not resolved. A place is a byte offset in the source.
+#[derive(Clone, Copy, PartialEq, Eq, Debug)]
+pub enum ScopeFault {
+    /// A name that isn't visible or isn't of the kind wanted, or a label that its pattern doesn't have.
+    Unknown(u32),
+    /// A second declaration of a name in one scope, or a second equal label.
+    Twice(u32),
+    /// A number of templates, patterns or branches that is not allowed.
+    Arity(u32),
+    /// No outermost net `main` with a signature.
+    NoMain,
+    /// A tag of a guard that its exit pattern doesn't have.
+    GuardTag(u32),
+    /// The name of the first claim whose tree is too high, has too wide a face, or with which all trees have too many
+    /// nodes.
+    TooLarge(u32),
+    Memory,
+    /// The labels have more than 4,096 different names.
+    TooManyNames,
+}
+
+impl From<Memory> for ScopeFault {
+    ghost use Rattle.std.specs.Prelude.{◌≡◌};
+    ghost use Rattle.sn_scope.specs.declared.resolution.ScopeFault.{ScopeFault};
+
+    ghost from_gives = { λ _ e. e ≡ ScopeFault.Memory };
+
+    fn from(_: Memory) -> ScopeFault {
+        ScopeFault::Memory
+    }
+}
+
+/// A program in which each name is resolved.
+#[derive(Debug, Drop)]
+pub struct Resolved {
+    /// The names of the labels, numbered in the order of their first places.
+    pub names: Names,
+    pub boxes: Boxes,
+    /// One for each net with a signature, in the order of the places of the nets' names.
+    pub claims: Seq<Claim>,
+    /// The place in `claims` of that of the outermost net `main`.
+    pub main: usize,
+}
+
+fn fault_of(refusal: Refusal) -> ScopeFault
+    ensures { result ≡ fault_at refusal.reason refusal.at }
+{
+    match refusal.reason {
+        Reason::Unknown => ScopeFault::Unknown(refusal.at),
+        Reason::Twice => ScopeFault::Twice(refusal.at),
+        Reason::Arity => ScopeFault::Arity(refusal.at),
+        Reason::GuardTag => ScopeFault::GuardTag(refusal.at),
+    }
+}
+
+/// Copies of the types of a signature by its number, and no variants where there is none.
+fn types_of(
+    alloc: Global,
+    declarations: &Declarations,
+    number: usize,
+) -> Result<(Seq<LabelSet>, Seq<LabelSet>), Memory>
+    ensures input { IfOk result (λ types. types.0 ≡ (signature_at declarations.now number).input) }
+    ensures output { IfOk result (λ types. types.1 ≡ (signature_at declarations.now number).output) }
+{
+    if number >= declarations.signatures.len() {
+        return Ok((Seq::new(alloc), Seq::new(alloc)));
+    }
+    let signature = declarations.signatures.at(number);
+    let input = copy_sets(alloc, signature.input.as_slice())?;
+    let output = copy_sets(alloc, signature.output.as_slice())?;
+    Ok((input, output))
+}
+
+/// The claim with its tree, or nothing where that is too large. Room is taken for each node.
+fn claim(
+    alloc: Global,
+    declarations: &Declarations,
+    pending: Pending,
+    room: &mut usize,
+) -> Result<Option<Claim>, Memory>
+    ensures { IfOk result (IsClaim declarations.now pending room.old room.new) }
+{
+    let nets = declarations.nets.as_slice();
+    if pending.net >= nets.len() {
+        return Ok(None);
+    }
+    match tree(alloc, nets, &nets[pending.net], MOST_LEVELS, room)? {
+        Some(faced) => {
+            let (input, output) = types_of(alloc, declarations, pending.signature)?;
+            Ok(Some(Claim {
+                place: pending.place,
+                net: faced.net,
+                input,
+                output,
+            }))
+        }
+        None => Ok(None),
+    }
+}
+
+/// The claims with their trees, or the place of the first whose tree is too large.
+fn claims(alloc: Global, declarations: &Declarations) -> Result<Result<Seq<Claim>, u32>, Memory>
+    ensures { IfOk result (λ claims. claims_within declarations.now most_nodes declarations.now.claims ≡ claims) }
+{
+    let mut made = Seq::new(alloc);
+    let mut room = MOST_NODES;
+    for pending in declarations.claims.as_slice() {
+        let Some(claim) = claim(alloc, declarations, *pending, &mut room)? else {
+            return Ok(Err(pending.place));
+        };
+        sn_stack::append(&mut made, claim)?;
+    }
+    Ok(Ok(made))
+}
+
+/// What is left to decide where nothing is refused at a place.
+fn finish(alloc: Global, names: NameTable, declarations: &Declarations) -> Result<Resolved, ScopeFault>
+    ensures ok { IfOk result (λ resolved. with_main names declarations.now declarations.now.main ≡ Ok resolved) }
+    ensures refused { IfErr result (λ fault. (fault ≡ cause.Memory) ⊎ (with_main names declarations.now declarations.now.main ≡ Err fault)) }
+{
+    let Some(main) = declarations.main else {
+        return Err(ScopeFault::NoMain);
+    };
+    let Ok(names) = Names::from_table(names) else {
+        return Err(ScopeFault::TooManyNames);
+    };
+    let boxes = Seq::new(alloc);
+    match claims(alloc, declarations)? {
+        Ok(claims) => Ok(Resolved {
+            names,
+            boxes,
+            claims,
+            main,
+        }),
+        Err(place) => Err(ScopeFault::TooLarge(place)),
+    }
+}
+
+/// Resolves the names of a program without box declarations: labels are numbered, each name of a net in a network is
+/// replaced by a copy of that net's tree, and each net with a signature is a claim.
+///
+/// The refusal at the least place comes, and at one place the first of Unknown, Twice, Arity and GuardTag; where there
+/// is none, NoMain, then TooManyNames, then TooLarge. Trees are made for claims alone.
+pub fn resolve(alloc: Global, program: &Program) -> Result<Resolved, ScopeFault>
+    requires { has_box program.now ≡ false }
+    ensures ok { IfOk result (λ resolved. resolution program.now ≡ Ok resolved) }
+    ensures well_formed { IfOk result (λ resolved. All (λ claim. IsWellFormed resolved.boxes claim.net) resolved.claims) }
+    ensures refused { IfErr result (λ fault. (fault ≡ cause.Memory) ⊎ (resolution program.now ≡ Err fault)) }
+{
+    let mut names = NameTable::new(alloc);
+    enter_decls(&mut names, program.decls.as_slice())?;
+    let mut declarations = Declarations::new(alloc);
+    declarations.declarations(alloc, &names, program.decls.as_slice())?;
+    match declarations.refusals.least() {
+        Some(refusal) => Err(fault_of(refusal)),
+        None => finish(alloc, names, &declarations),
+    }
+}
