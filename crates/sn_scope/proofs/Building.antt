@@ -31,7 +31,7 @@ narrow_built (Some tree) old new None less =
 narrow_built defined old new (Some faced) made =
     let wide : nat_le (length faced.face) most_variants ≡ nat_le (length (face [] faced.net)) most_variants = ap (λ sets. nat_le (length sets) most_variants) made.beside in
     let whole : then_some defined narrow ≡ cond (nat_le (length faced.face) most_variants) (Some faced.net) None =
-      ap (λ d. then_some d narrow) made.same ∙ ap (λ b. cond b (Some faced.net) None) (sym wide) in
+    ap (λ d. then_some d narrow) made.same ∙ ap (λ b. cond b (Some faced.net) None) (sym wide) in
     elim (nat_le (length faced.face) most_variants) as (λ b. then_some defined narrow ≡ cond b (Some faced.net) None → IsBuilt (then_some defined narrow) old new (cond b (Some faced) None)) [
       | true ↦ λ is. record { same = is; beside = made.beside; room = made.room }
       | false ↦ λ is. subst (λ d. IfSome d (λ n. old < nodes n)) (sym is) tt
@@ -163,11 +163,11 @@ partly_more part networks rest next more old room left made faced partly is buil
     let names : map net_of (made ++ faced ∷ []) ≡ map net_of made ++ faced.net ∷ [] = map-append net_of made (faced ∷ []) in
     record {
       whole =
-        partly.whole
-        ∙ ap (λ r. option_map (λ nets. map net_of made ++ nets) (all_some (map part r))) is
-        ∙ ap (λ n. option_map (λ nets. map net_of made ++ nets) (then_some n (λ net. option_map (λ nets. net ∷ nets) (all_some (map part more))))) built.same
-        ∙ behind_more (map net_of made) faced.net (all_some (map part more))
-        ∙ ap (λ front. option_map (λ nets. front ++ nets) (all_some (map part more))) (sym names);
+          partly.whole
+          ∙ ap (λ r. option_map (λ nets. map net_of made ++ nets) (all_some (map part r))) is
+          ∙ ap (λ n. option_map (λ nets. map net_of made ++ nets) (then_some n (λ net. option_map (λ nets. net ∷ nets) (all_some (map part more))))) built.same
+          ∙ behind_more (map net_of made) faced.net (all_some (map part more))
+          ∙ ap (λ front. option_map (λ nets. front ++ nets) (all_some (map part more))) (sym names);
       beside = All-push (IsFaced []) made faced partly.beside built.beside;
       room_left = omega (arith, ap all_nodes names, nodes-both (map net_of made) (faced.net ∷ []), nodes-one faced.net, partly.room_left, built.room);
     }

@@ -75,5 +75,5 @@ main_formed names st sound (Some main) =
 pub all_formed : (program : Program) (names : List (List ℕ)) (st : Declarations) (r : Resolved) → st ≡ declarations_of names program → st.refusals ≡ None → with_main names st st.main ≡ Ok r → IsFormed r
 all_formed program names st r is_st none is =
     let sound : (number : ℕ) (tree : Net) → tree_of st.nets number ≡ Some tree → IsWellFormed [] tree =
-      λ number tree made. trees_are_sound names program number tree (ap (λ s. s.refusals) (sym is_st) ∙ none) (ap (λ s. tree_of s.nets number) (sym is_st) ∙ made) in
+    λ number tree made. trees_are_sound names program number tree (ap (λ s. s.refusals) (sym is_st) ∙ none) (ap (λ s. tree_of s.nets number) (sym is_st) ∙ made) in
     subst (λ x. IfOk x IsFormed) is (main_formed names st sound st.main)

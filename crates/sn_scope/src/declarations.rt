@@ -75,14 +75,29 @@ impl Declarations {
         match sig {
             Sig::Arrow { input, output } => {
                 let types = self.types.as_slice();
-                let input = type_at(alloc, names, &self.scopes, types, &mut self.refusals, input.as_slice())?;
-                let output = type_at(alloc, names, &self.scopes, types, &mut self.refusals, output.as_slice())?;
+                let input = type_at(
+                    alloc,
+                    names,
+                    &self.scopes,
+                    types,
+                    &mut self.refusals,
+                    input.as_slice(),
+                )?;
+                let output = type_at(
+                    alloc,
+                    names,
+                    &self.scopes,
+                    types,
+                    &mut self.refusals,
+                    output.as_slice(),
+                )?;
                 sn_stack::append(&mut self.signatures, Signature { input, output })?;
                 Ok(count)
             }
             Sig::Named(name) => {
                 let number = self.scopes.signature_of(name.text.as_slice());
-                self.refusals.require(number.is_some(), Reason::Unknown, name.at);
+                self.refusals
+                    .require(number.is_some(), Reason::Unknown, name.at);
                 Ok(number.unwrap_or(count))
             }
         }
@@ -182,7 +197,12 @@ impl Declarations {
         match decl {
             Decl::BoxDecl(_) => Ok(()),
             Decl::NetDecl(net) => self.net_declaration(alloc, names, net),
-            Decl::TypeDecl { name, parts } => self.type_declaration(alloc, names, name, parts.as_slice()),
+            Decl::TypeDecl { name, parts } => self.type_declaration(
+                alloc,
+                names,
+                name,
+                parts.as_slice(),
+            ),
             Decl::SigDecl { name, sig } => {
                 let number = self.signature(alloc, names, sig)?;
                 self.declare(name, Meaning::Signature(number))
@@ -214,7 +234,12 @@ impl Declarations {
 
     /// A net's inner declarations stand in a scope of their own, and its network sees them.
     #[cycle(after)]
-    fn net_declaration(&mut self, alloc: Global, names: &NameTable, net: &NetDecl) -> Result<(), Memory>
+    fn net_declaration(
+        &mut self,
+        alloc: Global,
+        names: &NameTable,
+        net: &NetDecl,
+    ) -> Result<(), Memory>
         ensures { OnOk result (self.new ≡ after_net names.now net.now self.old) }
     {
         let signature = self.net_signature(alloc, names, &net.sig)?;
@@ -228,7 +253,12 @@ impl Declarations {
 
     /// Each declaration sees those before it.
     #[cycle(after)]
-    pub fn declarations(&mut self, alloc: Global, names: &NameTable, decls: &[Decl]) -> Result<(), Memory>
+    pub fn declarations(
+        &mut self,
+        alloc: Global,
+        names: &NameTable,
+        decls: &[Decl],
+    ) -> Result<(), Memory>
         ensures { OnOk result (self.new ≡ all_after (each (after names.now) decls.now) self.old) }
     {
         for decl in decls {

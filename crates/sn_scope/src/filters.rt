@@ -39,7 +39,11 @@ fn require_source(names: &NameTable, refusals: &mut Refusals, pattern: &LabelSet
     match &item.source {
         ItemSource::Same => {
             let label = label_at(names, &item.target);
-            refusals.require(pattern.contains(label), Reason::Unknown, item.target.name.at);
+            refusals.require(
+                pattern.contains(label),
+                Reason::Unknown,
+                item.target.name.at,
+            );
         }
         ItemSource::Field(name) => {
             let label = Label {

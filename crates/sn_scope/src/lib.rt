@@ -1,6 +1,7 @@
 //! Scope: from a source's tree to the networks that its claims are about, in which each name is resolved.
 #![tactic(auto)]
 
+mod boxes;
 mod declarations;
 mod filters;
 mod labels;
@@ -14,4 +15,8 @@ mod trees;
 mod types;
 mod variants;
 
+pub use boxes::has_box;
 pub use resolution::{Resolved, ScopeFault, resolve};
+
+#[cfg(test)]
+mod tests;

@@ -134,20 +134,40 @@ pub fn network_at(
             refusals.require(is_between(2, 64, branches.len()), Reason::Arity, place);
             let branches = networks_at(alloc, names, scopes, refusals, branches.as_slice())?;
             let merge = merge_of(*det);
-            Ok(Network::Made(Component::Choice { place, merge, branches }))
+            Ok(Network::Made(Component::Choice {
+                place,
+                merge,
+                branches,
+            }))
         }
-        NetForm::Star { det, body, exit, guard } => {
+        NetForm::Star {
+            det,
+            body,
+            exit,
+            guard,
+        } => {
             let body = boxed_at(alloc, names, scopes, refusals, body.get())?;
             let exit = label_set(alloc, names, refusals, exit.labels.as_slice())?;
             let guard = guard_at(alloc, names, refusals, &exit, guard)?;
             let merge = merge_of(*det);
-            Ok(Network::Made(Component::Star { place, merge, body, exit, guard }))
+            Ok(Network::Made(Component::Star {
+                place,
+                merge,
+                body,
+                exit,
+                guard,
+            }))
         }
         NetForm::Split { det, body, tag } => {
             let body = boxed_at(alloc, names, scopes, refusals, body.get())?;
             let tag = names.number(tag.text.as_slice());
             let merge = merge_of(*det);
-            Ok(Network::Made(Component::Split { place, merge, body, tag }))
+            Ok(Network::Made(Component::Split {
+                place,
+                merge,
+                body,
+                tag,
+            }))
         }
     }
 }

@@ -3,7 +3,10 @@ ghost use Rattle.std.specs.Prelude.{◌≡◌, OnOk, map as each};
 ghost use Rattle.std.specs.List.{fold};
 ghost use Rattle.sn_scope.specs.Numbering.{after_decl, after_guard, after_item, after_label, after_labels, after_net, after_network, after_sig, after_tags, after_part, after_template, after_types, after_variant, all_after};
 
-use sn_ast::{Decl, ItemAt, ItemSource, LabelAt, NetDecl, NetExpr, NetForm, Sig, TExpr, TForm, TemplateAt, TypePart, Variant};
+use sn_ast::{
+    Decl, ItemAt, ItemSource, LabelAt, NetDecl, NetExpr, NetForm, Sig, TExpr, TForm, TemplateAt,
+    TypePart, Variant,
+};
 use sn_list::Memory;
 use sn_names::NameTable;
 
@@ -138,7 +141,10 @@ fn enter_network(names: &mut NameTable, network: &NetExpr) -> Result<(), Memory>
         NetForm::Serial { parts } => enter_networks(names, parts.as_slice()),
         NetForm::Choice { branches, .. } => enter_networks(names, branches.as_slice()),
         NetForm::Star {
-            body, exit, guard, ..
+            body,
+            exit,
+            guard,
+            ..
         } => {
             enter_network(names, body.get())?;
             enter_labels(names, exit.labels.as_slice())?;

@@ -139,7 +139,11 @@ fn claims(alloc: Global, declarations: &Declarations) -> Result<Result<Seq<Claim
 }
 
 /// What is left to decide where nothing is refused at a place.
-fn finish(alloc: Global, names: NameTable, declarations: &Declarations) -> Result<Resolved, ScopeFault>
+fn finish(
+    alloc: Global,
+    names: NameTable,
+    declarations: &Declarations,
+) -> Result<Resolved, ScopeFault>
     ensures ok { IfOk result (λ resolved. with_main names declarations.now declarations.now.main ≡ Ok resolved) }
     ensures refused { IfErr result (λ fault. (fault ≡ cause.Memory) ⊎ (with_main names declarations.now declarations.now.main ≡ Err fault)) }
 {

@@ -103,7 +103,8 @@ impl Variants {
 
 #[cfg(test)]
 mod tests {
-    use crate::{Memory, Variants};
+    use crate::variants::Variants;
+    use sn_list::Memory;
     use sn_record::{Kind, Label, LabelSet};
     use std::alloc::Global;
     use std::test::Fail;

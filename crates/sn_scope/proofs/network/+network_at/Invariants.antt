@@ -6,4 +6,4 @@ abbrev pub invariant-networks_at-loop-network : goal.invariant-networks_at-loop-
 invariant-networks_at-loop-network l =
     (l.made ≡ map (network_at l.names l.scopes) (take l.network-index l.networks))
     × (fold (λ least check. check least) l.refusals (map (network_required l.names l.scopes) (drop l.network-index l.networks))
-        ≡ fold (λ least check. check least) l.initial.refusals (map (network_required l.names l.scopes) l.networks))
+    ≡ fold (λ least check. check least) l.initial.refusals (map (network_required l.names l.scopes) l.networks))

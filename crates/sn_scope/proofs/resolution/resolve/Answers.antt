@@ -21,7 +21,7 @@ returns-in-None-clause-ok c =
     let st : c.declarations.new.self ≡ declarations_of c.enter_decls.new.names c.args.program.now = search rules in
     let none : c.declarations.new.self.refusals ≡ None = sym c.least.ensures ∙ c.in-None.is in
     let same : resolution c.args.program.now ≡ with_main c.enter_decls.new.names c.declarations.new.self c.declarations.new.self.main =
-      not_refused c.args.program.now c.enter_decls.new.names c.declarations.new.self names st none in
+    not_refused c.args.program.now c.enter_decls.new.names c.declarations.new.self names st none in
     subst (λ r. IfOk c.finish.result (λ resolved. r ≡ Ok resolved)) (sym same) c.finish.ensures.ok
 
 pub returns-in-None-clause-well_formed : goal.returns-in-None-clause-well_formed
@@ -38,5 +38,5 @@ returns-in-None-clause-refused c =
     let st : c.declarations.new.self ≡ declarations_of c.enter_decls.new.names c.args.program.now = search rules in
     let none : c.declarations.new.self.refusals ≡ None = sym c.least.ensures ∙ c.in-None.is in
     let same : resolution c.args.program.now ≡ with_main c.enter_decls.new.names c.declarations.new.self c.declarations.new.self.main =
-      not_refused c.args.program.now c.enter_decls.new.names c.declarations.new.self names st none in
+    not_refused c.args.program.now c.enter_decls.new.names c.declarations.new.self names st none in
     subst (λ r. IfErr c.finish.result (λ fault. (fault ≡ cause.Memory) ⊎ (r ≡ Err fault))) (sym same) c.finish.ensures.refused

@@ -25,8 +25,8 @@ node-returns-in_ok-choice-in-Choice t c =
     let faced = c.in_ok-choice-in-Choice.field-0 in
     let part = part_of c.args.levels c.args.nets.now in
     let made : AreMade (all_some (map part c.in-Choice.branches)) c.args.room.now c.trees.new.room c.in-Some.branches =
-      subst (λ b. AreBuilt (all_some (map part c.in-Choice.branches)) c.args.room.now c.trees.new.room b) c.in-Some.is
-      (subst (λ bs. AreBuilt (all_some (map part bs)) c.args.room.now c.trees.new.room c.in_ok-built-in-Choice.built) c.as_slice-in-Choice.ensures c.in_ok-built-in-Choice.ensures) in
+    subst (λ b. AreBuilt (all_some (map part c.in-Choice.branches)) c.args.room.now c.trees.new.room b) c.in-Some.is
+    (subst (λ bs. AreBuilt (all_some (map part bs)) c.args.room.now c.trees.new.room c.in_ok-built-in-Choice.built) c.as_slice-in-Choice.ensures c.in_ok-built-in-Choice.ensures) in
     subst (λ d. IsMade d (suc c.args.room.now) c.trees.new.room faced) (sym (ap (node_of c.args.levels c.args.nets.now) c.in-Choice.is ∙ node-Choice (part_of c.args.levels c.args.nets.now) (parts_of c.args.levels c.args.nets.now) c.in-Choice.place c.in-Choice.merge c.in-Choice.branches))
     (choice_built c.in-Choice.place c.in-Choice.merge _ c.args.room.now c.trees.new.room c.in-Some.branches faced made c.in_ok-choice-in-Choice.ensures.net (c.in_ok-choice-in-Choice.ensures.face [] made.beside))
 
@@ -35,21 +35,21 @@ node-returns-in_ok-star-in-Star t c =
     let faced = c.in_ok-star-in-Star.field-0 in
     let part = part_of c.args.levels c.args.nets.now in
     let made : IsMade (part c.in-Star.body) c.args.room.now c.part.new.room c.in-Some-built.body =
-      subst (λ b. IsBuilt (part c.in-Star.body) c.args.room.now c.part.new.room b) c.in-Some-built.is
-      (subst (λ body. IsBuilt (part body) c.args.room.now c.part.new.room c.in_ok-built-in-Star.built) c.get.ensures c.in_ok-built-in-Star.ensures) in
+    subst (λ b. IsBuilt (part c.in-Star.body) c.args.room.now c.part.new.room b) c.in-Some-built.is
+    (subst (λ body. IsBuilt (part body) c.args.room.now c.part.new.room c.in_ok-built-in-Star.built) c.get.ensures c.in_ok-built-in-Star.ensures) in
     subst (λ d. IsMade d (suc c.args.room.now) c.part.new.room faced) (sym (ap (node_of c.args.levels c.args.nets.now) c.in-Star.is ∙ node-Star (part_of c.args.levels c.args.nets.now) (parts_of c.args.levels c.args.nets.now) c.in-Star.place c.in-Star.merge c.in-Star.body c.in-Star.exit c.in-Star.guard))
     (star_built c.in-Star.place c.in-Star.merge c.in-Star.exit c.in-Star.guard _ c.args.room.now c.part.new.room c.in-Some-built.body faced made
-      (c.in_ok-star-in-Star.ensures.net ∙ ap (λ exit. net.Star c.in-Star.place c.in-Star.merge c.in-Some-built.body.net exit c.in_ok-guard-in-Star.guard) c.in_ok-exit-in-Star.ensures
-        ∙ ap (net.Star c.in-Star.place c.in-Star.merge c.in-Some-built.body.net c.in-Star.exit) c.in_ok-guard-in-Star.ensures)
-      (c.in_ok-star-in-Star.ensures.face [] made.beside))
+    (c.in_ok-star-in-Star.ensures.net ∙ ap (λ exit. net.Star c.in-Star.place c.in-Star.merge c.in-Some-built.body.net exit c.in_ok-guard-in-Star.guard) c.in_ok-exit-in-Star.ensures
+    ∙ ap (net.Star c.in-Star.place c.in-Star.merge c.in-Some-built.body.net c.in-Star.exit) c.in_ok-guard-in-Star.ensures)
+    (c.in_ok-star-in-Star.ensures.face [] made.beside))
 
 pub node-returns-in_ok-split-in-Split : goal.node-returns-in_ok-split-in-Split
 node-returns-in_ok-split-in-Split t c =
     let faced = c.in_ok-split-in-Split.field-0 in
     let part = part_of c.args.levels c.args.nets.now in
     let made : IsMade (part c.in-Split.body) c.args.room.now c.part-in-Split.new.room c.in-Some-built-2.body =
-      subst (λ b. IsBuilt (part c.in-Split.body) c.args.room.now c.part-in-Split.new.room b) c.in-Some-built-2.is
-      (subst (λ body. IsBuilt (part body) c.args.room.now c.part-in-Split.new.room c.in_ok-built-in-Split.built) c.get-in-Split.ensures c.in_ok-built-in-Split.ensures) in
+    subst (λ b. IsBuilt (part c.in-Split.body) c.args.room.now c.part-in-Split.new.room b) c.in-Some-built-2.is
+    (subst (λ body. IsBuilt (part body) c.args.room.now c.part-in-Split.new.room c.in_ok-built-in-Split.built) c.get-in-Split.ensures c.in_ok-built-in-Split.ensures) in
     subst (λ d. IsMade d (suc c.args.room.now) c.part-in-Split.new.room faced) (sym (ap (node_of c.args.levels c.args.nets.now) c.in-Split.is ∙ node-Split (part_of c.args.levels c.args.nets.now) (parts_of c.args.levels c.args.nets.now) c.in-Split.place c.in-Split.merge c.in-Split.body c.in-Split.tag))
     (split_built c.in-Split.place c.in-Split.merge c.in-Split.tag _ c.args.room.now c.part-in-Split.new.room c.in-Some-built-2.body faced made c.in_ok-split-in-Split.ensures.net (c.in_ok-split-in-Split.ensures.face [] made.beside))
 
@@ -72,8 +72,8 @@ series-returns t c =
     let left : IsMade (part_of levels nets c.index-parts-0.result) c.args.room.now c.part.new.room c.in-Some.left = subst (λ b. IsBuilt (part_of levels nets c.index-parts-0.result) c.args.room.now c.part.new.room b) c.in-Some.is c.in_ok-left.ensures in
     let whole : take (length parts - 1) (drop 1 parts) ≡ drop 1 parts = take_all (length parts - 1) (drop 1 parts) (omega (arith, length-drop 1 parts)) in
     let right : IsMade (rest_of levels nets (drop 1 parts)) c.part.new.room c.rest.new.room c.in-Some-2.right =
-      subst (λ b. IsBuilt (rest_of levels nets (drop 1 parts)) c.part.new.room c.rest.new.room b) c.in-Some-2.is
-      (subst (λ ps. IsBuilt (rest_of levels nets ps) c.part.new.room c.rest.new.room c.in_ok-right.field-0) whole c.in_ok-right.ensures) in
+    subst (λ b. IsBuilt (rest_of levels nets (drop 1 parts)) c.part.new.room c.rest.new.room b) c.in-Some-2.is
+    (subst (λ ps. IsBuilt (rest_of levels nets ps) c.part.new.room c.rest.new.room c.in_ok-right.field-0) whole c.in_ok-right.ensures) in
     subst (λ d. IsMade d (suc c.args.room.now) c.rest.new.room c.in_ok-serial.field-0) (sym (series-rest levels nets parts c.index-parts-0.result two c.index-parts-0.is))
     (serial_built _ _ c.args.room.now c.part.new.room c.rest.new.room c.in-Some.left c.in-Some-2.right c.in_ok-serial.field-0 left right c.in_ok-serial.ensures.net (c.in_ok-serial.ensures.face [] left.beside))
 
@@ -87,7 +87,7 @@ pub series_tree-returns : goal.series_tree-returns
 series_tree-returns t c =
     let more : 0 < c.args.levels = omega (arith, c.if-levels-eq0.false) in
     let made : IsBuilt (node_of (c.args.levels - 1) c.args.nets.now (component.Serial c.args.parts.now)) (suc c.take_room.new.room) c.series.new.room c.in_ok-built.built =
-      subst (λ d. IsBuilt d (suc c.take_room.new.room) c.series.new.room c.in_ok-built.built) (sym (node-Serial (part_of (c.args.levels - 1) c.args.nets.now) (parts_of (c.args.levels - 1) c.args.nets.now) c.args.parts.now)) c.in_ok-built.ensures in
+    subst (λ d. IsBuilt d (suc c.take_room.new.room) c.series.new.room c.in_ok-built.built) (sym (node-Serial (part_of (c.args.levels - 1) c.args.nets.now) (parts_of (c.args.levels - 1) c.args.nets.now) c.args.parts.now)) c.in_ok-built.ensures in
     subst (IsBuilt _ c.args.room.now c.series.new.room) (sym c.narrow.ensures)
     (tree_built c.args.levels c.args.nets.now (component.Serial c.args.parts.now) c.args.room.now c.take_room.new.room c.series.new.room c.in_ok-built.built more (c.take_room.ensures.taken c.if-not-take_room.false) made)
 

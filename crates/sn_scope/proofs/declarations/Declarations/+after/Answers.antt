@@ -10,5 +10,5 @@ net_declaration-returns t c =
     let inner : c.declarations.new.self ≡ all_after (map (after c.args.names.now) c.args.net.now.decls) (within c.net_signature.new.self) = search rules in
     on_ok_weaker c.declare.result
     (λ declared. net_after c.args.names.now c.args.net.now c.args.self.now c.net_signature.new.self c.declarations.new.self c.end.new.self c.claim.new.self c.declare.new.self c.in_ok-signature.signature c.in_ok-number.number
-      c.in_ok-signature.ensures.declared c.in_ok-signature.ensures.number inner c.in_ok-number.ensures.declared c.in_ok-number.ensures.number (search rules) declared)
+    c.in_ok-signature.ensures.declared c.in_ok-signature.ensures.number inner c.in_ok-number.ensures.declared c.in_ok-number.ensures.number (search rules) declared)
     c.declare.ensures
