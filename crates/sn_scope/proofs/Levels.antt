@@ -1,5 +1,5 @@
 -- One level of a tree, form by form.
-use Rattle.std.proofs.Common.{◌≡◌, ℕ, suc, ◌+◌, ◌<◌, ◌≤◌, List, [], ◌∷◌, length, drop, get_or, map, slice_get, Option, Some, None, option_map, refl, sym, ap, ◌∙◌, arith}
+use Rattle.std.proofs.Common.{◌≡◌, ℕ, ◌<◌, ◌≤◌, List, [], ◌∷◌, length, drop, get_or, map, slice_get, Option, Some, None, option_map, sym, ap, ◌∙◌, arith}
 use Rattle.std.proofs.lemmas.Option.{slice_get_past, slice_get-get_or}
 use Rattle.sn_record.specs.LabelSet.{Labels}
 use Rattle.sn_tagexpr.specs.declared.expr.TagExpr.{TagExpr}

@@ -1,5 +1,5 @@
 -- What a net's declaration adds, step by step.
-use Rattle.std.proofs.Common.{◌≡◌, ℕ, List, map, Option, refl, sym, ap, ◌∙◌}
+use Rattle.std.proofs.Common.{◌≡◌, ℕ, List, map, Option, sym, ap, ◌∙◌}
 use Rattle.sn_ast.specs.declared.declaration.NetDecl.{NetDecl, fold-roll-NetDecl}
 use Rattle.sn_scope.specs.Declarations.{Change, after, after_net, all_after, decl_step, ended, net_number, net_signature, net_step, with_claim, with_meaning, with_net_signature, within}
 use Rattle.sn_scope.specs.declared.declarations.Declarations.{Declarations}

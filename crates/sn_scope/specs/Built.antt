@@ -1,5 +1,5 @@
 -- What is built of the trees of claims, and the room that it takes.
-use Rattle.std.specs.Prelude.{◌≡◌, ℕ, suc, ◌+◌, ◌<◌, nat_le, if◌then◌else◌, List, [], ◌∷◌, length, map, sum, All, Option, Some, None, IfSome}
+use Rattle.std.specs.Prelude.{◌≡◌, ℕ, ◌+◌, ◌<◌, nat_le, if◌then◌else◌, List, [], ◌∷◌, length, map, sum, All, Option, Some, None, IfSome}
 use Rattle.sn_net.specs.Faced.{IsFaced, net_of}
 use Rattle.sn_net.specs.Net.{nodes}
 use Rattle.sn_net.specs.declared.faced.Faced.{Faced}

@@ -1,7 +1,6 @@
 -- What a source declares: its types, signatures and nets, the names that stand for them, and its claims.
-use Rattle.std.specs.Prelude.{ℕ, Bool, true, false, ◌&&◌, if◌then◌else◌, List, [], ◌∷◌, ◌++◌, length, map as each, codes, Option, Some, None, is_some, unwrap_or, not}
+use Rattle.std.specs.Prelude.{ℕ, ◌&&◌, if◌then◌else◌, List, [], ◌∷◌, ◌++◌, length, map as each, codes, Option, Some, None, is_some, unwrap_or, not}
 use Rattle.std.specs.List.{fold}
-use Rattle.std.specs.Option.{option_map}
 use Rattle.std.specs.Str.{bytes_eq}
 use Rattle.sn_ast.specs.declared.declaration.Decl.{Decl, fold-Decl}
 use Rattle.sn_ast.specs.declared.declaration.Decl.TheOpen.{Decl-F}

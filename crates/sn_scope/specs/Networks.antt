@@ -1,5 +1,5 @@
 -- Networks in which each name of a net is the number of its declaration.
-use Rattle.std.specs.Prelude.{ℕ, Bool, true, false, List, [], ◌∷◌, length, map as each, Option, Some, None, is_some}
+use Rattle.std.specs.Prelude.{ℕ, Bool, true, false, List, length, map as each, Option, Some, None, is_some}
 use Rattle.std.specs.List.{fold}
 use Rattle.std.specs.Option.{option_map}
 use Rattle.sn_ast.specs.declared.network.NetExpr.{NetExpr, fold-NetExpr}
@@ -11,11 +11,10 @@ use Rattle.sn_names.specs.Names.{number_in}
 use Rattle.sn_net.specs.declared.net.Merge.{Merge}
 use Rattle.sn_net.specs.declared.net.Merge.TheVariants.{Free, Det}
 use Rattle.sn_scope.specs.Filters.{filter_at, filter_required, identity_at, is_between}
-use Rattle.sn_scope.specs.Labels.{labels_at, variant_at, variant_required}
+use Rattle.sn_scope.specs.Labels.{variant_at, variant_required}
 use Rattle.sn_scope.specs.Refusals.{required}
 use Rattle.sn_scope.specs.Scopes.{net_of}
 use Rattle.sn_scope.specs.Tags.{Check, tag_expr, tags_required}
-use Rattle.sn_scope.specs.declared.network.Component.{Component}
 use Rattle.sn_scope.specs.declared.network.Component.TheVariants.{Filter, Sync, Serial, Choice, Star, Split}
 use Rattle.sn_scope.specs.declared.network.Network.{Network}
 use Rattle.sn_scope.specs.declared.network.Network.TheVariants.{Named, Made}

@@ -1,5 +1,5 @@
 -- The names of the labels of a source, entered one after another in the order in which they stand.
-use Rattle.std.specs.Prelude.{ℕ, List, [], ◌∷◌, map as each, Option, Some, None}
+use Rattle.std.specs.Prelude.{ℕ, List, [], map as each, Option, Some, None}
 use Rattle.std.specs.List.{fold}
 use Rattle.sn_ast.specs.declared.declaration.Decl.{Decl, fold-Decl}
 use Rattle.sn_ast.specs.declared.declaration.Decl.TheOpen.{Decl-F}

@@ -1,5 +1,5 @@
 -- Which declaration a name stands for.
-use Rattle.std.specs.Prelude.{ℕ, Bool, true, false, List, [], ◌∷◌, ◌++◌, ◌-◌, length, take, get_or, slice_get, ◌==◌, if◌then◌else◌, Option, Some, None}
+use Rattle.std.specs.Prelude.{ℕ, Bool, List, [], ◌∷◌, ◌++◌, ◌-◌, length, take, get_or, slice_get, ◌==◌, if◌then◌else◌, Option, Some, None}
 use Rattle.std.specs.List.{fold}
 use Rattle.sn_names.specs.Names.{is_held, entered, number_in}
 use Rattle.sn_scope.specs.declared.scopes.Meaning.{Meaning}

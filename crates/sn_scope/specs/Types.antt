@@ -1,5 +1,5 @@
 -- Types and signatures, with each name of a type replaced by its variants.
-use Rattle.std.specs.Prelude.{ℕ, List, [], ◌∷◌, ◌++◌, length, get_or, Option, Some, None, is_some}
+use Rattle.std.specs.Prelude.{ℕ, List, [], get_or, Option, Some, None, is_some}
 use Rattle.std.specs.List.{fold}
 use Rattle.sn_ast.specs.declared.label.TypePart.{TypePart}
 use Rattle.sn_ast.specs.declared.label.TypePart.TheVariants.{Set, Named}

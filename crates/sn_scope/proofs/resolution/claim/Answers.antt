@@ -1,4 +1,4 @@
-use Rattle.std.proofs.Common.{rules, ◌≡◌, ℕ, ◌<◌, length, get_or, Option, Some, None, sym, ap, ◌∙◌, subst, arith}
+use Rattle.std.proofs.Common.{◌≡◌, ◌<◌, length, None, sym, ap, ◌∙◌, subst, arith}
 use Rattle.sn_scope.specs.Built.{IsBuilt, IsMade}
 use Rattle.sn_scope.specs.Trees.{fitting, most_levels, tree, tree_of}
 use Rattle.sn_scope.proofs.Fitting.{fit, tree_at, unfit}

@@ -1,4 +1,4 @@
-use Rattle.std.proofs.Common.{rules, ◌≡◌, ℕ, ◌+◌, ◌∷◌, drop, get_or, None, Err, sym, ap, ◌∙◌, subst}
+use Rattle.std.proofs.Common.{rules, ◌≡◌, ◌+◌, drop, get_or, None, sym, ap, ◌∙◌, subst}
 use Rattle.std.proofs.lemmas.List.{drop_more}
 use Rattle.sn_scope.specs.Claims.{IsClaim, IsFitted}
 use Rattle.sn_scope.specs.Trees.{claims_within, fitting, led_by, most_nodes, tree_of}

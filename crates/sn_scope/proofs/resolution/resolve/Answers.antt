@@ -1,4 +1,4 @@
-use Rattle.std.proofs.Common.{rules, ◌≡◌, ◌⊎◌, ℕ, List, Option, Some, None, Ok, Err, IfOk, IfErr, All, sym, ap, ◌∙◌, subst}
+use Rattle.std.proofs.Common.{rules, ◌≡◌, ◌⊎◌, None, Ok, Err, IfOk, IfErr, All, sym, ap, ◌∙◌, subst}
 use Rattle.std.proofs.lemmas.Result.{IfOk-weaker}
 use Rattle.sn_net.specs.WellFormed.{IsWellFormed}
 use mathlib.Core.Logic.{inr}

@@ -1,10 +1,10 @@
-use Rattle.std.proofs.Common.{◌≡◌, ℕ, suc, ◌+◌, ◌-◌, ◌<◌, ◌≤◌, List, [], ◌∷◌, length, drop, take, map, Option, None, Some, IfOk, rules, refl, sym, ap, ◌∙◌, subst, arith}
+use Rattle.std.proofs.Common.{◌≡◌, suc, ◌+◌, ◌-◌, ◌<◌, ◌≤◌, [], ◌∷◌, length, drop, take, map, None, IfOk, rules, sym, ap, ◌∙◌, subst, arith}
 use Rattle.std.proofs.lemmas.List.{drop_more, length-drop, take_all}
 use Rattle.sn_net.specs.declared.net.Net.TheVariants as net
-use Rattle.sn_scope.specs.Built.{AreBuilt, AreMade, IsBuilt, IsMade, node_of, part_of, parts_of, rest_of, series_of}
+use Rattle.sn_scope.specs.Built.{AreBuilt, AreMade, IsBuilt, IsMade, node_of, part_of, parts_of, rest_of}
 use Rattle.sn_scope.specs.Trees.{all_some}
 use Rattle.sn_scope.specs.declared.network.Component.TheVariants as component
-use Rattle.sn_scope.proofs.Building.{choice_built, drop_past, filter_built, partly_begun, partly_done, partly_more, partly_unbuilt, serial_built, split_built, star_built, sync_built, tree_built}
+use Rattle.sn_scope.proofs.Building.{choice_built, drop_past, filter_built, partly_done, partly_unbuilt, serial_built, split_built, star_built, sync_built, tree_built}
 use Rattle.sn_scope.proofs.Levels.{node-Choice, node-Filter, node-Serial, node-Split, node-Star, node-Sync, part-Named, part-past, series-rest}
 use Rattle.sn_scope.proofs.trees.+tree.Goals as goal
 

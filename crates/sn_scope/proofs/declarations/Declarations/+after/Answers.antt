@@ -1,4 +1,4 @@
-use Rattle.std.proofs.Common.{◌≡◌, rules, ap, sym, ◌∙◌, map}
+use Rattle.std.proofs.Common.{◌≡◌, rules, map}
 use Rattle.std.proofs.lemmas.Result.{on_ok_weaker}
 use Rattle.sn_scope.specs.Declarations.{after, all_after, within}
 use Rattle.sn_scope.proofs.Nets.{net_after}
