@@ -1,6 +1,7 @@
 -- From what was declared to what a program is resolved to.
-use Rattle.std.proofs.Common.{◌≡◌, ℕ, ◌-◌, nat_le, true, false, cond, List, [], ◌∷◌, length, All, Option, Some, None, Result, Ok, Err, IfOk, refl, sym, ap, subst, ◌∙◌}
+use Rattle.std.proofs.Common.{◌≡◌, ℕ, ◌-◌, ◌<◌, nat_le, nat_lt, true, false, cond, List, [], ◌∷◌, length, All, Option, Some, None, Result, Ok, Err, IfOk, refl, sym, ap, subst, ◌∙◌, arith}
 use Rattle.std.proofs.lemmas.List.Elements.{All-nil, All-cons}
+use Rattle.std.proofs.lemmas.Bool.Decides.{nat_tests}
 use Rattle.sn_ast.specs.declared.declaration.Program.{Program}
 use Rattle.sn_net.specs.Net.{nodes}
 use Rattle.sn_net.specs.WellFormed.{IsWellFormed}
@@ -60,7 +61,11 @@ abbrev IsFormed : Resolved → Type 0
 IsFormed r = All (λ claim. IsWellFormed r.boxes claim.net) r.claims
 
 resolved_formed : (names : List (List ℕ)) (main : ℕ) (claims : Result (List Claim) ℕ) → AllFormed claims → IfOk (resolved names main claims) IsFormed
-resolved_formed names main (Ok claims) formed = formed
+resolved_formed names main (Ok claims) formed =
+    elim (nat_lt main (length claims)) as (λ b. IfOk (cond b (Ok (record { names = names; boxes = []; claims = claims; main = main })) (Err cause.NoMain)) IsFormed) [
+      | true ↦ formed
+      | false ↦ tt
+    ]
 resolved_formed names main (Err place) formed = tt
 
 main_formed : (names : List (List ℕ)) (st : Declarations) → ((number : ℕ) (tree : Net) → tree_of st.nets number ≡ Some tree → IsWellFormed [] tree) → (main : Option ℕ) → IfOk (with_main names st main) IsFormed
@@ -77,3 +82,26 @@ all_formed program names st r is_st none is =
     let sound : (number : ℕ) (tree : Net) → tree_of st.nets number ≡ Some tree → IsWellFormed [] tree =
     λ number tree made. trees_are_sound names program number tree (ap (λ s. s.refusals) (sym is_st) ∙ none) (ap (λ s. tree_of s.nets number) (sym is_st) ∙ made) in
     subst (λ x. IfOk x IsFormed) is (main_formed names st sound st.main)
+
+abbrev HasMain : Resolved → Type 0
+HasMain r = r.main < length r.claims
+
+resolved_main : (names : List (List ℕ)) (main : ℕ) (claims : Result (List Claim) ℕ) → IfOk (resolved names main claims) HasMain
+resolved_main names main (Ok claims) =
+    elim (nat_lt main (length claims)) as (λ b. nat_lt main (length claims) ≡ b → IfOk (cond b (Ok (record { names = names; boxes = []; claims = claims; main = main })) (Err cause.NoMain)) HasMain) [
+      | true ↦ λ below. grind (arith, nat_tests, below)
+      | false ↦ λ _. tt
+    ] refl
+resolved_main names main (Err place) = tt
+
+main_within : (names : List (List ℕ)) (st : Declarations) (main : Option ℕ) → IfOk (with_main names st main) HasMain
+main_within names st None = tt
+main_within names st (Some main) =
+    elim (nat_le (length names) most_names) as (λ b. IfOk (cond b (resolved names main (claims_within st most_nodes st.claims)) (Err cause.TooManyNames)) HasMain) [
+      | true ↦ resolved_main names main (claims_within st most_nodes st.claims)
+      | false ↦ tt
+    ]
+
+-- the program's claim is one of the claims
+pub has_main : (names : List (List ℕ)) (st : Declarations) (r : Resolved) → with_main names st st.main ≡ Ok r → HasMain r
+has_main names st r is = subst (λ x. IfOk x HasMain) is (main_within names st st.main)

@@ -1,5 +1,5 @@
 -- What a program is resolved to, or which refusal comes.
-use Rattle.std.specs.Prelude.{ℕ, Bool, true, false, nat_le, if◌then◌else◌, List, [], length, map, Option, Some, None, Result, Ok, Err}
+use Rattle.std.specs.Prelude.{ℕ, Bool, true, false, nat_le, nat_lt, if◌then◌else◌, List, [], length, map, Option, Some, None, Result, Ok, Err}
 use Rattle.std.specs.List.{list_any}
 use Rattle.sn_ast.specs.declared.declaration.Decl.{Decl, fold-Decl}
 use Rattle.sn_ast.specs.declared.declaration.Decl.TheOpen.{Decl-F}
@@ -27,9 +27,9 @@ fault_at reason.Twice at = Twice at
 fault_at reason.Arity at = Arity at
 fault_at reason.GuardTag at = GuardTag at
 
--- the claims with their trees, or that one is too large
+-- the claims with their trees, one of which is the program's, or that one is too large
 abbrev pub resolved : List (List ℕ) → ℕ → Result (List Claim) ℕ → Result Resolved ScopeFault
-resolved names main (Ok claims) = Ok (record { names = names; boxes = []; claims = claims; main = main })
+resolved names main (Ok claims) = if nat_lt main (length claims) then Ok (record { names = names; boxes = []; claims = claims; main = main }) else Err NoMain
 resolved names main (Err place) = Err (TooLarge place)
 
 -- one of the outermost nets is the program's, or there is none

@@ -1,5 +1,5 @@
 //! From a program to its claims.
-ghost use Rattle.std.specs.Prelude.{◌≡◌, ◌⊎◌, IfOk, IfErr, IfSome, All, false, [], Ok, Err, length};
+ghost use Rattle.std.specs.Prelude.{◌≡◌, ◌<◌, ◌⊎◌, IfOk, IfErr, IfSome, All, false, [], Ok, Err, length};
 ghost use Rattle.sn_net.specs.WellFormed.{IsWellFormed};
 ghost use Rattle.sn_scope.specs.Claims.{IsClaim};
 ghost use Rattle.sn_scope.specs.Resolution.{fault_at, has_box, resolution, with_main};
@@ -155,12 +155,14 @@ fn finish(
     };
     let boxes = Seq::new(alloc);
     match claims(alloc, declarations)? {
-        Ok(claims) => Ok(Resolved {
+        Ok(claims) if main < claims.len() => Ok(Resolved {
             names,
             boxes,
             claims,
             main,
         }),
+        // A claim's place among the claims is noted as the claim is, so there is one.
+        Ok(_) => Err(ScopeFault::NoMain),
         Err(place) => Err(ScopeFault::TooLarge(place)),
     }
 }
@@ -173,6 +175,7 @@ fn finish(
 pub fn resolve(alloc: Global, program: &Program) -> Result<Resolved, ScopeFault>
     requires { has_box program.now ≡ false }
     ensures ok { IfOk result (λ resolved. resolution program.now ≡ Ok resolved) }
+    ensures main { IfOk result (λ resolved. resolved.main < length resolved.claims) }
     ensures well_formed { IfOk result (λ resolved. All (λ claim. IsWellFormed resolved.boxes claim.net) resolved.claims) }
     ensures refused { IfErr result (λ fault. (fault ≡ cause.Memory) ⊎ (resolution program.now ≡ Err fault)) }
 {

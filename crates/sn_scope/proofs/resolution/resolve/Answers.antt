@@ -1,4 +1,4 @@
-use Rattle.std.proofs.Common.{rules, ◌≡◌, ◌⊎◌, None, Ok, Err, IfOk, IfErr, All, sym, ap, ◌∙◌, subst}
+use Rattle.std.proofs.Common.{◌<◌, length, rules, ◌≡◌, ◌⊎◌, None, Ok, Err, IfOk, IfErr, All, sym, ap, ◌∙◌, subst}
 use Rattle.std.proofs.lemmas.Result.{IfOk-weaker}
 use Rattle.sn_net.specs.WellFormed.{IsWellFormed}
 use mathlib.Core.Logic.{inr}
@@ -6,7 +6,7 @@ use Rattle.sn_scope.specs.Declarations.{declarations_of}
 use Rattle.sn_scope.specs.Numbering.{names_of}
 use Rattle.sn_scope.specs.Resolution.{resolution, with_main}
 use Rattle.sn_scope.specs.declared.resolution.ScopeFault.TheVariants as cause
-use Rattle.sn_scope.proofs.Resolving.{all_formed, not_refused, refused_at}
+use Rattle.sn_scope.proofs.Resolving.{all_formed, has_main, not_refused, refused_at}
 use Rattle.sn_scope.proofs.resolution.resolve.Goals as goal
 
 pub returns-in-Some-clause-refused : goal.returns-in-Some-clause-refused
@@ -31,6 +31,11 @@ returns-in-None-clause-well_formed c =
     let none : c.declarations.new.self.refusals ≡ None = sym c.least.ensures ∙ c.in-None.is in
     IfOk-weaker c.finish.result (λ r. with_main c.enter_decls.new.names c.declarations.new.self c.declarations.new.self.main ≡ Ok r) (λ r. All (λ claim. IsWellFormed r.boxes claim.net) r.claims)
     (λ r is. all_formed c.args.program.now c.enter_decls.new.names c.declarations.new.self r st none is) c.finish.ensures.ok
+
+pub returns-in-None-clause-main : goal.returns-in-None-clause-main
+returns-in-None-clause-main c =
+    IfOk-weaker c.finish.result (λ r. with_main c.enter_decls.new.names c.declarations.new.self c.declarations.new.self.main ≡ Ok r) (λ r. r.main < length r.claims)
+    (λ r is. has_main c.enter_decls.new.names c.declarations.new.self r is) c.finish.ensures.ok
 
 pub returns-in-None-clause-refused : goal.returns-in-None-clause-refused
 returns-in-None-clause-refused c =
