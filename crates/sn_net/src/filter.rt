@@ -1,4 +1,6 @@
 ghost use Rattle.std.specs.Prelude.{◌≡◌, ◌≢◌, IfOk, IsTrue, ◌↔◌, All};
+ghost use Rattle.std.specs.List.{list_all};
+ghost use Rattle.sn_net.specs.Net.{is_plain_filter};
 ghost use Rattle.sn_net.specs.Filter.{field, tag, target, source, is_from, is_over, is_plain, IsClosedTemplate, IsClosed};
 
 use crate::list::append;
@@ -167,7 +169,33 @@ impl Template {
     }
 }
 
+impl Template {
+    /// Whether no part computes.
+    fn is_plain(&self) -> bool
+        ensures { result ≡ list_all is_plain self.now.parts }
+    {
+        for part in self.parts.as_slice() {
+            if !part.is_plain() {
+                return false;
+            }
+        }
+        true
+    }
+}
+
 impl Filter {
+    /// Whether it sets each label at a value that the record has, and computes none.
+    pub fn is_plain(&self) -> bool
+        ensures { result ≡ is_plain_filter self.now }
+    {
+        for template in self.templates.as_slice() {
+            if !template.is_plain() {
+                return false;
+            }
+        }
+        true
+    }
+
     /// Whether each template takes its values from the pattern alone, and sets no label twice.
     pub fn is_closed(&self) -> bool
         ensures { IsTrue result ↔ IsClosed self.now }
