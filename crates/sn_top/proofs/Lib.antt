@@ -2,12 +2,9 @@ pub mod Joined
 pub mod Plain
 pub mod Labels
 pub mod Lines
-pub mod NamesLaws
-pub mod Sources
 pub mod Entries
 pub mod Inputs
 pub mod Entering
-pub mod Building
 pub mod Loading
 pub mod Printing
 pub mod Serving

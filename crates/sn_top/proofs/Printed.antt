@@ -12,7 +12,7 @@ use Rattle.sn_parser.specs.declared.parsing.ParseFault.TheVariants as parse_faul
 use Rattle.sn_top.specs.declared.serve.TheConstants.{SOURCE_LIMIT}
 use Rattle.sn_top.specs.declared.status.Which.TheVariants.{Source, Input}
 use Rattle.sn_top.specs.declared.status.Refusal.{Refusal}
-use Rattle.sn_top.specs.declared.status.Refusal.TheVariants.{TooLarge, Source as SourceAt, TooDeep, NotBuilt}
+use Rattle.sn_top.specs.declared.status.Refusal.TheVariants.{TooLarge, Source as SourceAt, NoMain, TooDeep, LargeTree, TooManyNames, NotBuilt}
 use Rattle.sn_top.specs.declared.status.Stop.{Stop}
 use Rattle.sn_top.specs.declared.status.Stop.TheVariants.{Refused, Unread, Memory, Write}
 use Rattle.sn_top.specs.Answer.{FindsText, WhyUnprinted}
@@ -38,6 +38,9 @@ module _ (source : File) (out : Sink) where
   text_unread same (Refused (TooLarge Input)) why = cc
   text_unread same (Refused (SourceAt fault at)) why = absurd why
   text_unread same (Refused (TooDeep at)) why = absurd why
+  text_unread same (Refused NoMain) why = absurd why
+  text_unread same (Refused (LargeTree at)) why = absurd why
+  text_unread same (Refused TooManyNames) why = absurd why
   text_unread same (Refused NotBuilt) why = absurd why
   text_unread same (Unread Source) why = (why.1, same)
   text_unread same (Unread Input) why = cc
@@ -52,6 +55,9 @@ module _ (source : File) (out : Sink) where
     no_text same (Refused (TooLarge which)) why = absurd why
     no_text same (Refused (SourceAt fault at)) why = (of_told source.told bytes (Found (Err (SourceAt fault at))) read.told (read.within, why), same)
     no_text same (Refused (TooDeep at)) why = (of_told source.told bytes (Found (Err (TooDeep at))) read.told (read.within, why), same)
+    no_text same (Refused NoMain) why = absurd why
+    no_text same (Refused (LargeTree at)) why = absurd why
+    no_text same (Refused TooManyNames) why = absurd why
     no_text same (Refused NotBuilt) why = absurd why
     no_text same (Unread which) why = absurd why
     no_text same Memory why = inl same

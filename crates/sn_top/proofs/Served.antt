@@ -6,7 +6,7 @@ use Rattle.sn_io.proofs.Told.{appended_none}
 use Rattle.sn_top.specs.declared.words.Command.{Command}
 use Rattle.sn_top.specs.declared.status.Status.{Status}
 use Rattle.sn_top.specs.declared.status.Status.TheVariants as status
-use Rattle.sn_top.specs.declared.status.Refusal.TheVariants.{TooLarge, Source as SourceAt, TooDeep, NotBuilt}
+use Rattle.sn_top.specs.declared.status.Refusal.TheVariants.{TooLarge, Source as SourceAt, NoMain, TooDeep, LargeTree, TooManyNames, NotBuilt}
 use Rattle.sn_top.specs.declared.status.Stop.{Stop}
 use Rattle.sn_top.specs.declared.status.Stop.TheVariants.{Refused, Unread, Memory, Write}
 use Rattle.sn_top.specs.Status.{stop_status, stop_line}
@@ -34,7 +34,10 @@ module _ (command : Command) (outside : Outside) where
   pub unread : (why : Stop) → Stopped why → Told why → stop_status why ≡ status.Read → HasUnread command outside
   unread (Refused (TooLarge which)) stopped line is = cc
   unread (Refused (SourceAt fault at)) stopped line is = cc
+  unread (Refused NoMain) stopped line is = cc
   unread (Refused (TooDeep at)) stopped line is = cc
+  unread (Refused (LargeTree at)) stopped line is = cc
+  unread (Refused TooManyNames) stopped line is = cc
   unread (Refused NotBuilt) stopped line is = cc
   unread (Unread which) stopped line is = record { which = which; why = stopped.0; out_same = stopped.1; err_got = line }
   unread Memory stopped line is = cc
@@ -43,7 +46,10 @@ module _ (command : Command) (outside : Outside) where
   pub cut_short : (why : Stop) → Stopped why → Told why → stop_status why ≡ status.Memory → IsCutShort command outside
   cut_short (Refused (TooLarge which)) stopped line is = cc
   cut_short (Refused (SourceAt fault at)) stopped line is = cc
+  cut_short (Refused NoMain) stopped line is = cc
   cut_short (Refused (TooDeep at)) stopped line is = cc
+  cut_short (Refused (LargeTree at)) stopped line is = cc
+  cut_short (Refused TooManyNames) stopped line is = cc
   cut_short (Refused NotBuilt) stopped line is = cc
   cut_short (Unread which) stopped line is = cc
   cut_short Memory stopped line is = record { out_got = stopped; err_got = line }
@@ -52,7 +58,10 @@ module _ (command : Command) (outside : Outside) where
   pub unwritten : (why : Stop) → Stopped why → Told why → stop_status why ≡ status.Write → IsUnwritten command outside
   unwritten (Refused (TooLarge which)) stopped line is = cc
   unwritten (Refused (SourceAt fault at)) stopped line is = cc
+  unwritten (Refused NoMain) stopped line is = cc
   unwritten (Refused (TooDeep at)) stopped line is = cc
+  unwritten (Refused (LargeTree at)) stopped line is = cc
+  unwritten (Refused TooManyNames) stopped line is = cc
   unwritten (Refused NotBuilt) stopped line is = cc
   unwritten (Unread which) stopped line is = cc
   unwritten Memory stopped line is = cc

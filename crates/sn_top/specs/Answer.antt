@@ -3,14 +3,13 @@ use Rattle.std.specs.Prelude.{◌≡◌, ◌⊎◌, ◌≤◌, ◌<◌, ℕ, Lis
 use Rattle.sn_io.specs.Told.{appended, AppendsPrefix}
 use Rattle.sn_top.specs.declared.words.Command.{Command}
 use Rattle.sn_top.specs.declared.words.Command.TheVariants.{Once, Print}
-use Rattle.sn_top.specs.declared.written.WrittenSource.{WrittenSource}
 use Rattle.sn_top.specs.declared.written.WrittenLine.{WrittenLine}
 use Rattle.sn_top.specs.declared.status.Status.{Status}
 use Rattle.sn_top.specs.declared.status.Status.TheVariants as status
 use Rattle.sn_top.specs.declared.status.Which.{Which}
 use Rattle.sn_top.specs.declared.status.Which.TheVariants.{Source, Input}
 use Rattle.sn_top.specs.declared.status.Refusal.{Refusal}
-use Rattle.sn_top.specs.declared.status.Refusal.TheVariants.{TooLarge, Source as SourceAt, TooDeep, NotBuilt}
+use Rattle.sn_top.specs.declared.status.Refusal.TheVariants.{TooLarge, Source as SourceAt, NoMain, TooDeep, LargeTree, TooManyNames, NotBuilt}
 use Rattle.sn_top.specs.declared.status.Stop.{Stop}
 use Rattle.sn_top.specs.declared.status.Stop.TheVariants as stop
 use Rattle.sn_top.specs.declared.print.PrintFault.{PrintFault}
@@ -20,41 +19,53 @@ use Rattle.sn_top.specs.Source.{FindsSource}
 use Rattle.sn_top.specs.Status.{refusal_status, stop_line}
 use Rattle.sn_top.specs.Words.{usage_text, source_of, input_of}
 use Rattle.sn_top.specs.Seen.{Sink, File, seen_sink, seen_file, SinkFailed, FileFailed, GotLine}
-use Rattle.sn_top.specs.Meaning.{names_of, network_of, with_lines, stream_of, printed, IsSmallSource, IsRouted}
+use Rattle.sn_top.specs.Load.{HasManyNames, HasNoRoute}
+use Rattle.sn_top.specs.Meaning.{with_lines, stream_of, printed, IsRouted}
+use Rattle.sn_top.specs.Scope.{IsChain, WhyNoProgram}
+use Rattle.sn_top.specs.declared.load.Program.{Program}
 
--- the bytes are those of a small source, within the limit
-pub record IsAccepted (bytes : List ℕ) (s : WrittenSource) : Type 0 where
+-- the source is within the limit, and its main network is a chain of filters that compute nothing
+pub record IsAccepted (bytes : List ℕ) (program : Program) : Type 0 where
   pub within : length bytes ≤ SOURCE_LIMIT
-  pub small : IsSmallSource bytes s
+  pub chain : IsChain bytes program
 
--- the source prints p for an input of these bytes, which is within the limit and of the small form
-pub record Prints (s : WrittenSource) (bytes p : List ℕ) : Type 0 where
+-- the program prints p for an input of these bytes, which is within the limit and of the small form
+pub record Prints (program : Program) (bytes p : List ℕ) : Type 0 where
   pub within : length bytes ≤ INPUT_LIMIT
   pub lines : List WrittenLine
-  pub routed : IsRouted (names_of s) (network_of s) bytes lines
-  pub printed_is : p ≡ printed (with_lines (names_of s) lines) (stream_of (names_of s) (network_of s) lines)
+  pub routed : IsRouted program.names program.net bytes lines
+  pub printed_is : p ≡ printed (with_lines program.names lines) (stream_of program.names program.net lines)
 
--- the input is within the limit, but not of the small form, or a record of it finds no route
-pub record HasNoRoute (s : WrittenSource) (bytes : List ℕ) : Type 0 where
-  pub within : length bytes ≤ INPUT_LIMIT
-  pub none : (lines : List WrittenLine) → IsRouted (names_of s) (network_of s) bytes lines → ⊥
+-- the source is within the limit, and refused
+abbrev pub IsRefusedSource : Refusal → List ℕ → Type 0
+IsRefusedSource refusal bytes = (length bytes ≤ SOURCE_LIMIT) × WhyNoProgram bytes refusal
+
+-- the source is accepted, and the input is within the limit and refused
+abbrev pub IsRefusedInput : Option (List ℕ) → (Program → List ℕ → Type 0) → List ℕ → Type 0
+IsRefusedInput input Why bytes = (program : Program) × IsAccepted bytes program × IfSome input (λ more. (length more ≤ INPUT_LIMIT) × Why program more)
 
 -- what the checks and the run find of a source and an input, where their bytes are told; the checks come in the order:
 -- the source's file, the source, the input's file, the input, the run
 abbrev pub Finds : Option (List ℕ) → Option (List ℕ) → Result (List ℕ) Refusal → Type 0
 Finds source input (Err (TooLarge Source)) = IfSome source (λ bytes. SOURCE_LIMIT < length bytes)
-Finds source input (Err (SourceAt fault at)) = ⊥
-Finds source input (Err (TooDeep at)) = ⊥
-Finds source input (Err NotBuilt) = IfSome source (λ bytes. (length bytes ≤ SOURCE_LIMIT) × ((s : WrittenSource) → IsSmallSource bytes s → IfSome input (HasNoRoute s)))
-Finds source input (Err (TooLarge Input)) = IfSome source (λ bytes. (s : WrittenSource) × IsAccepted bytes s × IfSome input (λ more. INPUT_LIMIT < length more))
-Finds source input (Ok p) = IfSome source (λ bytes. (s : WrittenSource) × IsAccepted bytes s × IfSome input (λ more. Prints s more p))
+Finds source input (Err (SourceAt fault at)) = IfSome source (IsRefusedSource (SourceAt fault at))
+Finds source input (Err NoMain) = IfSome source (IsRefusedSource NoMain)
+Finds source input (Err (TooDeep at)) = IfSome source (IsRefusedSource (TooDeep at))
+Finds source input (Err (LargeTree at)) = IfSome source (IsRefusedSource (LargeTree at))
+Finds source input (Err TooManyNames) = IfSome source (λ bytes. IsRefusedSource TooManyNames bytes ⊎ IsRefusedInput input (λ program. HasManyNames program.names) bytes)
+Finds source input (Err NotBuilt) = IfSome source (λ bytes. IsRefusedSource NotBuilt bytes ⊎ IsRefusedInput input HasNoRoute bytes)
+Finds source input (Err (TooLarge Input)) = IfSome source (λ bytes. (program : Program) × IsAccepted bytes program × IfSome input (λ more. INPUT_LIMIT < length more))
+Finds source input (Ok p) = IfSome source (λ bytes. (program : Program) × IsAccepted bytes program × IfSome input (λ more. Prints program more p))
 
 -- the same of a source alone, which is within the limit where more than its size is found
 abbrev pub FindsText : Option (List ℕ) → Result (List ℕ) Refusal → Type 0
 FindsText source (Err (TooLarge Source)) = IfSome source (λ bytes. SOURCE_LIMIT < length bytes)
 FindsText source (Err (TooLarge Input)) = ⊥
 FindsText source (Err (SourceAt fault at)) = IfSome source (λ bytes. (length bytes ≤ SOURCE_LIMIT) × FindsSource bytes (Err (SourceAt fault at)))
+FindsText source (Err NoMain) = ⊥
 FindsText source (Err (TooDeep at)) = IfSome source (λ bytes. (length bytes ≤ SOURCE_LIMIT) × FindsSource bytes (Err (TooDeep at)))
+FindsText source (Err (LargeTree at)) = ⊥
+FindsText source (Err TooManyNames) = ⊥
 FindsText source (Err NotBuilt) = ⊥
 FindsText source (Ok text) = IfSome source (λ bytes. (length bytes ≤ SOURCE_LIMIT) × FindsSource bytes (Ok text))
 
@@ -100,7 +111,7 @@ pub record IsAnswered (command : Command) (outside : Outside) (s : Status) : Typ
 -- the count of that file's faults rose, and no check before its read refuses
 abbrev pub IsUnread : Which → File → File → Type 0
 IsUnread Source source input = FileFailed source
-IsUnread Input source input = FileFailed input × IfSome source.told (λ bytes. (s : WrittenSource) × IsAccepted bytes s)
+IsUnread Input source input = FileFailed input × IfSome source.told (λ bytes. (program : Program) × IsAccepted bytes program)
 
 abbrev pub IsSourceUnread : Which → File → Type 0
 IsSourceUnread Source source = FileFailed source

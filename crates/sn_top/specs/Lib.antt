@@ -1,6 +1,6 @@
 pub mod Reading
 pub mod Small
-pub mod Names
+pub mod Entering
 pub mod Lines
 pub mod Status
 pub mod Seen
@@ -11,3 +11,4 @@ pub mod Meaning
 pub mod Load
 pub mod Source
 pub mod Answer
+pub mod Scope

@@ -14,7 +14,7 @@ use Rattle.sn_record.specs.declared.value.Value.{Value, fold-Value}
 use Rattle.sn_record.specs.declared.value.Value.TheOpen.{Value-F}
 use Rattle.sn_record.specs.Label.{kind_rank}
 use Rattle.sn_record.specs.Record.{Entries}
-use Rattle.sn_top.specs.Names.{name_at}
+use Rattle.sn_names.specs.Names.{name_at}
 
 -- texts with a separator between any two
 abbrev pub joined : List ℕ → List (List ℕ) → List ℕ

@@ -1,38 +1,23 @@
--- What a small source does to a small input, and what is printed of it.
+-- What a source does to an input of the small form, and what is printed of it.
 use Rattle.std.specs.Prelude.{◌≡◌, ◌≤◌, ℕ, false, List, [], ◌∷◌, ◌++◌, length, map, All}
 use Rattle.std.specs.List.{flat_map}
 use Rattle.sn_net.specs.declared.net.Net.{Net}
 use Rattle.sn_net.specs.Meaning.{ModelItem, Rec, Fault, Stuck, holds_stuck, one}
-use Rattle.sn_top.specs.declared.written.WrittenSource.{WrittenSource}
 use Rattle.sn_top.specs.declared.written.WrittenLine.{WrittenLine}
-use Rattle.sn_top.specs.Names.{all_entered}
-use Rattle.sn_top.specs.Small.{SpellsSource}
+use Rattle.sn_names.specs.Names.{all_entered}
+use Rattle.sn_top.specs.Entering.{most_names}
 use Rattle.sn_top.specs.Lines.{SpellsInput}
-use Rattle.sn_top.specs.Numbered.{source_names, line_names, record_of, net_of, IsDistinctLine, IsBuildable}
+use Rattle.sn_top.specs.Numbered.{line_names, record_of, IsDistinctLine}
 use Rattle.sn_top.specs.Line.{line}
 
--- the names of a source
-abbrev pub names_of : WrittenSource → List (List ℕ)
-names_of s = all_entered [] (source_names s)
-
--- those names, and those of an input
+-- the names of a source, and those of an input
 abbrev pub with_lines : List (List ℕ) → List WrittenLine → List (List ℕ)
 with_lines names ls = all_entered names (flat_map line_names ls)
-
--- the bytes are a source of the small grammar
-pub record IsSmallSource (bytes : List ℕ) (s : WrittenSource) : Type 0 where
-  pub written : SpellsSource bytes s
-  pub few : length (names_of s) ≤ 256
-  pub built : IsBuildable (names_of s) s
-
--- the network of a source
-abbrev pub network_of : WrittenSource → Net
-network_of s = net_of (names_of s) s.filters
 
 -- the bytes are an input of the small form, for a source with these names
 pub record IsSmallInput (names : List (List ℕ)) (bytes : List ℕ) (ls : List WrittenLine) : Type 0 where
   pub written : SpellsInput bytes ls
-  pub few : length (with_lines names ls) ≤ 256
+  pub few : length (with_lines names ls) ≤ most_names
   pub distinct : All (IsDistinctLine (with_lines names ls)) ls
 
 -- the records of an input, as items that flow

@@ -5,7 +5,7 @@ use Rattle.sn_io.specs.Told.{appended, AppendsPrefix}
 use Rattle.sn_top.specs.declared.status.Which.{Which}
 use Rattle.sn_top.specs.declared.status.Stop.{Stop}
 use Rattle.sn_top.specs.declared.status.Stop.TheVariants as stop
-use Rattle.sn_top.specs.declared.status.Refusal.TheVariants.{TooLarge, Source as SourceAt, TooDeep, NotBuilt}
+use Rattle.sn_top.specs.declared.status.Refusal.TheVariants.{TooLarge, Source as SourceAt, NoMain, TooDeep, LargeTree, TooManyNames, NotBuilt}
 
 -- a sink: what it holds, where it is told, and its count of faults
 pub record Sink : Type 0 where
@@ -41,7 +41,10 @@ GotLine sink line = (sink.now ≡ appended sink.before line) ⊎ (SinkFailed sin
 abbrev pub WhyUnread : Which → ℕ → File → Stop → Type 0
 WhyUnread which limit file (stop.Refused (TooLarge w)) = (w ≡ which) × IfSome file.told (λ bytes. limit < length bytes)
 WhyUnread which limit file (stop.Refused (SourceAt fault at)) = ⊥
+WhyUnread which limit file (stop.Refused NoMain) = ⊥
 WhyUnread which limit file (stop.Refused (TooDeep at)) = ⊥
+WhyUnread which limit file (stop.Refused (LargeTree at)) = ⊥
+WhyUnread which limit file (stop.Refused TooManyNames) = ⊥
 WhyUnread which limit file (stop.Refused NotBuilt) = ⊥
 WhyUnread which limit file (stop.Unread w) = (w ≡ which) × FileFailed file
 WhyUnread which limit file stop.Memory = Unit {0}

@@ -10,9 +10,9 @@ use Rattle.sn_parser.specs.declared.parsing.ParseFault.{ParseFault}
 use Rattle.sn_parser.specs.declared.parsing.ParseFault.TheVariants as parse_fault
 use Rattle.sn_print.specs.Declarations.{program_text}
 use Rattle.sn_top.specs.declared.status.Refusal.{Refusal}
-use Rattle.sn_top.specs.declared.status.Refusal.TheVariants.{TooLarge, Source as SourceAt, TooDeep, NotBuilt}
+use Rattle.sn_top.specs.declared.status.Refusal.TheVariants.{TooLarge, Source as SourceAt, NoMain, TooDeep, LargeTree, TooManyNames, NotBuilt}
 use Rattle.sn_top.specs.declared.status.SourceFault.{SourceFault}
-use Rattle.sn_top.specs.declared.status.SourceFault.TheVariants.{BadUtf8, BadChar, NumberTooWide, TextOpen, Unexpected}
+use Rattle.sn_top.specs.declared.status.SourceFault.TheVariants.{BadUtf8, BadChar, NumberTooWide, TextOpen, Unexpected, Unknown, Twice, Arity, GuardTag}
 use Rattle.sn_top.specs.declared.status.Stop.{Stop}
 use Rattle.sn_top.specs.declared.status.Stop.TheVariants as stop
 
@@ -34,20 +34,27 @@ pub record IsRefused (bytes : List ℕ) (fault : ParseFault) : Type 0 where
   pub lexed : LexesAs bytes tokens
   pub faults : Faults bytes tokens fault
 
--- what is wrong in the source, and where
+-- what is wrong in the source as it is read, and where; whether names are resolved is not asked
 abbrev pub IsWrong : List ℕ → SourceFault → ℕ → Type 0
 IsWrong bytes BadUtf8 at = IsFault bytes (lex_fault.BadUtf8 at)
 IsWrong bytes BadChar at = IsFault bytes (lex_fault.BadChar at)
 IsWrong bytes NumberTooWide at = IsFault bytes (lex_fault.NumberTooWide at)
 IsWrong bytes TextOpen at = IsFault bytes (lex_fault.TextOpen at)
 IsWrong bytes Unexpected at = IsRefused bytes (parse_fault.Unexpected at)
+IsWrong bytes Unknown at = ⊥
+IsWrong bytes Twice at = ⊥
+IsWrong bytes Arity at = ⊥
+IsWrong bytes GuardTag at = ⊥
 
 -- what the source is found to be
 abbrev pub FindsSource : List ℕ → Result (List ℕ) Refusal → Type 0
 FindsSource bytes (Ok text) = HasText bytes text
 FindsSource bytes (Err (TooLarge which)) = ⊥
 FindsSource bytes (Err (SourceAt fault at)) = IsWrong bytes fault at
+FindsSource bytes (Err NoMain) = ⊥
 FindsSource bytes (Err (TooDeep at)) = IsRefused bytes (parse_fault.TooDeep at)
+FindsSource bytes (Err (LargeTree at)) = ⊥
+FindsSource bytes (Err TooManyNames) = ⊥
 FindsSource bytes (Err NotBuilt) = ⊥
 
 -- why there is no text

@@ -1,16 +1,14 @@
 -- Statuses, and the lines on `err`.
 use Rattle.std.specs.Prelude.{ℕ, List, [], ◌++◌, codes}
 use Rattle.std.specs.Fmt.{decimal}
-use Rattle.sn_top.specs.declared.reading.ReadFault.{ReadFault}
-use Rattle.sn_top.specs.declared.reading.ReadFault.TheVariants as fault
 use Rattle.sn_top.specs.declared.status.Status.{Status}
 use Rattle.sn_top.specs.declared.status.Status.TheVariants as status
 use Rattle.sn_top.specs.declared.status.Which.{Which}
 use Rattle.sn_top.specs.declared.status.Which.TheVariants.{Source, Input}
 use Rattle.sn_top.specs.declared.status.Refusal.{Refusal}
-use Rattle.sn_top.specs.declared.status.Refusal.TheVariants.{TooLarge, Source as SourceAt, TooDeep, NotBuilt}
+use Rattle.sn_top.specs.declared.status.Refusal.TheVariants.{TooLarge, Source as SourceAt, NoMain, TooDeep, LargeTree, TooManyNames, NotBuilt}
 use Rattle.sn_top.specs.declared.status.SourceFault.{SourceFault}
-use Rattle.sn_top.specs.declared.status.SourceFault.TheVariants.{BadUtf8, BadChar, NumberTooWide, TextOpen, Unexpected}
+use Rattle.sn_top.specs.declared.status.SourceFault.TheVariants.{BadUtf8, BadChar, NumberTooWide, TextOpen, Unexpected, Unknown, Twice, Arity, GuardTag}
 use Rattle.sn_top.specs.declared.status.Stop.{Stop}
 use Rattle.sn_top.specs.declared.status.Stop.TheVariants as stop
 
@@ -25,14 +23,13 @@ status_code status.TooLarge = 10
 status_code status.Limit = 11
 status_code status.NotBuilt = 12
 
-abbrev pub fault_stop : ReadFault → Stop
-fault_stop fault.NotBuilt = stop.Refused NotBuilt
-fault_stop fault.Memory = stop.Memory
-
 abbrev pub refusal_status : Refusal → Status
 refusal_status (TooLarge which) = status.TooLarge
 refusal_status (SourceAt fault at) = status.Source
+refusal_status NoMain = status.Source
 refusal_status (TooDeep at) = status.Limit
+refusal_status (LargeTree at) = status.Limit
+refusal_status TooManyNames = status.Limit
 refusal_status NotBuilt = status.NotBuilt
 
 abbrev pub stop_status : Stop → Status
@@ -51,11 +48,18 @@ fault_label BadChar = codes "source: BadChar at "
 fault_label NumberTooWide = codes "source: NumberTooWide at "
 fault_label TextOpen = codes "source: TextOpen at "
 fault_label Unexpected = codes "source: Unexpected at "
+fault_label Unknown = codes "source: Unknown at "
+fault_label Twice = codes "source: Twice at "
+fault_label Arity = codes "source: Arity at "
+fault_label GuardTag = codes "source: GuardTag at "
 
 abbrev pub refusal_label : Refusal → List ℕ
 refusal_label (TooLarge which) = codes "too large: "
 refusal_label (SourceAt fault at) = fault_label fault
+refusal_label NoMain = codes "source: NoMain"
 refusal_label (TooDeep at) = codes "limit: TooDeep at "
+refusal_label (LargeTree at) = codes "limit: TooLarge at "
+refusal_label TooManyNames = codes "limit: Names"
 refusal_label NotBuilt = codes "not built"
 
 abbrev pub stop_label : Stop → List ℕ
@@ -67,7 +71,10 @@ stop_label stop.Write = codes "write"
 abbrev pub refusal_name : Refusal → List ℕ → List ℕ → List ℕ
 refusal_name (TooLarge which) source input = name_of which source input
 refusal_name (SourceAt fault at) source input = decimal at
+refusal_name NoMain source input = []
 refusal_name (TooDeep at) source input = decimal at
+refusal_name (LargeTree at) source input = decimal at
+refusal_name TooManyNames source input = []
 refusal_name NotBuilt source input = []
 
 abbrev pub stop_name : Stop → List ℕ → List ℕ → List ℕ
@@ -80,7 +87,10 @@ stop_name stop.Write source input = []
 abbrev pub refusal_place : Refusal → ℕ
 refusal_place (TooLarge which) = 0
 refusal_place (SourceAt fault at) = at
+refusal_place NoMain = 0
 refusal_place (TooDeep at) = at
+refusal_place (LargeTree at) = at
+refusal_place TooManyNames = 0
 refusal_place NotBuilt = 0
 
 abbrev pub stop_place : Stop → ℕ

@@ -1,58 +1,36 @@
-//! The network and the records that a small source and a small input stand for.
-ghost use Rattle.std.specs.Prelude.{◌≡◌, IsTrue, map, All, IfOk};
-ghost use Rattle.sn_net.specs.Net.{IsClosedChain};
-ghost use Rattle.sn_top.specs.Numbered.{label_of as number_label, set_entries, set_of as number_set, part_of as number_part, template_of as number_template, filter_of as number_filter, net_of, line_entries, record_of as number_record, are_distinct, IsDistinctLine, IsBuildable, IsBuildableFilter, IsBuildableChain, Builds};
+//! The records that an input of the small form stands for.
+ghost use Rattle.std.specs.Prelude.{◌≡◌, IsTrue, map, All};
+ghost use Rattle.sn_names.specs.Names.{number_in};
+ghost use Rattle.sn_top.specs.Numbered.{label_of as number_label, line_entries, record_of as number_record, are_distinct, IsDistinctLine, Builds};
 
-use crate::names::SmallNames;
 use crate::reading::{ReadFault, push};
-use crate::written::{
-    WrittenFilter, WrittenLabel, WrittenLine, WrittenPart, WrittenSource, WrittenTemplate,
-};
-use sn_list::{Boxed, Memory, Seq};
-use sn_net::{Filter, Net, Part, Template};
-use sn_record::{Label, LabelSet, Record, Value};
+use crate::written::{WrittenLabel, WrittenLine};
+use sn_list::Seq;
+use sn_names::Names;
+use sn_record::{Label, Record, Value};
 use std::alloc::Global;
 
-fn label_of(names: &SmallNames, label: &WrittenLabel) -> Label
+/// The number of a name, or the count of names where it has none.
+fn number_of(names: &Names, name: &[u8]) -> u32
+    ensures { result ≡ number_in names.now name.now }
+{
+    match names.find(name) {
+        Some(number) => number,
+        None => names.count(),
+    }
+}
+
+fn label_of(names: &Names, label: &WrittenLabel) -> Label
     ensures { result ≡ number_label names.now label.now }
 {
     Label {
         kind: label.kind,
-        id: names.place_of(label.name.as_slice()),
-    }
-}
-
-/// A set, in which no label may stand twice.
-pub fn set_of(
-    alloc: Global,
-    names: &SmallNames,
-    labels: &[WrittenLabel],
-) -> Result<LabelSet, ReadFault>
-    ensures { Builds (IsTrue (are_distinct (set_entries names.now labels.now))) (number_set names.now labels.now) result }
-{
-    let mut set = LabelSet::new(alloc);
-    for label in labels {
-        if !set.insert(label_of(names, label))? {
-            return Err(ReadFault::NotBuilt);
-        }
-    }
-    Ok(set)
-}
-
-pub fn part_of(names: &SmallNames, part: &WrittenPart) -> Part
-    ensures { result ≡ number_part names.now part.now }
-{
-    match part {
-        WrittenPart::Copy(label) => Part::Copy(label_of(names, label)),
-        WrittenPart::Rename { new, old } => Part::Rename(
-            names.place_of(new.as_slice()),
-            names.place_of(old.as_slice()),
-        ),
+        id: number_of(names, label.name.as_slice()),
     }
 }
 
 /// The record of a line, in which no label may stand twice.
-fn record_of(alloc: Global, names: &SmallNames, line: &WrittenLine) -> Result<Record, ReadFault>
+fn record_of(alloc: Global, names: &Names, line: &WrittenLine) -> Result<Record, ReadFault>
     ensures { Builds (IsTrue (are_distinct (line_entries names.now line.now))) (number_record names.now line.now) result }
 {
     let mut made = Record::new(alloc);
@@ -69,7 +47,7 @@ fn record_of(alloc: Global, names: &SmallNames, line: &WrittenLine) -> Result<Re
 /// The records of the lines.
 pub fn records_of(
     alloc: Global,
-    names: &SmallNames,
+    names: &Names,
     lines: &[WrittenLine],
 ) -> Result<Seq<Record>, ReadFault>
     ensures { Builds (All (IsDistinctLine names.now) lines.now) (map (number_record names.now) lines.now) result }
@@ -79,90 +57,4 @@ pub fn records_of(
         push(&mut records, record_of(alloc, names, line)?)?;
     }
     Ok(records)
-}
-
-fn template_of(
-    alloc: Global,
-    names: &SmallNames,
-    template: &WrittenTemplate,
-) -> Result<Template, Memory>
-    ensures { IfOk result (λ t. t ≡ number_template names.now template.now) }
-{
-    let mut parts = Seq::new(alloc);
-    for part in template.parts.as_slice() {
-        push(&mut parts, part_of(names, part))?;
-    }
-    Ok(Template { parts })
-}
-
-fn templates_of(
-    alloc: Global,
-    names: &SmallNames,
-    templates: &[WrittenTemplate],
-) -> Result<Seq<Template>, Memory>
-    ensures { IfOk result (λ ts. ts ≡ map (number_template names.now) templates.now) }
-{
-    let mut made = Seq::new(alloc);
-    for template in templates {
-        push(&mut made, template_of(alloc, names, template)?)?;
-    }
-    Ok(made)
-}
-
-/// The most filters of a source, and the most templates of a filter.
-const MOST: usize = 16;
-
-fn filter_of(alloc: Global, names: &SmallNames, filter: &WrittenFilter) -> Result<Filter, ReadFault>
-    ensures { Builds (IsBuildableFilter names.now filter.now) (number_filter names.now filter.now) result }
-{
-    if filter.templates.is_empty() || filter.templates.len() > MOST {
-        return Err(ReadFault::NotBuilt);
-    }
-    let built = Filter {
-        place: 0,
-        pattern: set_of(alloc, names, filter.pattern.as_slice())?,
-        templates: templates_of(alloc, names, filter.templates.as_slice())?,
-    };
-    if built.is_closed() {
-        Ok(built)
-    } else {
-        Err(ReadFault::NotBuilt)
-    }
-}
-
-/// The filters in series, grouped to the right. It calls itself for each filter.
-fn chain_of(alloc: Global, names: &SmallNames, filters: &[WrittenFilter]) -> Result<Net, ReadFault>
-    ensures chain { Builds (IsBuildableChain names.now filters.now) (net_of names.now filters.now) result }
-    ensures closed { IfOk result IsClosedChain }
-{
-    match filters {
-        [] => Err(ReadFault::NotBuilt),
-        [last] => {
-            let filter = filter_of(alloc, names, last)?;
-            Ok(Net::Filter(filter))
-        }
-        [first, rest @ ..] => {
-            let filter = filter_of(alloc, names, first)?;
-            let left = Boxed::new(alloc, Net::Filter(filter))?;
-            let right = Boxed::new(alloc, chain_of(alloc, names, rest)?)?;
-            Ok(Net::Serial { left, right })
-        }
-    }
-}
-
-/// The network of a source.
-pub fn network_of(
-    alloc: Global,
-    names: &SmallNames,
-    source: &WrittenSource,
-) -> Result<Net, ReadFault>
-    ensures network { Builds (IsBuildable names.now source.now) (net_of names.now source.now.filters) result }
-    ensures closed { IfOk result IsClosedChain }
-{
-    set_of(alloc, names, source.input.as_slice())?;
-    set_of(alloc, names, source.output.as_slice())?;
-    if source.filters.len() > MOST {
-        return Err(ReadFault::NotBuilt);
-    }
-    chain_of(alloc, names, source.filters.as_slice())
 }

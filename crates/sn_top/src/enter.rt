@@ -1,24 +1,21 @@
-//! Enters the names that stand in a small source and a small input.
+//! Enters the names that stand in an input of the small form.
 ghost use Rattle.std.specs.Prelude.{◌∷◌, [], List, ℕ};
 ghost use Rattle.std.specs.List.{flat_map};
-ghost use Rattle.sn_top.specs.Names.{Enters};
+ghost use Rattle.sn_top.specs.Entering.{Enters};
 
-use crate::names::{NamesFault, SmallNames};
-use crate::written::{
-    WrittenEntry, WrittenFilter, WrittenLabel, WrittenLine, WrittenPart, WrittenSource,
-    WrittenTemplate,
-};
+use crate::written::{WrittenEntry, WrittenLabel, WrittenLine};
+use sn_names::{Names, NamesFault};
 
 /// What has names in it, in an order.
 pub trait Named {
     ghost names_in: { Self → List (List ℕ) };
 
-    fn enter(&self, names: &mut SmallNames) -> Result<(), NamesFault>
+    fn enter(&self, names: &mut Names) -> Result<(), NamesFault>
         ensures { Enters (names_in self.now) names.old names.new result };
 }
 
 /// Enters the names of each in turn.
-pub fn enter_all<X: Named>(items: &[X], names: &mut SmallNames) -> Result<(), NamesFault>
+pub fn enter_all<X: Named>(items: &[X], names: &mut Names) -> Result<(), NamesFault>
     ensures { Enters (flat_map X.names_in items.now) names.old names.new result }
 {
     for item in items {
@@ -27,7 +24,7 @@ pub fn enter_all<X: Named>(items: &[X], names: &mut SmallNames) -> Result<(), Na
     Ok(())
 }
 
-fn enter_name(name: &[u8], names: &mut SmallNames) -> Result<(), NamesFault>
+fn enter_name(name: &[u8], names: &mut Names) -> Result<(), NamesFault>
     ensures { Enters (name.now ∷ []) names.old names.new result }
 {
     names.number_of(name)?;
@@ -39,57 +36,8 @@ impl Named for WrittenLabel {
 
     ghost names_in = { label_names };
 
-    fn enter(&self, names: &mut SmallNames) -> Result<(), NamesFault> {
+    fn enter(&self, names: &mut Names) -> Result<(), NamesFault> {
         enter_name(self.name.as_slice(), names)
-    }
-}
-
-impl Named for WrittenPart {
-    ghost use Rattle.sn_top.specs.Numbered.{part_names};
-
-    ghost names_in = { part_names };
-
-    fn enter(&self, names: &mut SmallNames) -> Result<(), NamesFault> {
-        match self {
-            WrittenPart::Copy(label) => label.enter(names),
-            WrittenPart::Rename { new, old } => {
-                enter_name(new.as_slice(), names)?;
-                enter_name(old.as_slice(), names)
-            }
-        }
-    }
-}
-
-impl Named for WrittenTemplate {
-    ghost use Rattle.sn_top.specs.Numbered.{template_names};
-
-    ghost names_in = { template_names };
-
-    fn enter(&self, names: &mut SmallNames) -> Result<(), NamesFault> {
-        enter_all(self.parts.as_slice(), names)
-    }
-}
-
-impl Named for WrittenFilter {
-    ghost use Rattle.sn_top.specs.Numbered.{filter_names};
-
-    ghost names_in = { filter_names };
-
-    fn enter(&self, names: &mut SmallNames) -> Result<(), NamesFault> {
-        enter_all(self.pattern.as_slice(), names)?;
-        enter_all(self.templates.as_slice(), names)
-    }
-}
-
-impl Named for WrittenSource {
-    ghost use Rattle.sn_top.specs.Numbered.{source_names};
-
-    ghost names_in = { source_names };
-
-    fn enter(&self, names: &mut SmallNames) -> Result<(), NamesFault> {
-        enter_all(self.input.as_slice(), names)?;
-        enter_all(self.output.as_slice(), names)?;
-        enter_all(self.filters.as_slice(), names)
     }
 }
 
@@ -98,7 +46,7 @@ impl Named for WrittenEntry {
 
     ghost names_in = { entry_names };
 
-    fn enter(&self, names: &mut SmallNames) -> Result<(), NamesFault> {
+    fn enter(&self, names: &mut Names) -> Result<(), NamesFault> {
         self.label.enter(names)
     }
 }
@@ -108,7 +56,7 @@ impl Named for WrittenLine {
 
     ghost names_in = { line_names };
 
-    fn enter(&self, names: &mut SmallNames) -> Result<(), NamesFault> {
+    fn enter(&self, names: &mut Names) -> Result<(), NamesFault> {
         enter_all(self.entries.as_slice(), names)
     }
 }

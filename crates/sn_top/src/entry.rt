@@ -5,8 +5,7 @@ ghost use Rattle.sn_top.specs.Lines.{SpellsNumber, SpellsEntry, SpellsNextEntry,
 
 use crate::cuts::{after, before, cut};
 use crate::label::read_label;
-use crate::reading::{ReadFault, Spelled, read_joined};
-use crate::source::read_braced;
+use crate::reading::{ReadFault, Spelled, read_braced, read_joined};
 use crate::written::{WrittenEntry, WrittenLine};
 use sn_list::Seq;
 use std::alloc::Global;

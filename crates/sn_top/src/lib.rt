@@ -11,12 +11,10 @@ mod entry;
 mod label;
 mod line;
 mod load;
-mod names;
 mod outside;
 mod print;
 mod reading;
 mod serve;
-mod source;
 mod status;
 #[cfg(test)]
 mod tests;

@@ -6,10 +6,10 @@ ghost use Rattle.sn_io.specs.Told.{appended, AppendsPrefix};
 ghost use Rattle.sn_top.specs.Line.{line as line_text};
 
 use crate::line::line_of;
-use crate::names::SmallNames;
 use crate::status::Stop;
 use sn_io::{Sink, WriteFault, write_whole};
 use sn_list::Memory;
+use sn_names::Names;
 use sn_record::Record;
 use std::alloc::Global;
 
@@ -58,7 +58,7 @@ impl From<PrintFault> for Stop {
 
 fn print_one<O: Sink>(
     alloc: Global,
-    names: &SmallNames,
+    names: &Names,
     printed: &Record,
     out: &mut O,
 ) -> Result<(), PrintFault>
@@ -75,7 +75,7 @@ fn print_one<O: Sink>(
 /// Prints the line of each record.
 pub fn print_all<O: Sink>(
     alloc: Global,
-    names: &SmallNames,
+    names: &Names,
     records: &[Record],
     out: &mut O,
 ) -> Result<(), PrintFault>

@@ -1,7 +1,8 @@
 ghost use Rattle.std.specs.Prelude.{◌≡◌, ◌∷◌, [], ◌++◌, ℕ, List, OnOk, OnErr, IfOk, codes, map, ◌==◌, MatchOption, ◌<◌, length};
 ghost use Rattle.std.specs.List.{slice_split};
-ghost use Rattle.sn_top.specs.Reading.{Reads, IsJoined, AreApart, at_place};
+ghost use Rattle.sn_top.specs.Reading.{Reads, IsBraced, IsJoined, AreApart, at_place};
 
+use crate::cuts::between;
 use sn_list::{Memory, Seq};
 use std::alloc::{AllocError, Global};
 
@@ -95,4 +96,16 @@ pub fn read_joined<X: Spelled>(
         push(&mut found, read_piece(alloc, place, piece)?)?;
     }
     Ok(found)
+}
+
+/// What stands in braces, with a comma between any two.
+pub fn read_braced<X: Spelled>(alloc: Global, bytes: &[u8]) -> Result<Seq<X>, ReadFault>
+    requires apart { AreApart 44 X.spells }
+    requires next_apart { AreApart 44 X.spells_next }
+    ensures { Reads (IsBraced X.spells X.spells_next) bytes.now result }
+{
+    let Some(inner) = between(bytes, b'{', b'}') else {
+        return Err(ReadFault::NotBuilt);
+    };
+    read_joined(alloc, inner, b',')
 }

@@ -3,11 +3,11 @@ ghost use Rattle.std.specs.Prelude.{◌≡◌};
 ghost use Rattle.std.specs.Fmt.{decimal};
 ghost use Rattle.sn_top.specs.Status.{fault_label, status_code, stop_label, stop_name, stop_place, stop_status};
 
-use crate::reading::ReadFault;
 use sn_io::WriteFault;
 use sn_lexer::LexFault;
 use sn_list::Memory;
 use sn_parser::ParseFault;
+use sn_scope::ScopeFault;
 
 /// How a command ended. Its number is the exit status of the program.
 #[derive(Clone, Copy, PartialEq, Eq, Debug)]
@@ -66,6 +66,10 @@ pub enum SourceFault {
     NumberTooWide,
     TextOpen,
     Unexpected,
+    Unknown,
+    Twice,
+    Arity,
+    GuardTag,
 }
 
 impl SourceFault {
@@ -79,6 +83,10 @@ impl SourceFault {
             SourceFault::NumberTooWide => b"source: NumberTooWide at ",
             SourceFault::TextOpen => b"source: TextOpen at ",
             SourceFault::Unexpected => b"source: Unexpected at ",
+            SourceFault::Unknown => b"source: Unknown at ",
+            SourceFault::Twice => b"source: Twice at ",
+            SourceFault::Arity => b"source: Arity at ",
+            SourceFault::GuardTag => b"source: GuardTag at ",
         }
     }
 }
@@ -88,7 +96,13 @@ impl SourceFault {
 pub enum Refusal {
     TooLarge(Which),
     Source(SourceFault, u32),
+    /// No outermost net `main` has a signature.
+    NoMain,
     TooDeep(u32),
+    /// The tree of the net whose name stands there is too large.
+    LargeTree(u32),
+    /// The labels have too many different names.
+    TooManyNames,
     NotBuilt,
 }
 
@@ -120,20 +134,6 @@ impl From<WriteFault> for Stop {
 
     fn from(_fault: WriteFault) -> Stop {
         Stop::Write
-    }
-}
-
-impl From<ReadFault> for Stop {
-    ghost use Rattle.std.specs.Prelude.{◌≡◌};
-    ghost use Rattle.sn_top.specs.Status.{fault_stop};
-
-    ghost from_gives = { λ f e. e ≡ fault_stop f };
-
-    fn from(fault: ReadFault) -> Stop {
-        match fault {
-            ReadFault::NotBuilt => Stop::Refused(Refusal::NotBuilt),
-            ReadFault::Memory => Stop::Memory,
-        }
     }
 }
 
@@ -173,6 +173,26 @@ impl From<ParseFault> for Stop {
     }
 }
 
+impl From<ScopeFault> for Stop {
+    ghost use Rattle.std.specs.Prelude.{◌≡◌};
+    ghost use Rattle.sn_top.specs.Scope.{scope_stop};
+
+    ghost from_gives = { λ f e. e ≡ scope_stop f };
+
+    fn from(fault: ScopeFault) -> Stop {
+        match fault {
+            ScopeFault::Unknown(at) => Stop::Refused(Refusal::Source(SourceFault::Unknown, at)),
+            ScopeFault::Twice(at) => Stop::Refused(Refusal::Source(SourceFault::Twice, at)),
+            ScopeFault::Arity(at) => Stop::Refused(Refusal::Source(SourceFault::Arity, at)),
+            ScopeFault::GuardTag(at) => Stop::Refused(Refusal::Source(SourceFault::GuardTag, at)),
+            ScopeFault::NoMain => Stop::Refused(Refusal::NoMain),
+            ScopeFault::TooLarge(at) => Stop::Refused(Refusal::LargeTree(at)),
+            ScopeFault::TooManyNames => Stop::Refused(Refusal::TooManyNames),
+            ScopeFault::Memory => Stop::Memory,
+        }
+    }
+}
+
 impl Stop {
     pub fn status(&self) -> Status
         ensures { result ≡ stop_status self.now }
@@ -180,7 +200,10 @@ impl Stop {
         match self {
             Stop::Refused(Refusal::TooLarge(_)) => Status::TooLarge,
             Stop::Refused(Refusal::Source(_, _)) => Status::Source,
+            Stop::Refused(Refusal::NoMain) => Status::Source,
             Stop::Refused(Refusal::TooDeep(_)) => Status::Limit,
+            Stop::Refused(Refusal::LargeTree(_)) => Status::Limit,
+            Stop::Refused(Refusal::TooManyNames) => Status::Limit,
             Stop::Refused(Refusal::NotBuilt) => Status::NotBuilt,
             Stop::Unread(_) => Status::Read,
             Stop::Memory => Status::Memory,
@@ -195,6 +218,7 @@ impl Stop {
         match self {
             Stop::Refused(Refusal::Source(_, at)) => *at,
             Stop::Refused(Refusal::TooDeep(at)) => *at,
+            Stop::Refused(Refusal::LargeTree(at)) => *at,
             _ => 0,
         }
     }
@@ -206,7 +230,10 @@ impl Stop {
         match self {
             Stop::Refused(Refusal::TooLarge(_)) => b"too large: ",
             Stop::Refused(Refusal::Source(fault, _)) => fault.label(),
+            Stop::Refused(Refusal::NoMain) => b"source: NoMain",
             Stop::Refused(Refusal::TooDeep(_)) => b"limit: TooDeep at ",
+            Stop::Refused(Refusal::LargeTree(_)) => b"limit: TooLarge at ",
+            Stop::Refused(Refusal::TooManyNames) => b"limit: Names",
             Stop::Refused(Refusal::NotBuilt) => b"not built",
             Stop::Unread(_) => b"read: ",
             Stop::Memory => b"memory",
@@ -222,7 +249,9 @@ impl Stop {
         match self {
             Stop::Refused(Refusal::TooLarge(Which::Source)) | Stop::Unread(Which::Source) => source,
             Stop::Refused(Refusal::TooLarge(Which::Input)) | Stop::Unread(Which::Input) => input,
-            Stop::Refused(Refusal::Source(_, _)) | Stop::Refused(Refusal::TooDeep(_)) => place,
+            Stop::Refused(Refusal::Source(_, _))
+            | Stop::Refused(Refusal::TooDeep(_))
+            | Stop::Refused(Refusal::LargeTree(_)) => place,
             _ => &source[..0],
         }
     }

@@ -1,6 +1,6 @@
 use Rattle.std.proofs.Common.{◌≡◌, take}
 use Rattle.std.specs.List.{flat_map}
-use Rattle.sn_top.specs.Names.{all_entered}
+use Rattle.sn_names.specs.Names.{all_entered}
 use Rattle.sn_top.proofs.enter.enter_all.Given as goal
 
 abbrev pub invariant-loop-item : goal.invariant-loop-item

@@ -1,33 +1,42 @@
-use Rattle.std.proofs.Common.{◌≤◌, length, ap, arith}
-use Rattle.std.proofs.lemmas.Result.{err_from_is_err_and}
-use Rattle.sn_top.proofs.Loading.{source_unread, source_not_entered, source_not_built, source_loaded}
+use Rattle.std.proofs.Common.{◌≡◌, true, false, Ok, Err, sym, ◌∙◌}
+use Rattle.std.proofs.lemmas.Result.{err_from_is_err_and, IfErr-weaker, IfOk-weaker}
+use Rattle.sn_ast.specs.declared.declaration.Program.{Program as Tree}
+use Rattle.sn_scope.specs.Resolution.{has_box}
+use Rattle.sn_top.specs.Load.{IsLoaded, IsMainChain, WhyNoMainChain}
+use Rattle.sn_top.specs.Scope.{WhyUnloaded}
+use Rattle.sn_top.specs.Source.{IsSource}
+use Rattle.sn_top.proofs.Loading.{boxed, loaded, not_lexed, not_parsed, not_resolved, other_main}
 use Rattle.sn_top.proofs.load.load_source.Goals as goal
 
-pub returns-in_err-source : goal.returns-in_err-source
-returns-in_err-source c =
+pub returns-in_err-tokens-clause-ended : goal.returns-in_err-tokens-clause-ended
+returns-in_err-tokens-clause-ended c =
     let p = err_from_is_err_and c.from_residual.result c.from_residual.ensures.1 in
-    rw (p.1, p.2) (source_unread c.args.bytes.now _ (rw c.in_err-source.was at c.read_source.ensures))
+    rw (p.1, p.2) (not_lexed c.args.bytes.now c.in_err-tokens.field-0.0 c.in_err-tokens.ensures.answer)
 
-pub returns-in_err-enter : goal.returns-in_err-enter
-returns-in_err-enter c =
-    let p = err_from_is_err_and c.from_residual-in_err-enter.result c.from_residual-in_err-enter.ensures.1 in
-    let read = rw c.in_ok-source.was at c.read_source.ensures in
-    let enters = rw (c.in_err-enter.was, c.new-names.ensures) at c.enter.ensures in
-    rw (p.1, p.2) (source_not_entered c.args.bytes.now c.in_ok-source.source c.enter.new.names _ read enters)
+pub returns-in_err-tree-clause-ended : goal.returns-in_err-tree-clause-ended
+returns-in_err-tree-clause-ended c =
+    let p = err_from_is_err_and c.from_residual-in_err-tree.result c.from_residual-in_err-tree.ensures.1 in
+    rw (p.1, p.2) (not_parsed c.args.bytes.now c.in_ok-tokens.tokens c.in_ok-tokens.ensures.answer c.in_err-tree.field-0.0 (rw c.as_slice.ensures at c.in_err-tree.ensures.answer))
 
-pub returns-in_err-net : goal.returns-in_err-net
-returns-in_err-net c =
-    let p = err_from_is_err_and c.from_residual-in_err-net.result c.from_residual-in_err-net.ensures.1 in
-    let read = rw c.in_ok-source.was at c.read_source.ensures in
-    let enters = rw (c.in_ok-enter.was, c.new-names.ensures) at c.enter.ensures in
-    let builds = rw c.in_err-net.was at c.network_of.ensures.network in
-    rw (p.1, p.2) (source_not_built c.args.bytes.now c.in_ok-source.source c.enter.new.names _ _ read enters.ok builds)
+pub returns-then-has_box-clause-ended : goal.returns-then-has_box-clause-ended
+returns-then-has_box-clause-ended c =
+    let read : IsSource c.args.bytes.now c.in_ok-tree.tree = record { tokens = c.in_ok-tokens.tokens; lexed = c.in_ok-tokens.ensures.answer; spelled = rw c.as_slice.ensures at c.in_ok-tree.ensures.answer } in
+    boxed c.args.bytes.now c.in_ok-tree.tree read (sym c.has_box.ensures ∙ c.if-has_box.true)
 
-pub returns : goal.returns
-returns c =
-    let read = rw c.in_ok-source.was at c.read_source.ensures in
-    let enters = rw (c.in_ok-enter.was, c.new-names.ensures) at c.enter.ensures in
-    let builds = rw c.in_ok-net.was at c.network_of.ensures.network in
-    let closed = rw c.in_ok-net.was at c.network_of.ensures.closed in
-    let few : length c.enter.new.names ≤ 256 = omega (arith, ap length c.names.view_is, c.names.invariant.few) in
-    source_loaded c.args.bytes.now c.in_ok-source.source c.enter.new.names c.in_ok-net.net read enters.ok few builds.ok.0 builds.ok.1 closed
+pub returns-in_err-resolved-clause-ended : goal.returns-in_err-resolved-clause-ended
+returns-in_err-resolved-clause-ended c =
+    let p = err_from_is_err_and c.from_residual-in_err-resolved.result c.from_residual-in_err-resolved.ensures.1 in
+    let read : IsSource c.args.bytes.now c.in_ok-tree.tree = record { tokens = c.in_ok-tokens.tokens; lexed = c.in_ok-tokens.ensures.answer; spelled = rw c.as_slice.ensures at c.in_ok-tree.ensures.answer } in
+    rw (p.1, p.2) (not_resolved c.args.bytes.now c.in_ok-tree.tree read (sym c.has_box.ensures ∙ c.if-has_box.false) c.in_err-resolved.field-0.0 c.in_err-resolved.ensures.refused)
+
+pub returns-clause-loaded : goal.returns-clause-loaded
+returns-clause-loaded c =
+    let read : IsSource c.args.bytes.now c.in_ok-tree.tree = record { tokens = c.in_ok-tokens.tokens; lexed = c.in_ok-tokens.ensures.answer; spelled = rw c.as_slice.ensures at c.in_ok-tree.ensures.answer } in
+    IfOk-weaker c.main_chain.result (IsMainChain c.in_ok-resolved.resolved) (IsLoaded c.args.bytes.now)
+    (λ program is. loaded c.args.bytes.now c.in_ok-tree.tree read (sym c.has_box.ensures ∙ c.if-has_box.false) c.in_ok-resolved.resolved c.in_ok-resolved.ensures.ok program is) c.main_chain.ensures.ok
+
+pub returns-clause-ended : goal.returns-clause-ended
+returns-clause-ended c =
+    let read : IsSource c.args.bytes.now c.in_ok-tree.tree = record { tokens = c.in_ok-tokens.tokens; lexed = c.in_ok-tokens.ensures.answer; spelled = rw c.as_slice.ensures at c.in_ok-tree.ensures.answer } in
+    IfErr-weaker c.main_chain.result (WhyNoMainChain c.in_ok-resolved.resolved) (WhyUnloaded c.args.bytes.now)
+    (λ why is. other_main c.args.bytes.now c.in_ok-tree.tree read (sym c.has_box.ensures ∙ c.if-has_box.false) c.in_ok-resolved.resolved c.in_ok-resolved.ensures.ok why is) c.main_chain.ensures.refused

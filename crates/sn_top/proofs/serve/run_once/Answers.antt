@@ -6,7 +6,7 @@ use Rattle.sn_io.specs.Told.{AppendsPrefix}
 use Rattle.sn_top.specs.declared.print.PrintFault.TheVariants.{Write}
 use Rattle.sn_top.specs.Line.{line}
 use Rattle.sn_top.specs.Seen.{File, Sink, seen_file, seen_sink, SinkFailed}
-use Rattle.sn_top.specs.Load.{IsProgram, IsAnswer}
+use Rattle.sn_top.specs.Load.{IsLoaded, IsAnswer}
 use Rattle.sn_top.proofs.Serving.{source_unread, not_loaded, input_unread, no_answer, finds_lines, not_printed, HasBytes}
 use Rattle.sn_top.proofs.serve.run_once.Goals as goal
 
@@ -25,7 +25,7 @@ returns-in_err-program-clause-stopped g c =
     let input : File = seen_file g.F.Files.bytes_of g.F.Files.faults c.args.files.now c.read_file.new.files c.args.input_name.now in
     let out : Sink = seen_sink g.O.Sink.held g.O.Sink.faults c.args.out.now c.args.out.now in
     let read : HasBytes source _ c.in_ok-source.source = record { told = c.in_ok-source.ensures.whole; within = c.in_ok-source.ensures.within } in
-    rw (p.1, p.2) (not_loaded source input out refl c.in_ok-source.source read c.in_err-program.field-0.0 (rw (c.in_err-program.was, c.as_slice.ensures) at c.load_source.ensures))
+    rw (p.1, p.2) (not_loaded source input out refl c.in_ok-source.source read c.in_err-program.field-0.0 (rw c.as_slice.ensures at c.in_err-program.ensures.ended))
 
 pub returns-in_err-input-clause-stopped : goal.returns-in_err-input-clause-stopped
 returns-in_err-input-clause-stopped g c =
@@ -34,7 +34,7 @@ returns-in_err-input-clause-stopped g c =
     let input : File = seen_file g.F.Files.bytes_of g.F.Files.faults c.args.files.now c.read_file-2.new.files c.args.input_name.now in
     let out : Sink = seen_sink g.O.Sink.held g.O.Sink.faults c.args.out.now c.args.out.now in
     let read : HasBytes source _ c.in_ok-source.source = record { told = c.in_ok-source.ensures.whole; within = c.in_ok-source.ensures.within } in
-    let program : IsProgram c.in_ok-source.source c.in_ok-program.program = rw (c.in_ok-program.was, c.as_slice.ensures) at c.load_source.ensures.ok in
+    let program : IsLoaded c.in_ok-source.source c.in_ok-program.program = rw c.as_slice.ensures at c.in_ok-program.ensures.loaded in
     let between : File = seen_file g.F.Files.bytes_of g.F.Files.faults c.read_file.new.files c.read_file-2.new.files c.args.input_name.now in
     rw (p.1, p.2) (input_unread source input out refl c.in_ok-source.source read c.in_ok-program.program program between
     (c.read_file.ensures.same c.args.input_name.now) (c.read_file.ensures.later c.args.input_name.now) refl c.in_err-input.field-0.0 c.in_err-input.ensures.unread)
@@ -46,7 +46,7 @@ returns-in_err-answered-clause-stopped g c =
     let input : File = seen_file g.F.Files.bytes_of g.F.Files.faults c.args.files.now c.read_file-2.new.files c.args.input_name.now in
     let out : Sink = seen_sink g.O.Sink.held g.O.Sink.faults c.args.out.now c.args.out.now in
     let read : HasBytes source _ c.in_ok-source.source = record { told = c.in_ok-source.ensures.whole; within = c.in_ok-source.ensures.within } in
-    let program : IsProgram c.in_ok-source.source c.in_ok-program.program = rw (c.in_ok-program.was, c.as_slice.ensures) at c.load_source.ensures.ok in
+    let program : IsLoaded c.in_ok-source.source c.in_ok-program.program = rw c.as_slice.ensures at c.in_ok-program.ensures.loaded in
     let has : HasBytes input _ c.in_ok-input.input = record { told = subst (λ t. IfSome t (λ x. c.in_ok-input.input ≡ x)) (c.read_file.ensures.same c.args.input_name.now) c.in_ok-input.ensures.whole; within = c.in_ok-input.ensures.within } in
     let why = rw c.as_slice-2.ensures at c.in_err-answered.ensures.ended in
     rw (p.1, p.2) (no_answer source input out refl c.in_ok-source.source read c.in_ok-program.program program c.in_ok-input.input has c.in_err-answered.field-0.0 why)
@@ -58,7 +58,7 @@ returns-in_err-print_all-clause-stopped g c =
     let input : File = seen_file g.F.Files.bytes_of g.F.Files.faults c.args.files.now c.read_file-2.new.files c.args.input_name.now in
     let out : Sink = seen_sink g.O.Sink.held g.O.Sink.faults c.args.out.now c.print_all.new.out in
     let read : HasBytes source _ c.in_ok-source.source = record { told = c.in_ok-source.ensures.whole; within = c.in_ok-source.ensures.within } in
-    let program : IsProgram c.in_ok-source.source c.in_ok-program.program = rw (c.in_ok-program.was, c.as_slice.ensures) at c.load_source.ensures.ok in
+    let program : IsLoaded c.in_ok-source.source c.in_ok-program.program = rw c.as_slice.ensures at c.in_ok-program.ensures.loaded in
     let has : HasBytes input _ c.in_ok-input.input = record { told = subst (λ t. IfSome t (λ x. c.in_ok-input.input ≡ x)) (c.read_file.ensures.same c.args.input_name.now) c.in_ok-input.ensures.whole; within = c.in_ok-input.ensures.within } in
     let answer : IsAnswer c.in_ok-program.program c.in_ok-input.input c.in_ok-answered.answered = rw c.as_slice-2.ensures at c.in_ok-answered.ensures.answered in
     let part : AppendsPrefix (g.O.Sink.held c.args.out.now) (g.O.Sink.held c.print_all.new.out) (flat_map (line c.in_ok-answered.answered.names) c.in_ok-answered.answered.records) = rw c.as_slice-3.ensures at c.in_err-print_all.ensures.part in
@@ -70,7 +70,7 @@ returns-clause-done g c =
     let source : File = seen_file g.F.Files.bytes_of g.F.Files.faults c.args.files.now c.read_file-2.new.files c.args.source_name.now in
     let input : File = seen_file g.F.Files.bytes_of g.F.Files.faults c.args.files.now c.read_file-2.new.files c.args.input_name.now in
     let read : HasBytes source _ c.in_ok-source.source = record { told = c.in_ok-source.ensures.whole; within = c.in_ok-source.ensures.within } in
-    let program : IsProgram c.in_ok-source.source c.in_ok-program.program = rw (c.in_ok-program.was, c.as_slice.ensures) at c.load_source.ensures.ok in
+    let program : IsLoaded c.in_ok-source.source c.in_ok-program.program = rw c.as_slice.ensures at c.in_ok-program.ensures.loaded in
     let has : HasBytes input _ c.in_ok-input.input = record { told = subst (λ t. IfSome t (λ x. c.in_ok-input.input ≡ x)) (c.read_file.ensures.same c.args.input_name.now) c.in_ok-input.ensures.whole; within = c.in_ok-input.ensures.within } in
     let answer : IsAnswer c.in_ok-program.program c.in_ok-input.input c.in_ok-answered.answered = rw c.as_slice-2.ensures at c.in_ok-answered.ensures.answered in
     let whole = rw c.as_slice-3.ensures at c.in_ok-print_all.ensures.whole in

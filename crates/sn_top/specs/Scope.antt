@@ -1,0 +1,94 @@
+-- What a source of the whole language is resolved to, or why it is not.
+use Rattle.std.specs.Prelude.{◌≡◌, ◌≤◌, ◌⊎◌, ℕ, true, false, IsTrue, List, length, slice_get, Option, Some, Ok, Err}
+use Rattle.sn_ast.specs.declared.declaration.Program.{Program as Tree}
+use Rattle.sn_net.specs.Net.{is_plain_chain}
+use Rattle.sn_net.specs.declared.net.Claim.{Claim}
+use Rattle.sn_scope.specs.Resolution.{has_box, resolution}
+use Rattle.sn_scope.specs.declared.resolution.Resolved.{Resolved}
+use Rattle.sn_scope.specs.declared.resolution.ScopeFault.{ScopeFault}
+use Rattle.sn_scope.specs.declared.resolution.ScopeFault.TheVariants as scope
+use Rattle.sn_top.specs.Source.{IsRefused, IsSource, IsWrong}
+use Rattle.sn_parser.specs.declared.parsing.ParseFault.TheVariants as parse_fault
+use Rattle.sn_top.specs.declared.load.Program.{Program}
+use Rattle.sn_top.specs.declared.status.Refusal.{Refusal}
+use Rattle.sn_top.specs.declared.status.Refusal.TheVariants.{TooLarge, Source as SourceAt, NoMain, TooDeep, LargeTree, TooManyNames, NotBuilt}
+use Rattle.sn_top.specs.declared.status.SourceFault.{SourceFault}
+use Rattle.sn_top.specs.declared.status.SourceFault.TheVariants.{BadUtf8, BadChar, NumberTooWide, TextOpen, Unexpected, Unknown, Twice, Arity, GuardTag}
+use Rattle.sn_top.specs.declared.status.Stop.{Stop}
+use Rattle.sn_top.specs.declared.status.Stop.TheVariants as stop
+
+abbrev pub scope_stop : ScopeFault → Stop
+scope_stop (scope.Unknown at) = stop.Refused (SourceAt Unknown at)
+scope_stop (scope.Twice at) = stop.Refused (SourceAt Twice at)
+scope_stop (scope.Arity at) = stop.Refused (SourceAt Arity at)
+scope_stop (scope.GuardTag at) = stop.Refused (SourceAt GuardTag at)
+scope_stop scope.NoMain = stop.Refused NoMain
+scope_stop (scope.TooLarge at) = stop.Refused (LargeTree at)
+scope_stop scope.TooManyNames = stop.Refused TooManyNames
+scope_stop scope.Memory = stop.Memory
+
+-- the bytes spell a program without boxes, whose names are not resolved
+pub record IsUnresolved (bytes : List ℕ) (fault : ScopeFault) : Type 0 where
+  pub tree : Tree
+  pub read : IsSource bytes tree
+  pub boxless : has_box tree ≡ false
+  pub refused : resolution tree ≡ Err fault
+
+-- the bytes spell a program with a box
+pub record HasBox (bytes : List ℕ) : Type 0 where
+  pub tree : Tree
+  pub read : IsSource bytes tree
+  pub boxed : has_box tree ≡ true
+
+-- the bytes spell a program without boxes, with this claim for its main net
+pub record IsResolved (bytes : List ℕ) (names : List (List ℕ)) (claim : Claim) : Type 0 where
+  pub tree : Tree
+  pub read : IsSource bytes tree
+  pub boxless : has_box tree ≡ false
+  pub resolved : Resolved
+  pub is : resolution tree ≡ Ok resolved
+  pub names_are : names ≡ resolved.names
+  pub main : slice_get resolved.claims resolved.main ≡ Some claim
+
+-- a program whose main net is no chain of filters, or computes
+pub record IsNoChain (bytes : List ℕ) : Type 0 where
+  pub names : List (List ℕ)
+  pub claim : Claim
+  pub resolved : IsResolved bytes names claim
+  pub other : is_plain_chain claim.net ≡ false
+
+-- the names and the main net of a program, which is a chain of filters that compute nothing
+pub record IsChain (bytes : List ℕ) (program : Program) : Type 0 where
+  pub claim : Claim
+  pub resolved : IsResolved bytes program.names claim
+  pub net_is : program.net ≡ claim.net
+  pub plain : IsTrue (is_plain_chain program.net)
+
+-- what is wrong in the source, as it is read or as its names are resolved, and where
+abbrev pub IsWrongAt : List ℕ → SourceFault → ℕ → Type 0
+IsWrongAt bytes BadUtf8 at = IsWrong bytes BadUtf8 at
+IsWrongAt bytes BadChar at = IsWrong bytes BadChar at
+IsWrongAt bytes NumberTooWide at = IsWrong bytes NumberTooWide at
+IsWrongAt bytes TextOpen at = IsWrong bytes TextOpen at
+IsWrongAt bytes Unexpected at = IsWrong bytes Unexpected at
+IsWrongAt bytes Unknown at = IsUnresolved bytes (scope.Unknown at)
+IsWrongAt bytes Twice at = IsUnresolved bytes (scope.Twice at)
+IsWrongAt bytes Arity at = IsUnresolved bytes (scope.Arity at)
+IsWrongAt bytes GuardTag at = IsUnresolved bytes (scope.GuardTag at)
+
+-- why a source gives no program
+abbrev pub WhyNoProgram : List ℕ → Refusal → Type 0
+WhyNoProgram bytes (TooLarge which) = ⊥
+WhyNoProgram bytes (SourceAt fault at) = IsWrongAt bytes fault at
+WhyNoProgram bytes NoMain = IsUnresolved bytes scope.NoMain
+WhyNoProgram bytes (TooDeep at) = IsRefused bytes (parse_fault.TooDeep at)
+WhyNoProgram bytes (LargeTree at) = IsUnresolved bytes (scope.TooLarge at)
+WhyNoProgram bytes TooManyNames = IsUnresolved bytes scope.TooManyNames
+WhyNoProgram bytes NotBuilt = HasBox bytes ⊎ IsNoChain bytes
+
+-- why loading a source stopped
+abbrev pub WhyUnloaded : List ℕ → Stop → Type 0
+WhyUnloaded bytes (stop.Refused refusal) = WhyNoProgram bytes refusal
+WhyUnloaded bytes (stop.Unread which) = ⊥
+WhyUnloaded bytes stop.Memory = Unit {0}
+WhyUnloaded bytes stop.Write = ⊥
