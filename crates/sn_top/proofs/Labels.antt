@@ -1,17 +1,13 @@
 -- What labels spell.
-use Rattle.std.proofs.Common.{◌≡◌, ℕ, leb, ◌<◌, true, false, IsTrue, List, [], ◌∷◌, ◌++◌, length, length-append, refl, sym, ap, ◌∙◌, subst, arith}
-use Rattle.std.specs.Prelude.{Ok, Err, ◌⊎◌}
-use Rattle.std.proofs.Common.{inl, inr}
+use Rattle.std.proofs.Common.{◌≡◌, ℕ, leb, ◌<◌, true, IsTrue, List, [], ◌∷◌, length, refl, sym, ap, subst, arith}
 use Rattle.std.specs.List.{list_all}
 use Rattle.std.proofs.lemmas.Bool.{false≢true, le-leb}
 use Rattle.std.proofs.lemmas.Grind.{common_steps}
-use Rattle.sn_top.specs.declared.reading.ReadFault.TheVariants.{NotBuilt, Memory}
-use Rattle.sn_top.specs.declared.reading.ReadFault.{ReadFault}
 use Rattle.sn_record.specs.declared.label.Kind.TheVariants.{Field, Tag}
 use Rattle.sn_top.specs.declared.written.WrittenLabel.{WrittenLabel}
-use Rattle.sn_top.specs.Reading.{Reads, IsFree}
+use Rattle.sn_top.specs.Reading.{IsFree}
 use Rattle.sn_top.specs.Small.{is_letter, is_name, label_text, SpellsLabel}
-use Rattle.sn_top.proofs.Plain.{AreWithin, free_of, within_append, not_free, cut_once}
+use Rattle.sn_top.proofs.Plain.{AreWithin, free_of, within_append}
 
 letters_within : (k : ℕ) (n : List ℕ) → list_all is_letter n ≡ true → AreWithin k n
 letters_within k [] h = refl

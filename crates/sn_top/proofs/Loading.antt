@@ -1,13 +1,13 @@
 -- From what was read, resolved, entered and built to what is loaded.
-use Rattle.std.proofs.Common.{true, false, ◌≡◌, ℕ, ◌≤◌, ◌<◌, IsTrue, List, [], length, map, refl, sym, ap, ◌∙◌, subst, arith, inl, inr}
-use Rattle.std.specs.Prelude.{Result, Ok, Err, All, ◌⊎◌}
+use Rattle.std.proofs.Common.{true, false, ◌≡◌, ℕ, ◌≤◌, List, length, map, refl, sym, ap, ◌∙◌, subst, inl, inr}
+use Rattle.std.specs.Prelude.{Ok, Err, All, ◌⊎◌}
 use Rattle.std.specs.List.{flat_map}
 use Rattle.sn_ast.specs.declared.declaration.Program.{Program as Tree}
 use Rattle.sn_lexer.specs.Answer.{LexesAs, IsFault}
 use Rattle.sn_lexer.specs.declared.token.LexFault.{LexFault}
 use Rattle.sn_lexer.specs.declared.token.LexFault.TheVariants as lex_fault
 use Rattle.sn_lexer.specs.declared.token.Token.{Token}
-use Rattle.sn_parser.specs.Answer.{Faults, Spell}
+use Rattle.sn_parser.specs.Answer.{Faults}
 use Rattle.sn_parser.specs.declared.parsing.ParseFault.{ParseFault}
 use Rattle.sn_parser.specs.declared.parsing.ParseFault.TheVariants as parse_fault
 use Rattle.sn_record.specs.Record.{Entries}
@@ -33,13 +33,13 @@ use Rattle.sn_top.specs.declared.status.Refusal.TheVariants as refusal
 use Rattle.sn_top.specs.declared.status.Stop.{Stop}
 use Rattle.sn_top.specs.declared.status.Stop.TheVariants as stop
 use Rattle.sn_top.specs.Source.{IsSource, lex_stop, parse_stop}
-use Rattle.sn_top.specs.Scope.{IsResolved, scope_stop, WhyUnloaded}
+use Rattle.sn_top.specs.Scope.{scope_stop, WhyUnloaded}
 use Rattle.sn_top.specs.Reading.{Reads}
 use Rattle.sn_top.specs.Entering.{Enters, most_names}
 use Rattle.sn_top.specs.Lines.{SpellsInput}
 use Rattle.sn_top.specs.Numbered.{line_names, record_of, Builds, IsDistinctLine}
 use Rattle.sn_top.specs.Meaning.{with_lines, IsRouted, stream_of}
-use Rattle.sn_top.specs.Load.{read_input_fault, names_input_fault, input_stop, chain_stop, IsInput, IsLoaded, IsMainChain, IsOther, LoadsInput, IsAnswer, WhyNoAnswer, WhyNoMainChain}
+use Rattle.sn_top.specs.Load.{read_input_fault, names_input_fault, input_stop, chain_stop, IsInput, IsLoaded, IsMainChain, LoadsInput, IsAnswer, WhyNoAnswer, WhyNoMainChain}
 
 module _ (bytes : List ℕ) where
   -- the lexer refuses
@@ -107,8 +107,8 @@ module _ (names : List (List ℕ)) (bytes : List ℕ) where
     too_many = λ is. cc;
   }
     where
-    not_memory : NotBuilt ≡ Memory → ⊥
-    not_memory is = cc
+      not_memory : NotBuilt ≡ Memory → ⊥
+      not_memory is = cc
   input_unread Memory read = record { ok = tt; refused = λ is. cc; too_many = λ is. cc }
 
   pub input_not_entered : (ls : List WrittenLine) (now : List (List ℕ)) (fault : NamesFault) → Reads SpellsInput bytes (Ok ls) → Enters (flat_map line_names ls) names now (Err fault) → LoadsInput names bytes (Err (names_input_fault fault))

@@ -1,11 +1,9 @@
 -- From what each step of a run gave to why it stopped, and what it printed.
-use Rattle.std.proofs.Common.{◌≡◌, ℕ, ◌<◌, ◌≤◌, List, length, map, Option, None, Some, refl, sym, ap, ◌∙◌, subst, arith, inl, inr}
-use Rattle.std.specs.Prelude.{Ok, Err, IfSome, ◌⊎◌}
+use Rattle.std.proofs.Common.{◌≡◌, ℕ, ◌<◌, ◌≤◌, List, length, Option, None, Some, refl, sym, ap, ◌∙◌, subst, arith, inl, inr}
+use Rattle.std.specs.Prelude.{Ok, IfSome, ◌⊎◌}
 use Rattle.std.specs.List.{flat_map}
 use Rattle.sn_io.specs.Causes.{Rose}
 use Rattle.sn_io.specs.Told.{AppendsPrefix}
-use Rattle.sn_net.specs.Meaning.{Rec}
-use Rattle.sn_top.specs.declared.written.WrittenLine.{WrittenLine}
 use Rattle.sn_top.specs.declared.load.Program.{Program}
 use Rattle.sn_top.specs.declared.load.Answered.{Answered}
 use Rattle.sn_top.specs.declared.print.PrintFault.{PrintFault}
@@ -18,7 +16,7 @@ use Rattle.sn_top.specs.declared.status.Stop.TheVariants.{Refused, Unread, Memor
 use Rattle.sn_top.specs.declared.serve.TheConstants.{SOURCE_LIMIT, INPUT_LIMIT}
 use Rattle.sn_top.specs.Seen.{Sink, File, SinkFailed, WhyUnread}
 use Rattle.sn_top.specs.Line.{line}
-use Rattle.sn_top.specs.Meaning.{with_lines, stream_of, printed, IsRouted}
+use Rattle.sn_top.specs.Meaning.{with_lines, printed}
 use Rattle.sn_top.specs.Load.{HasManyNames, HasNoRoute, IsAnswer, IsLoaded, WhyNoAnswer}
 use Rattle.sn_top.specs.Scope.{WhyUnloaded, WhyNoProgram}
 use Rattle.sn_top.specs.Answer.{IsAccepted, IsRefusedInput, IsRefusedSource, Prints, Finds, WhyStopped, print_stop}
@@ -124,8 +122,8 @@ module _ (source input : File) (bytes : List ℕ) (read : HasBytes source SOURCE
     lines = answer.lines;
     routed = answer.routed;
     printed_is =
-      ap (λ names. flat_map (line names) answered.records) answer.names ∙ sym (printed_records (with_lines program.names answer.lines) answered.records)
-      ∙ ap (printed (with_lines program.names answer.lines)) (sym answer.stream);
+        ap (λ names. flat_map (line names) answered.records) answer.names ∙ sym (printed_records (with_lines program.names answer.lines) answered.records)
+        ∙ ap (printed (with_lines program.names answer.lines)) (sym answer.stream);
   }
 
   pub finds_lines : Finds source.told input.told (Ok (flat_map (line answered.names) answered.records))

@@ -1,5 +1,5 @@
 -- What a source of the whole language is resolved to, or why it is not.
-use Rattle.std.specs.Prelude.{◌≡◌, ◌≤◌, ◌⊎◌, ℕ, true, false, IsTrue, List, length, slice_get, Option, Some, Ok, Err}
+use Rattle.std.specs.Prelude.{◌≡◌, ◌⊎◌, ℕ, true, false, IsTrue, List, slice_get, Some, Ok, Err}
 use Rattle.sn_ast.specs.declared.declaration.Program.{Program as Tree}
 use Rattle.sn_net.specs.Net.{is_plain_chain}
 use Rattle.sn_net.specs.declared.net.Claim.{Claim}

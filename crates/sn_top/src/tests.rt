@@ -78,11 +78,83 @@ fn chains_answer_as_their_filters(rt: HostRuntime) -> Result<(), Fail> {
             b"",
         ),
         (SOURCE, b"{c=1}", Status::NotBuilt, b"", b"not built\n"),
-        (b"net main", INPUT, Status::NotBuilt, b"", b"not built\n"),
+        (
+            b"net main",
+            INPUT,
+            Status::Source,
+            b"",
+            b"source: Unexpected at 8\n",
+        ),
     ];
     for (source, input, status, out, err) in table {
         let served = serve(alloc, files(alloc, source, input)?, sink(alloc, 5)?)?;
         assert!(rt; served.is(status, out, err));
+    }
+    Ok(())
+}
+
+/// Whether the source is refused with the line, and nothing is printed.
+fn is_refused(alloc: Global, source: &[u8], status: Status, line: &[u8]) -> Result<bool, Memory> {
+    let served = serve(alloc, files(alloc, source, INPUT)?, sink(alloc, 64)?)?;
+    Ok(served.is(status, b"", line))
+}
+
+#[test]
+fn the_first_refusal_of_names_comes(rt: HostRuntime) -> Result<(), Fail> {
+    let table: [(&[u8], &[u8]); 10] = [
+        (b"", b"source: NoMain\n"),
+        (b"net main connect [];", b"source: NoMain\n"),
+        (
+            b"net main ({a} -> {a}) connect g;",
+            b"source: Unknown at 30\n",
+        ),
+        // A name is not visible within its own declaration, nor before it.
+        (
+            b"net main ({a} -> {a}) connect [] .. main;",
+            b"source: Unknown at 36\n",
+        ),
+        (
+            b"net main ({a} -> {a}) { net x connect y; net y connect []; } connect x;",
+            b"source: Unknown at 38\n",
+        ),
+        // The least place comes, whatever is found first.
+        (
+            b"net main ({a,a} -> T) connect [] .. g;",
+            b"source: Twice at 13\n",
+        ),
+        (
+            b"net main ({a} -> {a}) connect [|{a}|];",
+            b"source: Arity at 30\n",
+        ),
+        (
+            b"net main ({a} -> {a}) connect [{a} -> {b=c,a,a}];",
+            b"source: Unknown at 41\n",
+        ),
+        (
+            b"net main ({a} -> {a}) connect [] ** {a} if (<n> == 0);",
+            b"source: GuardTag at 44\n",
+        ),
+        // The inner declaration hides the outer one, and is a type.
+        (
+            b"net n connect []; net main ({a} -> {a}) { type n = {a}; } connect n;",
+            b"source: Unknown at 66\n",
+        ),
+    ];
+    for (source, line) in table {
+        assert!(rt; is_refused(rt.alloc(), source, Status::Source, line)?);
+    }
+    Ok(())
+}
+
+#[test]
+fn other_networks_are_not_built(rt: HostRuntime) -> Result<(), Fail> {
+    let table: [&[u8]; 3] = [
+        b"box f ((a) -> (b)) { out 1(a) } net main ({a} -> {b}) connect f;",
+        b"net main ({a} -> {a}) connect [] || [];",
+        b"net main ({<a>} -> {<a>}) connect [{<a>} -> {<a>=1}];",
+    ];
+    for source in table {
+        assert!(rt; is_refused(rt.alloc(), source, Status::NotBuilt, b"not built\n")?);
     }
     Ok(())
 }

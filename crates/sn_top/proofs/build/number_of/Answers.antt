@@ -1,4 +1,4 @@
-use Rattle.std.proofs.Common.{◌≡◌, ℕ, Bool, true, false, List, length, if◌then◌else◌, None, Some, Option, refl, sym, ◌∙◌}
+use Rattle.std.proofs.Common.{◌≡◌, ℕ, true, false, List, if◌then◌else◌, None, Some, refl, sym, ◌∙◌}
 use Rattle.sn_names.specs.Names.{is_held, number_in}
 use Rattle.sn_names.proofs.NamesLaws.{number_in-new}
 use Rattle.sn_top.proofs.build.number_of.Goals as goal

@@ -1,7 +1,5 @@
-use Rattle.std.proofs.Common.{◌≡◌, true, false, Ok, Err, sym, ◌∙◌}
+use Rattle.std.proofs.Common.{sym, ◌∙◌}
 use Rattle.std.proofs.lemmas.Result.{err_from_is_err_and, IfErr-weaker, IfOk-weaker}
-use Rattle.sn_ast.specs.declared.declaration.Program.{Program as Tree}
-use Rattle.sn_scope.specs.Resolution.{has_box}
 use Rattle.sn_top.specs.Load.{IsLoaded, IsMainChain, WhyNoMainChain}
 use Rattle.sn_top.specs.Scope.{WhyUnloaded}
 use Rattle.sn_top.specs.Source.{IsSource}

@@ -1,6 +1,6 @@
-use Rattle.std.proofs.Common.{◌≡◌, ◌<◌, length, get_or, slice_get, false, true, Some, All, refl, sym, ap, ◌∙◌, subst}
+use Rattle.std.proofs.Common.{◌≡◌, get_or, true, Some, refl, sym, ap, ◌∙◌, subst}
 use Rattle.std.proofs.lemmas.Option.{slice_get-get_or}
-use Rattle.sn_net.specs.Net.{is_plain_chain, IsClosedChain}
+use Rattle.sn_net.specs.Net.{is_plain_chain}
 use Rattle.sn_net.specs.WellFormed.{IsWellFormed}
 use Rattle.sn_net.proofs.Plain.{plain_closed}
 use Rattle.sn_top.proofs.load.main_chain.Goals as goal
