@@ -64,7 +64,7 @@ pub struct Resolved {
     /// One for each net with a signature, in the order of the places of the nets' names.
     pub claims: Seq<Claim>,
     /// The place in `claims` of that of the outermost net `main`.
-    pub main: usize,
+    pub main: u32,
 }
 
 fn fault_of(refusal: Refusal) -> ScopeFault
@@ -150,12 +150,16 @@ fn finish(
     let Some(main) = declarations.main else {
         return Err(ScopeFault::NoMain);
     };
+    // So many claims do not fit into memory.
+    let Ok(main) = u32::try_from(main) else {
+        return Err(ScopeFault::Memory);
+    };
     let Ok(names) = Names::from_table(names) else {
         return Err(ScopeFault::TooManyNames);
     };
     let boxes = Seq::new(alloc);
     match claims(alloc, declarations)? {
-        Ok(claims) if main < claims.len() => Ok(Resolved {
+        Ok(claims) if (main as usize) < claims.len() => Ok(Resolved {
             names,
             boxes,
             claims,

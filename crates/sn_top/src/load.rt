@@ -116,7 +116,7 @@ fn main_chain(resolved: Resolved) -> Result<Program, Stop>
         ..
     } = resolved;
     let mut claims = claims.into_vec();
-    let claim = claims.swap_remove(main);
+    let claim = claims.swap_remove(main as usize);
     let Claim { net, .. } = claim;
     if !net.is_plain_chain() {
         return Err(Stop::Refused(Refusal::NotBuilt));
