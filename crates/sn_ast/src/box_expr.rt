@@ -1,7 +1,6 @@
-use crate::label::Ident;
+use crate::label::{Ident, Text};
 use crate::tag_expr::Operator;
 use sn_list::{Boxed, Seq};
-use sn_record::Text;
 
 /// An expression in a box. Its place is that of its operator, or else that of its first token.
 #[cycle(box_expr)]

@@ -1,5 +1,7 @@
 use sn_list::Seq;
-use sn_record::Text;
+
+/// Bytes of a name, or of what a text says.
+pub type Text = Seq<u8>;
 
 /// A name and its place. The place of a tag's name is that of its `<`.
 #[derive(PartialEq, Eq, Debug, Drop)]

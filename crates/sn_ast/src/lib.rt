@@ -14,11 +14,10 @@ mod terminal;
 
 pub use box_expr::{BExpr, BForm};
 pub use declaration::{BoxDecl, Decl, FunDecl, NetDecl, Program};
-pub use label::{Ident, LabelAt, Sig, Tuple, TypePart, Variant};
+pub use label::{Ident, LabelAt, Sig, Text, Tuple, TypePart, Variant};
 pub use measure::{Kept, Measured};
 pub use network::{ItemAt, ItemSource, NetExpr, NetForm, TemplateAt};
 pub use sn_list::{Boxed, Seq};
-pub use sn_record::Text;
 pub use tag_expr::{Operator, TExpr, TForm};
 pub use terminal::{Bracket, Infix, Keyword, Link, Sign, Symbol, Terminal};
 

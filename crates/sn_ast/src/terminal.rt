@@ -2,9 +2,8 @@ ghost use Rattle.std.specs.Prelude.{◌≡◌, ℕ, MatchOption};
 ghost use Rattle.sn_ast.specs.Terminals.{closing, infix_of, label_of, link_of, place_of, sign_of};
 ghost use Rattle.sn_ast.specs.declared.terminal.Terminal.TheVariants as some_terminal;
 
-use crate::label::{Ident, LabelAt};
+use crate::label::{Ident, LabelAt, Text};
 use crate::tag_expr::Operator;
-use sn_record::Text;
 
 #[derive(Clone, Copy, PartialEq, Eq, Debug)]
 pub enum Keyword {

@@ -10,7 +10,7 @@ use crate::token::{LexFault, TokenKind};
 const LARGEST: u64 = 9_223_372_036_854_775_807;
 
 /// The value of the digits in front, or the largest `u64` where it is past that, and what follows them.
-fn read_digits(text: &str) -> (u64, &str)
+pub fn read_digits(text: &str) -> (u64, &str)
     ensures { IsNumeralUpTo (chars text.now) result.0 (chars result.1.now) }
 {
     let mut value: u64 = 0;

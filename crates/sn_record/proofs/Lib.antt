@@ -2,3 +2,4 @@ pub mod Maps
 pub mod Sets
 pub mod Values
 pub mod Records
+pub mod Scores

@@ -180,3 +180,13 @@ so_far-past r v o p es i past same =
     let done : drop i es ≡ [] = drop_of_length-le es past in
     same_record p _
     (λ l. sym (ap (λ xs. option_or (map.get p l) (find label_cmp l (filter (λ e. not (contains v e.0)) xs))) done ∙ option_or-none (map.get p l)) ∙ same l)
+
+unnamed : {A : Type 0} (named : Bool) (x : Option A) → named ≡ false → (if named then None else x) ≡ x
+unnamed true x e = cc
+unnamed false x e = refl
+
+-- with nothing named, what the left record lacks is inherited
+pub inherit-overlay : (r o : Entries) → inherit r map.empty o ≡ overlay o r
+inherit-overlay r o =
+    same_record _ _
+    (λ l. get-inherit r map.empty o l ∙ ap (option_or (map.get o l)) (unnamed (contains map.empty l) (map.get r l) (ap is_some (map.get-empty label_cmp l))) ∙ sym (get-overlay o r l))

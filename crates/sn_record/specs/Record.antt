@@ -1,5 +1,6 @@
 -- Records, by the value at each label.
-use Rattle.std.specs.Prelude.{◌≡◌, ◌++◌, not, IsTrue, IfSome}
+use Rattle.std.specs.Prelude.{◌≡◌, ◌++◌, ℕ, Bool, not, IsTrue, IfSome, if◌then◌else◌, max, List, [], ◌∷◌, Option, None, Some}
+use Rattle.std.specs.List.{list_all}
 use Rattle.std.specs.FinMap as map
 use Rattle.sn_record.specs.declared.label.Label.{Label}
 use Rattle.sn_record.specs.declared.label.Kind.TheVariants.{Tag}
@@ -30,6 +31,25 @@ IsRecord r = (l : Label) → IfSome (map.get r l) (FitsLabel l)
 -- each label of v is one of r
 abbrev pub Matches : Entries → Labels → Type 0
 Matches r v = (l : Label) → IsTrue (contains v l) → IsTrue (map.contains_key r l)
+
+-- whether r has each label of v: the test of `Matches`
+abbrev pub is_match : Entries → Labels → Bool
+is_match r v = list_all (map.contains_key r) (map.keys v)
+
+-- the greater of two sizes, where there are any
+abbrev pub greater : Option ℕ → Option ℕ → Option ℕ
+greater None n = n
+greater (Some m) None = Some m
+greater (Some m) (Some n) = Some (max m n)
+
+-- how many labels v has, where r matches it
+abbrev pub size_matched : Entries → Labels → Option ℕ
+size_matched r v = if is_match r v then Some (map.len v) else None
+
+-- the size of the largest variant that r matches, or none
+abbrev pub score : List Labels → Entries → Option ℕ
+score [] r = None
+score (v ∷ vs) r = greater (size_matched r v) (score vs r)
 
 -- what o has, and what r has at other labels
 abbrev pub overlay : Entries → Entries → Entries

@@ -3,6 +3,7 @@
 //! A contract sees a label set and a record as finite maps in the order of their labels.
 #![tactic(auto)]
 
+mod best;
 mod item;
 mod label;
 mod label_map;
@@ -10,6 +11,7 @@ mod label_set;
 mod record;
 mod value;
 
+pub use best::score;
 pub use item::{Fault, FaultKind, Item, Items};
 pub use label::{ByLabel, Kind, Label};
 pub use label_set::LabelSet;

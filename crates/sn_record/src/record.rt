@@ -67,7 +67,7 @@ fn copy_within(
 }
 
 impl Record {
-    ghost use Rattle.sn_record.specs.Record.{FitsLabel, IsRecord, Matches, restrict, inherit};
+    ghost use Rattle.sn_record.specs.Record.{FitsLabel, IsRecord, Matches, overlay, restrict, inherit};
 
     /// The empty record, which takes no memory until a value is set.
     pub fn new(alloc: Global) -> Record
@@ -136,6 +136,13 @@ impl Record {
             }
         }
         true
+    }
+
+    /// What the record has, and what `other` has at other labels.
+    pub fn union_left(&self, alloc: Global, other: &Record) -> Result<Record, Memory>
+        ensures { IfOk result (λ both. both ≡ overlay self.now other.now) }
+    {
+        Record::inherit(alloc, other, &LabelSet::new(alloc), self)
     }
 
     /// A copy of what the record has at labels of `variant`.

@@ -1,4 +1,6 @@
-use crate::{Fault, FaultKind, Item, Items, Kind, Label, LabelSet, Memory, Record, Value, Values};
+use crate::{
+    Fault, FaultKind, Item, Items, Kind, Label, LabelSet, Memory, Record, Value, Values, score,
+};
 use sn_list::Seq;
 use std::alloc::Global;
 use std::test::Fail;
@@ -104,6 +106,26 @@ fn records_match(rt: HostRuntime) -> Result<(), Fail> {
     assert!(rt; Record::new(rt.alloc()).is_empty());
     assert!(rt; !record.matches(&variant));
     assert_eq!(rt; record.restrict(rt.alloc(), &variant)?.len(), 1);
+    assert!(rt; score(&[variant], &record).is_none());
+    Ok(())
+}
+
+#[test]
+fn the_largest_match_counts(rt: HostRuntime) -> Result<(), Fail> {
+    let record = record_of(rt.alloc(), (A, 1), (T, 7))?;
+    let small = set_of(rt.alloc(), A, A)?;
+    let large = set_of(rt.alloc(), A, T)?;
+    assert!(rt; score(&[small, large], &record) == Some(2));
+    Ok(())
+}
+
+#[test]
+fn the_left_record_wins(rt: HostRuntime) -> Result<(), Fail> {
+    let left = record_of(rt.alloc(), (A, 1), (T, 7))?;
+    let right = record_of(rt.alloc(), (A, 2), (B, 3))?;
+    let both = left.union_left(rt.alloc(), &right)?;
+    assert_eq!(rt; both.len(), 3);
+    assert!(rt; both.get(A) == Some(&Value::Int(1)));
     Ok(())
 }
 
