@@ -13,7 +13,7 @@ use Rattle.sn_net.specs.declared.net.Net.{Net}
 use Rattle.sn_net.specs.declared.net.Net.TheOpen.{Net-F}
 use Rattle.sn_net.specs.declared.net.Net.TheFolds.{fold-roll-Net}
 use Rattle.sn_net.specs.declared.net.Net.TheVariants.{Filter as FilterLeaf, Serial, rolls-Filter, rolls-Serial}
-use Rattle.sn_net.specs.Filter.{target, is_from, IsClosedTemplate, IsClosed, IsPlain}
+use Rattle.sn_net.specs.Filter.{target, is_from, IsClosedTemplate, IsClosed}
 use Rattle.sn_net.specs.Net.{filters, filters_step, chain_step, is_chain, IsClosedChain}
 
 -- the template of some parts
@@ -68,22 +68,20 @@ chain-Filter f = ap is_chain (sym (rolls-Filter f)) ∙ fold-roll-Net Bool chain
 pub chain-Serial : (left right : Net) → is_chain (Serial left right) ≡ (is_chain left && is_chain right)
 chain-Serial left right = ap is_chain (sym (rolls-Serial left right)) ∙ fold-roll-Net Bool chain_step (Net-F.Serial left right)
 
-pub leaf_chain : (f : Filter) → IsClosed f → IsPlain f → IsClosedChain (FilterLeaf f)
-leaf_chain f closed plain = record { chain = chain-Filter f; closed = (each-Filter IsClosed f).1 closed; plain = (each-Filter IsPlain f).1 plain }
+pub leaf_chain : (f : Filter) → IsClosed f → IsClosedChain (FilterLeaf f)
+leaf_chain f closed = record { chain = chain-Filter f; closed = (each-Filter IsClosed f).1 closed }
 
-pub leaf_of_chain : (f : Filter) → IsClosedChain (FilterLeaf f) → IsClosed f × IsPlain f
-leaf_of_chain f c = ((each-Filter IsClosed f).0 c.closed, (each-Filter IsPlain f).0 c.plain)
+pub leaf_of_chain : (f : Filter) → IsClosedChain (FilterLeaf f) → IsClosed f
+leaf_of_chain f c = (each-Filter IsClosed f).0 c.closed
 
 pub both_chain : (left right : Net) → IsClosedChain left → IsClosedChain right → IsClosedChain (Serial left right)
 both_chain left right l r = record {
   chain = chain-Serial left right ∙ (λ i. l.chain i && r.chain i);
   closed = (each-Serial IsClosed left right).1 (l.closed, r.closed);
-  plain = (each-Serial IsPlain left right).1 (l.plain, r.plain);
 }
 
 pub both_of_chain : (left right : Net) → IsClosedChain (Serial left right) → IsClosedChain left × IsClosedChain right
 both_of_chain left right c =
     let parts = and_parts (is_chain left) (is_chain right) (sym (chain-Serial left right) ∙ c.chain) in
     let closed = (each-Serial IsClosed left right).0 c.closed in
-    let plain = (each-Serial IsPlain left right).0 c.plain in
-    (record { chain = parts.0; closed = closed.0; plain = plain.0 }, record { chain = parts.1; closed = closed.1; plain = plain.1 })
+    (record { chain = parts.0; closed = closed.0 }, record { chain = parts.1; closed = closed.1 })

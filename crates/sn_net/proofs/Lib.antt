@@ -1,9 +1,8 @@
 pub mod Closed
 pub mod Meanings
-pub mod Emitted
 pub mod Orders
 pub mod Ascending
 pub mod Variants
 pub mod Sound
 pub mod Forms
-pub mod Plain
+pub mod Chained

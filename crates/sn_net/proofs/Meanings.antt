@@ -1,37 +1,28 @@
 -- What filters and networks in series answer.
-use Rattle.std.proofs.Common.{◌≡◌, Bool, true, false, cond, ◌||◌, IsTrue, ◌↔◌, List, [], ◌∷◌, refl, sym, ap, ◌∙◌, subst, map}
+use Rattle.std.proofs.Common.{◌≡◌, Bool, true, false, cond, ◌||◌, IsTrue, List, [], ◌∷◌, refl, sym, ap, ◌∙◌, subst, map}
 use Rattle.std.specs.List.{flat_map}
-use Rattle.std.specs.FinMap.{contains_key}
-use Rattle.std.proofs.lemmas.List.Folds.{list_any-append, list_all-map}
-use Rattle.sn_record.specs.LabelSet.{Labels}
-use Rattle.sn_record.specs.Record.{Entries, Matches}
-use Rattle.sn_record.proofs.Maps.{list_all-entries}
+use Rattle.std.proofs.lemmas.List.Folds.{list_any-append}
+use Rattle.sn_record.specs.Record.{Entries, Matches, is_match}
 use Rattle.sn_net.specs.declared.filter.Filter.{Filter}
 use Rattle.sn_net.specs.declared.net.Net.{Net}
 use Rattle.sn_net.specs.declared.net.Net.TheOpen.{Net-F}
 use Rattle.sn_net.specs.declared.net.Net.TheFolds.{fold-roll-Net, ind-Net, map-Net}
 use Rattle.sn_net.specs.declared.net.Net.TheViews.{roll-Net}
 use Rattle.sn_net.specs.declared.net.Net.TheVariants.{Filter as FilterLeaf, Serial, rolls-Filter, rolls-Serial}
-use Rattle.sn_net.specs.Filter.{filter_answer}
+use Rattle.sn_net.specs.Answer.{filter_answer}
+use Rattle.sn_record.proofs.Scores.{is_match-Matches}
 use Rattle.std.proofs.lemmas.Bool.{false≢true, and_parts}
 use Rattle.sn_net.specs.Net.{chain_step, is_chain}
-use Rattle.sn_net.specs.Meaning.{ModelItem, Rec, Fault, Stuck, is_stuck, holds_stuck, is_match, answer, one_step, one}
-
--- the test of a match holds exactly where there is one
-pub is_match-Matches : (r : Entries) (v : Labels) → IsTrue (is_match r v) ↔ Matches r v
-is_match-Matches r v =
-    let law = list_all-entries (contains_key r) v in
-    let each = list_all-map (contains_key r) (λ e. e.0) _ in
-    (λ test. law.0 (sym each ∙ test), λ matches. each ∙ law.1 matches)
+use Rattle.sn_net.specs.Meaning.{ModelItem, Rec, Fault, Stuck, is_stuck, holds_stuck, answer, one_step, one}
 
 -- a filter answers a record that matches its pattern
-pub answer-match : (f : Filter) (r : Entries) → Matches r f.pattern → answer f (Rec r) ≡ map Rec (filter_answer f r)
-answer-match f r matches = ap (λ b. cond b (map Rec (filter_answer f r)) (Stuck f.place ∷ [])) ((is_match-Matches r f.pattern).1 matches)
+pub answer-match : (f : Filter) (r : Entries) → Matches r f.pattern → answer f (Rec r) ≡ filter_answer f r
+answer-match f r matches = ap (λ b. cond b (filter_answer f r) (Stuck f.place ∷ [])) ((is_match-Matches r f.pattern).1 matches)
 
 -- a record that does not match is stuck
 pub answer-no_match : (f : Filter) (r : Entries) → ¬ Matches r f.pattern → answer f (Rec r) ≡ Stuck f.place ∷ []
 answer-no_match f r apart =
-    elim (is_match r f.pattern) as (λ b. is_match r f.pattern ≡ b → cond b (map Rec (filter_answer f r)) (Stuck f.place ∷ []) ≡ Stuck f.place ∷ []) [
+    elim (is_match r f.pattern) as (λ b. is_match r f.pattern ≡ b → cond b (filter_answer f r) (Stuck f.place ∷ []) ≡ Stuck f.place ∷ []) [
       | true ↦ λ test. absurd (apart ((is_match-Matches r f.pattern).0 test))
       | false ↦ λ test. refl
     ] refl

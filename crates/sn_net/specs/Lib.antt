@@ -1,4 +1,6 @@
 pub mod Filter
+pub mod Item
+pub mod Answer
 pub mod Net
 pub mod Meaning
 pub mod Face

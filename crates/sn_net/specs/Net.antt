@@ -1,10 +1,10 @@
 -- Networks, by the filters in them and by their nodes.
 use Rattle.std.specs.Prelude.{ℕ, ◌+◌, Bool, true, false, ◌&&◌, IsTrue, List, [], ◌∷◌, ◌++◌, All, sum}
-use Rattle.std.specs.List.{flat_map, list_all}
+use Rattle.std.specs.List.{flat_map}
 use Rattle.sn_net.specs.declared.filter.Filter.{Filter}
 use Rattle.sn_net.specs.declared.net.Net.{Net, fold-Net}
 use Rattle.sn_net.specs.declared.net.Net.TheOpen.{Net-F}
-use Rattle.sn_net.specs.Filter.{is_plain, IsClosed, IsPlain}
+use Rattle.sn_net.specs.Filter.{IsClosed}
 
 -- those of one level, with those of each part in its place
 abbrev pub filters_step : Net-F (List Filter) → List Filter
@@ -52,26 +52,7 @@ chain_step (Net-F.Split place merge body tag) = false
 abbrev pub is_chain : Net → Bool
 is_chain = fold-Net Bool chain_step
 
--- a filter sets each label at a value that the record has
-abbrev pub is_plain_filter : Filter → Bool
-is_plain_filter filter = list_all (λ template. list_all is_plain template.parts) filter.templates
-
--- one level, with whether each part is a chain of such filters in its place
-abbrev pub plain_chain_step : Net-F Bool → Bool
-plain_chain_step (Net-F.Box place number) = false
-plain_chain_step (Net-F.Filter filter) = is_plain_filter filter
-plain_chain_step (Net-F.Sync place patterns) = false
-plain_chain_step (Net-F.Serial left right) = left && right
-plain_chain_step (Net-F.Choice place merge branches faces) = false
-plain_chain_step (Net-F.Star place merge body exit guard) = false
-plain_chain_step (Net-F.Split place merge body tag) = false
-
--- it is made of filters in series that compute nothing
-abbrev pub is_plain_chain : Net → Bool
-is_plain_chain = fold-Net Bool plain_chain_step
-
--- it is made of closed filters in series that compute nothing
+-- it is made of closed filters in series
 pub record IsClosedChain (net : Net) : Type 0 where
   pub chain : IsTrue (is_chain net)
   pub closed : AllClosed net
-  pub plain : All IsPlain (filters net)

@@ -1,7 +1,5 @@
 ghost use Rattle.std.specs.Prelude.{◌≡◌, ◌≢◌, IfOk, IsTrue, ◌↔◌, All};
-ghost use Rattle.std.specs.List.{list_all};
-ghost use Rattle.sn_net.specs.Net.{is_plain_filter};
-ghost use Rattle.sn_net.specs.Filter.{field, tag, target, source, is_from, is_over, is_plain, IsClosedTemplate, IsClosed};
+ghost use Rattle.sn_net.specs.Filter.{field, tag, target, is_from, is_over, IsClosedTemplate, IsClosed};
 
 use crate::list::append;
 use sn_list::{Memory, Seq};
@@ -87,28 +85,6 @@ impl Part {
         }
     }
 
-    /// Whether the part sets its label at a value that the record has, and computes none.
-    pub fn is_plain(&self) -> bool
-        ensures { result ≡ is_plain self.now }
-    {
-        match self {
-            Part::Copy(_) | Part::Rename(_, _) => true,
-            Part::Compute(_, _) => false,
-        }
-    }
-
-    /// The label whose value a plain part takes.
-    pub fn source(&self) -> Label
-        requires { IsTrue (is_plain self.now) }
-        ensures { result ≡ source self.now }
-    {
-        match self {
-            Part::Copy(label) => *label,
-            Part::Rename(_, old) => field(*old),
-            Part::Compute(_, _) => unreachable!(),
-        }
-    }
-
     /// Whether each label that the part copies, renames or computes from is in `pattern`.
     fn is_from(&self, pattern: &LabelSet) -> bool
         ensures { result ≡ is_from pattern.now self.now }
@@ -169,33 +145,7 @@ impl Template {
     }
 }
 
-impl Template {
-    /// Whether no part computes.
-    fn is_plain(&self) -> bool
-        ensures { result ≡ list_all is_plain self.now.parts }
-    {
-        for part in self.parts.as_slice() {
-            if !part.is_plain() {
-                return false;
-            }
-        }
-        true
-    }
-}
-
 impl Filter {
-    /// Whether it sets each label at a value that the record has, and computes none.
-    pub fn is_plain(&self) -> bool
-        ensures { result ≡ is_plain_filter self.now }
-    {
-        for template in self.templates.as_slice() {
-            if !template.is_plain() {
-                return false;
-            }
-        }
-        true
-    }
-
     /// Whether each template takes its values from the pattern alone, and sets no label twice.
     pub fn is_closed(&self) -> bool
         ensures { IsTrue result ↔ IsClosed self.now }

@@ -7,6 +7,7 @@ mod faces;
 mod filter;
 mod list;
 mod net;
+mod tags;
 
 pub use expr::{BoxProgram, Boxes, BuiltinKind, Expr, Fun};
 pub use faced::Faced;
@@ -14,6 +15,7 @@ pub use faces::{copy_sets, face};
 pub use filter::{Filter, Part, Template, is_over};
 pub use net::{Claim, Merge, Net};
 pub use sn_tagexpr::{BinOp, TagExpr};
+pub use tags::RecordTags;
 
 #[cfg(test)]
 mod tests;

@@ -1,5 +1,5 @@
 ghost use Rattle.std.specs.Prelude.{◌≡◌};
-ghost use Rattle.sn_net.specs.Net.{is_chain, is_plain_chain};
+ghost use Rattle.sn_net.specs.Net.{is_chain};
 
 use crate::filter::Filter;
 use sn_list::{Boxed, Seq};
@@ -77,23 +77,6 @@ impl Net {
         match self {
             Net::Filter(_) => true,
             Net::Serial { left, right } => left.get().is_chain() && right.get().is_chain(),
-            Net::Box { .. }
-            | Net::Sync { .. }
-            | Net::Choice { .. }
-            | Net::Star { .. }
-            | Net::Split { .. } => false,
-        }
-    }
-
-    /// Whether it is made of filters in series that compute nothing.
-    pub fn is_plain_chain(&self) -> bool
-        ensures { result ≡ is_plain_chain self.now }
-    {
-        match self {
-            Net::Filter(filter) => filter.is_plain(),
-            Net::Serial { left, right } => {
-                left.get().is_plain_chain() && right.get().is_plain_chain()
-            }
             Net::Box { .. }
             | Net::Sync { .. }
             | Net::Choice { .. }

@@ -1,5 +1,5 @@
 -- Expressions over tags: where no tag of one is refused, each is among the labels.
-use Rattle.std.proofs.Common.{ℕ, ◌&&◌, IsTrue, List, sym, ap, ◌∙◌, subst, subst₂}
+use Rattle.std.proofs.Common.{ℕ, Bool, ◌&&◌, IsTrue, List, sym, ap, ◌∙◌, subst, subst₂}
 use Rattle.std.proofs.lemmas.Bool.{and_from}
 use Rattle.sn_ast.specs.declared.tag_expr.TExpr.{TExpr, fold-roll-TExpr}
 use Rattle.sn_ast.specs.declared.tag_expr.TForm.{TForm, fold-TForm}
@@ -7,7 +7,8 @@ use Rattle.sn_ast.specs.declared.tag_expr.TForm.TheFolds.{fold-roll-TForm, ind-T
 use Rattle.sn_ast.specs.declared.tag_expr.TForm.TheOpen.{TForm-F}
 use Rattle.sn_ast.specs.declared.tag_expr.TForm.TheViews.{roll-TForm, roll-TExpr}
 use Rattle.sn_names.specs.Names.{number_in}
-use Rattle.sn_net.specs.Filter.{is_over, over_step, tag}
+use Rattle.sn_net.specs.Filter.{is_over, tag}
+use Rattle.sn_tagexpr.specs.Evaluation.{every_tag_step}
 use Rattle.sn_record.specs.LabelSet.{Labels, contains}
 use Rattle.sn_scope.specs.Tags.{Check, bin_op, tag_expr, tag_step, tags_required, tags_step}
 use Rattle.sn_scope.specs.declared.refusal.Reason.{Reason}
@@ -19,6 +20,10 @@ use Rattle.sn_tagexpr.specs.declared.expr.TagExpr.TheVariants as made
 module _ (names : List (List ℕ)) (pattern : Labels) (reason : Reason) where
   abbrev Over : TagExpr → Type 0
   Over e = IsTrue (is_over pattern e)
+
+  -- one level of it
+  abbrev over_step : TagExpr-F Bool → Bool
+  over_step = every_tag_step (λ id. contains pattern (tag id))
 
   -- the check and the expression of a form
   abbrev form_check : TForm → Check
@@ -46,22 +51,22 @@ module _ (names : List (List ℕ)) (pattern : Labels) (reason : Reason) where
 
   -- an expression is over the labels where its parts are
   over_neg : (e : TagExpr) → Over e → Over (made.Neg e)
-  over_neg e over = ap (is_over pattern) (sym (made.rolls-Neg e)) ∙ fold-roll-TagExpr _ (over_step pattern) (TagExpr-F.Neg e) ∙ over
+  over_neg e over = ap (is_over pattern) (sym (made.rolls-Neg e)) ∙ fold-roll-TagExpr _ over_step (TagExpr-F.Neg e) ∙ over
 
   over_not : (e : TagExpr) → Over e → Over (made.Not e)
-  over_not e over = ap (is_over pattern) (sym (made.rolls-Not e)) ∙ fold-roll-TagExpr _ (over_step pattern) (TagExpr-F.Not e) ∙ over
+  over_not e over = ap (is_over pattern) (sym (made.rolls-Not e)) ∙ fold-roll-TagExpr _ over_step (TagExpr-F.Not e) ∙ over
 
   over_op : (op : _) (e f : TagExpr) → Over e × Over f → Over (made.Op op e f)
-  over_op op e f over = ap (is_over pattern) (sym (made.rolls-Op op e f)) ∙ fold-roll-TagExpr _ (over_step pattern) (TagExpr-F.Op op e f) ∙ and_from (is_over pattern e) (is_over pattern f) over.0 over.1
+  over_op op e f over = ap (is_over pattern) (sym (made.rolls-Op op e f)) ∙ fold-roll-TagExpr _ over_step (TagExpr-F.Op op e f) ∙ and_from (is_over pattern e) (is_over pattern f) over.0 over.1
 
   over_and : (e f : TagExpr) → Over e × Over f → Over (made.And e f)
-  over_and e f over = ap (is_over pattern) (sym (made.rolls-And e f)) ∙ fold-roll-TagExpr _ (over_step pattern) (TagExpr-F.And e f) ∙ and_from (is_over pattern e) (is_over pattern f) over.0 over.1
+  over_and e f over = ap (is_over pattern) (sym (made.rolls-And e f)) ∙ fold-roll-TagExpr _ over_step (TagExpr-F.And e f) ∙ and_from (is_over pattern e) (is_over pattern f) over.0 over.1
 
   over_or : (e f : TagExpr) → Over e × Over f → Over (made.Or e f)
-  over_or e f over = ap (is_over pattern) (sym (made.rolls-Or e f)) ∙ fold-roll-TagExpr _ (over_step pattern) (TagExpr-F.Or e f) ∙ and_from (is_over pattern e) (is_over pattern f) over.0 over.1
+  over_or e f over = ap (is_over pattern) (sym (made.rolls-Or e f)) ∙ fold-roll-TagExpr _ over_step (TagExpr-F.Or e f) ∙ and_from (is_over pattern e) (is_over pattern f) over.0 over.1
 
   over_cond : (c e f : TagExpr) → (Over c × Over e) × Over f → Over (made.Cond c e f)
-  over_cond c e f over = ap (is_over pattern) (sym (made.rolls-Cond c e f)) ∙ fold-roll-TagExpr _ (over_step pattern) (TagExpr-F.Cond c e f)
+  over_cond c e f over = ap (is_over pattern) (sym (made.rolls-Cond c e f)) ∙ fold-roll-TagExpr _ over_step (TagExpr-F.Cond c e f)
       ∙ and_from (is_over pattern c) (is_over pattern e && is_over pattern f) over.0.0 (and_from (is_over pattern e) (is_over pattern f) over.0.1 over.1)
 
   two : (e f : TExpr) → ExprTells e → ExprTells f → Tells (λ least. check_of f (check_of e least)) (Over (expr_of e) × Over (expr_of f))
@@ -73,9 +78,9 @@ module _ (names : List (List ℕ)) (pattern : Labels) (reason : Reason) where
       (λ x y is. subst (λ z. FormTells (roll-TForm z)) is (level (map-TForm _ _ TForm TExpr (λ e. e.0) (λ e. e.0) y) (elim y as (λ z. Tells
       (tags_step names pattern reason (map-TForm TForm TExpr Check Check form_check check_of (map-TForm _ _ TForm TExpr (λ e. e.0) (λ e. e.0) z)))
       (Over (tag_step names (map-TForm TForm TExpr TagExpr TagExpr form_expr expr_of (map-TForm _ _ TForm TExpr (λ e. e.0) (λ e. e.0) z))))) [
-        | TForm-F.Number n ↦ λ least none. (none, ap (is_over pattern) (sym (made.rolls-Number n)) ∙ fold-roll-TagExpr _ (over_step pattern) (TagExpr-F.Number n))
+        | TForm-F.Number n ↦ λ least none. (none, ap (is_over pattern) (sym (made.rolls-Number n)) ∙ fold-roll-TagExpr _ over_step (TagExpr-F.Number n))
         | TForm-F.Tag name ↦ tells_weaker _ _ _ (required_tells (contains pattern (tag (number_in names name.text))) reason name.at)
-            (λ there. ap (is_over pattern) (sym (made.rolls-Tag (number_in names name.text))) ∙ fold-roll-TagExpr _ (over_step pattern) (TagExpr-F.Tag (number_in names name.text)) ∙ there)
+            (λ there. ap (is_over pattern) (sym (made.rolls-Tag (number_in names name.text))) ∙ fold-roll-TagExpr _ over_step (TagExpr-F.Tag (number_in names name.text)) ∙ there)
         | TForm-F.Neg e ↦ tells_weaker (check_of e.0) (Over (expr_of e.0)) _ e.1 (over_neg (expr_of e.0))
         | TForm-F.Not e ↦ tells_weaker (check_of e.0) (Over (expr_of e.0)) _ e.1 (over_not (expr_of e.0))
         | TForm-F.Op o e f ↦ tells_weaker _ _ _ (two e.0 f.0 e.1 f.1) (over_op (bin_op o) (expr_of e.0) (expr_of f.0))
