@@ -1,0 +1,9 @@
+pub mod Entries
+pub mod Faults
+pub mod Fits
+pub mod Leads
+pub mod Lines
+pub mod Lists
+pub mod Once
+pub mod Shorter
+pub mod Values
