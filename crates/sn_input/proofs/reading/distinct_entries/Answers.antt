@@ -1,0 +1,18 @@
+use Rattle.std.proofs.Common.{ap, inl, inr}
+use Rattle.std.specs.Prelude.{Err}
+use Rattle.std.proofs.lemmas.Result.{err_from_is_err_and}
+use Rattle.sn_input.proofs.Going.{twice_ends, bad_ends}
+use Rattle.sn_input.proofs.reading.distinct_entries.Goals as goal
+
+pub returns-in_err-refuse_repeats-in-Ok-clause-refused : goal.returns-in_err-refuse_repeats-in-Ok-clause-refused
+returns-in_err-refuse_repeats-in-Ok-clause-refused c =
+    let p = err_from_is_err_and c.from_residual.result c.from_residual.ensures.1 in
+    let refused = rw c.as_slice.ensures at c.in_err-refuse_repeats-in-Ok.ensures.refused in
+    rw (p.1, p.2)
+    (elim refused [
+      | inl memory ↦ inl memory
+      | inr again ↦ inr (λ input. twice_ends input c.args.number c.args.line.now c.in-Ok.entries _ c.in-Ok.ensures.answer again)
+    ])
+
+pub returns-in-Err-Wrong-clause-refused : goal.returns-in-Err-Wrong-clause-refused
+returns-in-Err-Wrong-clause-refused c = inr (λ input. bad_ends input c.args.number c.args.line.now c.requires (c.in-Err-Wrong.ensures.wrong (ap Err c.in-Err-Wrong.field-0-is)))

@@ -1,0 +1,5 @@
+pub mod Line
+pub mod Numbered
+pub mod Reading
+pub mod Seen
+pub mod Steps
