@@ -1,0 +1,7 @@
+//! What is printed of a record and of a stream.
+#![tactic(auto)]
+
+pub mod laws;
+mod line;
+
+pub use line::line_of;
