@@ -1,63 +1,76 @@
--- A chain of filters over a stream of records, step by step.
-use Rattle.std.proofs.Common.{◌≡◌, ℕ, zero, suc, ◌+◌, ◌<◌, ◌||◌, Bool, true, false, IsTrue, List, [], ◌∷◌, ◌++◌, length, get_or, take, map, None, Some, IfSome, is_some, refl, sym, ap, ◌∙◌, subst, arith}
+-- A chain of filters over a stream of items, step by step.
+use Rattle.std.proofs.Common.{◌≡◌, ℕ, zero, suc, ◌+◌, ◌<◌, ◌||◌, Bool, true, false, IsTrue, List, [], ◌∷◌, ◌++◌, length, get_or, take, map, refl, sym, ap, ◌∙◌, subst, arith}
 use Rattle.std.specs.List.{flat_map}
-use Rattle.std.specs.FinMap.{get, insert}
-use Rattle.std.proofs.lemmas.Bool.{false≢true}
+use Rattle.std.specs.Prelude.{Result, Ok, Err}
 use Rattle.std.proofs.lemmas.Grind.{flat_map-append}
 use Rattle.std.proofs.lemmas.List.{append-nil, map-append, map_more}
 use Rattle.std.proofs.lemmas.List.Folds.{list_any-append}
-use Rattle.sn_record.specs.LabelSet.{Labels}
+use Rattle.sn_record.specs.declared.item.Item.{Item}
+use Rattle.sn_record.specs.declared.item.Item.TheVariants.{Rec}
 use Rattle.sn_record.specs.Record.{Entries, Matches}
-use Rattle.sn_net.specs.declared.filter.Part.{Part}
 use Rattle.sn_net.specs.declared.filter.Filter.{Filter}
 use Rattle.sn_net.specs.declared.net.Net.{Net}
 use Rattle.sn_net.specs.declared.net.Net.TheVariants.{Serial}
-use Rattle.sn_net.specs.Filter.{source, target, is_plain, IsClosedTemplate, template_record, filter_answer}
+use Rattle.sn_net.specs.Answer.{filter_answer}
+use Rattle.sn_net.specs.Item.{ModelItem, is_stuck, holds_stuck, modelled}
 use Rattle.sn_net.specs.Net.{is_chain}
-use Rattle.sn_net.specs.Meaning.{Rec, is_stuck, holds_stuck, answer, one}
-use Rattle.sn_net.proofs.Closed.{with_parts}
-use Rattle.sn_net.proofs.Emitted.{has_source, template_record_more}
+use Rattle.sn_net.specs.Meaning.{answer, one}
+use Rattle.sn_top.specs.declared.chain.ChainFault.{ChainFault}
+use Rattle.sn_top.specs.declared.chain.ChainFault.TheVariants.{Memory}
 use Rattle.sn_net.proofs.Meanings.{answer-match, answer-no_match, one-Serial, one-stuck}
 
--- the record of the parts before one, with what that one sets
-pub made_more : (pattern : Labels) (r : Entries) (parts : List Part) (i : ℕ) (d : Part) (made more : Entries) → IsClosedTemplate pattern (with_parts parts) → IsTrue (is_plain (get_or parts i d)) → Matches r pattern → i < length parts
-    → made ≡ template_record r (with_parts (take i parts)) → IfSome (get r (source (get_or parts i d))) (λ value. more ≡ insert made (target (get_or parts i d)) value)
-    → more ≡ template_record r (with_parts (take (i + 1) parts))
-made_more pattern r parts i d made more closed plain matches here was set =
-    let part = get_or parts i d in
-    elim (get r (source part)) as (λ x. get r (source part) ≡ x → IfSome x (λ value. more ≡ insert made (target part) value) → more ≡ template_record r (with_parts (take (i + 1) parts))) [
-      | None ↦ λ none _. absurd (false≢true (sym (ap is_some none) ∙ has_source pattern r parts i d closed plain matches here))
-      | Some v ↦ λ has is. is ∙ ap (λ (m : Entries). insert m (target part) v) was ∙ sym (template_record_more pattern r parts i d v closed here has)
-    ] refl set
+module _ (f : Filter) (item : Item) (r : Entries) (is : item ≡ Rec r) where
+  -- a record that matches is answered by the templates
+  pub answer_templates : Matches r f.pattern → answer f (modelled item) ≡ filter_answer f r
+  answer_templates matches = ap (λ q. answer f (modelled q)) is ∙ answer-match f r matches
 
--- the answers to the records before one, with those to that one
-pub answered_more : (f : Filter) (rs : List Entries) (i : ℕ) (r : Entries) (out more : List Entries) → i < length rs → r ≡ get_or rs i r → Matches r f.pattern
-    → flat_map (answer f) (map Rec (take i rs)) ≡ map Rec out → more ≡ out ++ filter_answer f r → flat_map (answer f) (map Rec (take (i + 1) rs)) ≡ map Rec more
-answered_more f rs i r out more here is matches was answered =
-    let before = map Rec (take i rs) in
-    ap (flat_map (answer f)) (map_more Rec rs i r here ∙ ap (λ q. before ++ Rec q ∷ []) (sym is))
-    ∙ flat_map-append (answer f) before (Rec r ∷ [])
-    ∙ (λ j. was j ++ (append-nil (answer f (Rec r)) ∙ answer-match f r matches) j)
-    ∙ sym (ap (map Rec) answered ∙ map-append Rec out (filter_answer f r))
+  -- a record that does not match is stuck
+  pub answer_stuck : ¬ Matches r f.pattern → IsTrue (holds_stuck (answer f (modelled item)))
+  answer_stuck apart = ap (λ q. holds_stuck (answer f (modelled q))) is ∙ ap holds_stuck (answer-no_match f r apart)
+
+  -- the items so far with the answer to one more
+  pub answered_by : Matches r f.pattern → (out more answers : List Item) → more ≡ out ++ answers → map modelled answers ≡ filter_answer f r → map modelled more ≡ map modelled out ++ answer f (modelled item)
+  answered_by matches out more answers appended made =
+      ap (map modelled) appended ∙ map-append modelled out answers ∙ ap (λ (xs : List ModelItem). map modelled out ++ xs) (made ∙ sym (answer_templates matches))
+
+-- the answers to the items before one, with those to that one
+pub answered_more : (f : Filter) (items : List Item) (i : ℕ) (item : Item) (out more : List Item) → i < length items → item ≡ get_or items i item
+    → flat_map (answer f) (map modelled (take i items)) ≡ map modelled out → map modelled more ≡ map modelled out ++ answer f (modelled item)
+    → flat_map (answer f) (map modelled (take (i + 1) items)) ≡ map modelled more
+answered_more f items i item out more here is was answered =
+    let before = map modelled (take i items) in
+    ap (flat_map (answer f)) (map_more modelled items i item here ∙ ap (λ q. before ++ modelled q ∷ []) (sym is))
+    ∙ flat_map-append (answer f) before (modelled item ∷ [])
+    ∙ (λ j. was j ++ append-nil (answer f (modelled item)) j)
+    ∙ sym answered
 
 -- a choice whose second part holds
 or_true : (b : Bool) → (b || true) ≡ true
 or_true true = refl
 or_true false = refl
 
--- a record that does not match leaves something stuck
-pub stuck_at : (f : Filter) (rs : List Entries) (i : ℕ) (r : Entries) → i < length rs → r ≡ get_or rs i r → ¬ Matches r f.pattern → IsTrue (holds_stuck (flat_map (answer f) (map Rec rs)))
-stuck_at f [] i r here is apart = absurd (omega arith)
-stuck_at f (x ∷ rs) zero r here is apart =
-    let rest = flat_map (answer f) (map Rec rs) in
-    list_any-append is_stuck (answer f (Rec x)) rest
-    ∙ ap (λ items. holds_stuck items || holds_stuck rest) (answer-no_match f x (subst (λ q. ¬ Matches q f.pattern) is apart))
-stuck_at f (x ∷ rs) (suc i) r here is apart =
-    list_any-append is_stuck (answer f (Rec x)) (flat_map (answer f) (map Rec rs))
-    ∙ ap (λ b. holds_stuck (answer f (Rec x)) || b) (stuck_at f rs i r (omega arith) is apart)
+-- an item whose answer is stuck leaves something stuck
+pub stuck_at : (f : Filter) (items : List Item) (i : ℕ) (item : Item) → i < length items → item ≡ get_or items i item → IsTrue (holds_stuck (answer f (modelled item)))
+    → IsTrue (holds_stuck (flat_map (answer f) (map modelled items)))
+stuck_at f [] i item here is stuck = absurd (omega arith)
+stuck_at f (x ∷ items) zero item here is stuck =
+    let rest = flat_map (answer f) (map modelled items) in
+    list_any-append is_stuck (answer f (modelled x)) rest
+    ∙ ap (λ b. b || holds_stuck rest) (subst (λ q. IsTrue (holds_stuck (answer f (modelled q)))) is stuck)
+stuck_at f (x ∷ items) (suc i) item here is stuck =
+    list_any-append is_stuck (answer f (modelled x)) (flat_map (answer f) (map modelled items))
+    ∙ ap (λ b. holds_stuck (answer f (modelled x)) || b) (stuck_at f items i item (omega arith) is stuck)
     ∙ or_true _
 
 -- what is stuck in the left part of a series leaves something stuck
-pub serial_stuck : (left right l : Net) (rs : List Entries) → IsTrue (is_chain right) → l ≡ left → IsTrue (holds_stuck (one l (map Rec rs))) → IsTrue (holds_stuck (one (Serial left right) (map Rec rs)))
-serial_stuck left right l rs chain is stuck =
-    ap holds_stuck (one-Serial left right (map Rec rs)) ∙ one-stuck right chain (one left (map Rec rs)) (subst (λ (net : Net). IsTrue (holds_stuck (one net (map Rec rs)))) is stuck)
+pub serial_stuck : (left right l : Net) (items : List Item) → IsTrue (is_chain right) → l ≡ left → IsTrue (holds_stuck (one l (map modelled items))) → IsTrue (holds_stuck (one (Serial left right) (map modelled items)))
+serial_stuck left right l items chain is stuck =
+    ap holds_stuck (one-Serial left right (map modelled items)) ∙ one-stuck right chain (one left (map modelled items)) (subst (λ (net : Net). IsTrue (holds_stuck (one net (map modelled items)))) is stuck)
+
+-- the fault of a result that is one; a refusal of one type is the refusal of another
+abbrev fault_in : {A : Type 0} → Result A ChainFault → ChainFault
+fault_in (Ok x) = Memory
+fault_in (Err fault) = fault
+
+pub same_fault : {A B : Type 0} (result : Result A ChainFault) (fault other : ChainFault) → result ≡ Err fault → result ≡ Err other → ◌≡◌ {A = Result B ChainFault} (Err fault) (Err other)
+same_fault result fault other is was = ap (λ (f : ChainFault). Err f) (ap fault_in (sym is ∙ was))

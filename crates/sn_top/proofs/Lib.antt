@@ -1,15 +1,8 @@
-pub mod Joined
-pub mod Plain
-pub mod Labels
-pub mod Lines
-pub mod Entries
-pub mod Inputs
-pub mod Entering
 pub mod Loading
 pub mod Printing
 pub mod Serving
 pub mod Served
-pub mod Distinct
 pub mod CommandLaws
 pub mod Chains
 pub mod Printed
+pub mod Told

@@ -1,5 +1,5 @@
 -- From what each step of printing a source gave to why it stopped, and what it printed.
-use Rattle.std.proofs.Common.{◌≡◌, ℕ, ◌≤◌, List, length, inl}
+use Rattle.std.proofs.Common.{◌≡◌, ℕ, ◌≤◌, List, length, None, refl, inl}
 use Rattle.std.specs.Prelude.{Ok, Err, Result}
 use Rattle.sn_io.specs.Told.{AppendsPrefix}
 use Rattle.sn_lexer.specs.Answer.{IsFault, LexesAs}
@@ -12,10 +12,10 @@ use Rattle.sn_parser.specs.declared.parsing.ParseFault.TheVariants as parse_faul
 use Rattle.sn_top.specs.declared.serve.TheConstants.{SOURCE_LIMIT}
 use Rattle.sn_top.specs.declared.status.Which.TheVariants.{Source, Input}
 use Rattle.sn_top.specs.declared.status.Refusal.{Refusal}
-use Rattle.sn_top.specs.declared.status.Refusal.TheVariants.{TooLarge, Source as SourceAt, NoMain, TooDeep, LargeTree, TooManyNames, NotBuilt}
+use Rattle.sn_top.specs.declared.status.Refusal.TheVariants.{TooLarge, Source as SourceAt, NoMain, TooDeep, LargeTree, TooManyNames, Line, NotBuilt}
 use Rattle.sn_top.specs.declared.status.Stop.{Stop}
-use Rattle.sn_top.specs.declared.status.Stop.TheVariants.{Refused, Unread, Memory, Write}
-use Rattle.sn_top.specs.Answer.{FindsText, WhyUnprinted}
+use Rattle.sn_top.specs.declared.status.Stop.TheVariants.{Refused, Faulted, Unread, Memory, Write}
+use Rattle.sn_top.specs.Answer.{FindsText, whole, WhyUnprinted}
 use Rattle.sn_top.specs.Seen.{File, Sink, SinkFailed, WhyUnread}
 use Rattle.sn_top.specs.Source.{FindsSource, HasText, WhyNoText, lex_stop, parse_stop}
 use Rattle.sn_top.proofs.Serving.{HasBytes, of_told}
@@ -41,7 +41,9 @@ module _ (source : File) (out : Sink) where
   text_unread same (Refused NoMain) why = absurd why
   text_unread same (Refused (LargeTree at)) why = absurd why
   text_unread same (Refused TooManyNames) why = absurd why
+  text_unread same (Refused (Line fault)) why = absurd why
   text_unread same (Refused NotBuilt) why = absurd why
+  text_unread same (Faulted fault) why = absurd why
   text_unread same (Unread Source) why = (why.1, same)
   text_unread same (Unread Input) why = cc
   text_unread same Memory why = inl same
@@ -58,13 +60,15 @@ module _ (source : File) (out : Sink) where
     no_text same (Refused NoMain) why = absurd why
     no_text same (Refused (LargeTree at)) why = absurd why
     no_text same (Refused TooManyNames) why = absurd why
+    no_text same (Refused (Line fault)) why = absurd why
     no_text same (Refused NotBuilt) why = absurd why
+    no_text same (Faulted fault) why = absurd why
     no_text same (Unread which) why = absurd why
     no_text same Memory why = inl same
     no_text same Write why = absurd why
 
-    pub finds_text : (text : List ℕ) → HasText bytes text → FindsText source.told (Ok text)
-    finds_text text h = of_told source.told bytes (Found (Ok text)) read.told (read.within, h)
+    pub finds_text : (text : List ℕ) → HasText bytes text → FindsText source.told (Ok (whole text))
+    finds_text text h = of_told source.told bytes (λ b. (length b ≤ SOURCE_LIMIT) × FindsSource b (Ok text) × ((whole text).ending ≡ None)) read.told (read.within, h, refl)
 
     pub text_cut : (text : List ℕ) → HasText bytes text → AppendsPrefix out.before out.now text → SinkFailed out → WhyUnprinted source out Write
-    text_cut text h part failed = (failed, (text, finds_text text h, part))
+    text_cut text h part failed = (failed, (whole text, finds_text text h, part))

@@ -1,36 +1,33 @@
--- Lines one after another.
-use Rattle.std.proofs.Common.{◌≡◌, ℕ, ◌+◌, ◌<◌, List, [], ◌∷◌, ◌++◌, length, get_or, take, drop, map, Option, refl, sym, ap, ◌∙◌, subst, append-nil}
-use Rattle.std.specs.List.{flat_map}
-use Rattle.std.proofs.lemmas.List.{take_more, take-append-drop}
-use Rattle.std.proofs.lemmas.List.Concat.{flat_map-append}
+-- Items that are printed one after another.
+use Rattle.std.proofs.Common.{◌≡◌, ℕ, ◌+◌, ◌<◌, List, ◌∷◌, ◌++◌, length, get_or, drop, map, Option, sym, ap, ◌∙◌, subst, append_assoc}
+use Rattle.std.proofs.lemmas.List.{drop_more}
+use Rattle.sn_record.specs.declared.item.Item.{Item}
+use Rattle.sn_record.specs.declared.item.Item.TheVariants.{Rec}
 use Rattle.sn_record.specs.Record.{Entries}
-use Rattle.sn_net.specs.Meaning.{Rec}
 use Rattle.sn_io.specs.Told.{appended, AppendsPrefix}
 use Rattle.sn_io.proofs.Told.{appended_twice, prefix_after, prefix_before}
-use Rattle.sn_top.specs.Line.{line}
-use Rattle.sn_top.specs.Meaning.{printed}
+use Rattle.sn_net.specs.Item.{ModelItem, modelled}
+use Rattle.sn_output.specs.Line.{line}
+use Rattle.sn_output.specs.Printed.{printed, ending}
 
-module _ {A : Type 0} (f : A → List ℕ) (xs : List A) (i : ℕ) (x : A) where
-  -- the lines as far as one item more
-  lines_more : i < length xs → x ≡ get_or xs i x → flat_map f (take (i + 1) xs) ≡ flat_map f (take i xs) ++ f x
-  lines_more within here =
-      ap (flat_map f) (take_more xs i x within ∙ ap (λ y. take i xs ++ y ∷ []) (sym here)) ∙ flat_map-append f (take i xs) (x ∷ []) ∙ ap (λ ys. flat_map f (take i xs) ++ ys) (append-nil (f x))
+-- the item at place i is a record
+module _ (names : List (List ℕ)) (items : List Item) (i : ℕ) (x : Item) (r : Entries) (within : i < length items) (at : x ≡ get_or items i x) (is : x ≡ Rec r) where
+  -- what is still to come from it on
+  abbrev after : List ModelItem
+  after = map modelled (drop (i + 1) items)
 
-  -- all lines, cut after that item
-  lines_cut : i < length xs → x ≡ get_or xs i x → (flat_map f (take i xs) ++ f x) ++ flat_map f (drop (i + 1) xs) ≡ flat_map f xs
-  lines_cut within here =
-      ap (λ ys. ys ++ flat_map f (drop (i + 1) xs)) (sym (lines_more within here)) ∙ sym (flat_map-append f (take (i + 1) xs) (drop (i + 1) xs)) ∙ ap (flat_map f) (take-append-drop (i + 1) xs)
+  here_first : {A : Type 0} (f : List ModelItem → A) → f (map modelled (drop i items)) ≡ f (modelled (Rec r) ∷ after)
+  here_first f = ap (λ xs. f (map modelled xs)) (drop_more items i x within ∙ ap (λ y. y ∷ drop (i + 1) items) (sym at)) ∙ ap (λ q. f (modelled q ∷ after)) is
 
-  pub print_step : (first before now : Option (List ℕ)) → i < length xs → x ≡ get_or xs i x → before ≡ appended first (flat_map f (take i xs)) → now ≡ appended before (f x) → now ≡ appended first (flat_map f (take (i + 1) xs))
-  print_step first before now within here was is =
-      is ∙ ap (λ h. appended h (f x)) was ∙ appended_twice first (flat_map f (take i xs)) (f x) ∙ ap (appended first) (sym (lines_more within here))
+  pub ending_more : ending (map modelled (drop i items)) ≡ ending (map modelled items) → ending after ≡ ending (map modelled items)
+  ending_more same = sym (here_first ending) ∙ same
 
-  pub print_part : (first before now : Option (List ℕ)) → i < length xs → x ≡ get_or xs i x → before ≡ appended first (flat_map f (take i xs)) → AppendsPrefix before now (f x) → AppendsPrefix first now (flat_map f xs)
-  print_part first before now within here was part =
-      subst (AppendsPrefix first now) (lines_cut within here)
-      (prefix_before first now (flat_map f (take i xs) ++ f x) (flat_map f (drop (i + 1) xs)) (prefix_after first before now (flat_map f (take i xs)) (f x) was part))
+  module _ (done : List ℕ) (rest : done ++ printed names (map modelled (drop i items)) ≡ printed names (map modelled items)) (first before now : Option (List ℕ)) (was : before ≡ appended first done) where
+    pub rest_more : (done ++ line names r) ++ printed names after ≡ printed names (map modelled items)
+    rest_more = append_assoc done (line names r) (printed names after) ∙ ap (λ (bytes : List ℕ). done ++ bytes) (sym (here_first (printed names))) ∙ rest
 
--- records are printed line by line
-pub printed_records : (names : List (List ℕ)) (rs : List Entries) → printed names (map Rec rs) ≡ flat_map (line names) rs
-printed_records names [] = refl
-printed_records names (r ∷ rs) = ap (λ bytes. line names r ++ bytes) (printed_records names rs)
+    pub held_more : now ≡ appended before (line names r) → now ≡ appended first (done ++ line names r)
+    held_more got = got ∙ ap (λ (h : Option (List ℕ)). appended h (line names r)) was ∙ appended_twice first done (line names r)
+
+    pub cut_there : AppendsPrefix before now (line names r) → AppendsPrefix first now (printed names (map modelled items))
+    cut_there part = subst (AppendsPrefix first now) rest_more (prefix_before first now (done ++ line names r) (printed names after) (prefix_after first before now done (line names r) was part))

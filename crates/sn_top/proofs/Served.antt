@@ -6,18 +6,19 @@ use Rattle.sn_io.proofs.Told.{appended_none}
 use Rattle.sn_top.specs.declared.words.Command.{Command}
 use Rattle.sn_top.specs.declared.status.Status.{Status}
 use Rattle.sn_top.specs.declared.status.Status.TheVariants as status
-use Rattle.sn_top.specs.declared.status.Refusal.TheVariants.{TooLarge, Source as SourceAt, NoMain, TooDeep, LargeTree, TooManyNames, NotBuilt}
+use Rattle.sn_top.specs.declared.status.Refusal.TheVariants.{TooLarge, Source as SourceAt, NoMain, TooDeep, LargeTree, TooManyNames, Line, NotBuilt}
 use Rattle.sn_top.specs.declared.status.Stop.{Stop}
-use Rattle.sn_top.specs.declared.status.Stop.TheVariants.{Refused, Unread, Memory, Write}
+use Rattle.sn_top.specs.declared.status.Stop.TheVariants.{Refused, Faulted, Unread, Memory, Write}
+use Rattle.sn_top.specs.declared.status.LineFault.TheVariants as wrong
 use Rattle.sn_top.specs.Status.{stop_status, stop_line}
 use Rattle.sn_top.specs.Words.{source_of, input_of}
 use Rattle.sn_top.specs.Seen.{GotLine}
-use Rattle.sn_top.specs.Answer.{Outside, FindsFor, WhyEnded, IsAnswered, HasUnread, IsCutShort, IsUnwritten, IsAnsweredFor, OfCommand, IsCutShortFor, GotPart}
+use Rattle.sn_top.specs.Answer.{Outside, whole, FindsFor, WhyEnded, IsAnswered, HasUnread, IsCutShort, IsUnwritten, IsAnsweredFor, OfCommand, IsCutShortFor, GotPart}
 
 module _ (command : Command) (outside : Outside) where
   -- the whole output was printed, and nothing was said on `err`
-  pub done : (p : List ℕ) → FindsFor command outside.file (Ok p) → outside.out.now ≡ appended outside.out.before p → outside.err.now ≡ outside.err.before → IsAnswered command outside status.Ok
-  done p finds out_got err_same = record { found = Ok p; finds = finds; status_is = refl; out_got = out_got; err_got = inl (err_same ∙ sym (appended_none outside.err.before)) }
+  pub done : (p : List ℕ) → FindsFor command outside.file (Ok (whole p)) → outside.out.now ≡ appended outside.out.before p → outside.err.now ≡ outside.err.before → IsAnswered command outside status.Ok
+  done p finds out_got err_same = record { found = Ok (whole p); finds = finds; status_is = refl; out_got = out_got; err_got = inl (err_same ∙ sym (appended_none outside.err.before)) }
 
   abbrev Stopped : Stop → Type 0
   Stopped why = WhyEnded command outside.file outside.out why
@@ -27,6 +28,7 @@ module _ (command : Command) (outside : Outside) where
 
   pub answered : (why : Stop) → Stopped why → Told why → stop_status why ≢ status.Read → stop_status why ≢ status.Memory → stop_status why ≢ status.Write → IsAnswered command outside (stop_status why)
   answered (Refused refusal) stopped line not_read not_memory not_write = record { found = Err refusal; finds = stopped.0; status_is = refl; out_got = stopped.1 ∙ sym (appended_none outside.out.before); err_got = line }
+  answered (Faulted fault) stopped line not_read not_memory not_write = record { found = Ok (record { bytes = stopped.0; ending = Some fault }); finds = stopped.1; status_is = refl; out_got = stopped.2; err_got = line }
   answered (Unread which) stopped line not_read not_memory not_write = absurd (not_read refl)
   answered Memory stopped line not_read not_memory not_write = absurd (not_memory refl)
   answered Write stopped line not_read not_memory not_write = absurd (not_write refl)
@@ -38,7 +40,11 @@ module _ (command : Command) (outside : Outside) where
   unread (Refused (TooDeep at)) stopped line is = cc
   unread (Refused (LargeTree at)) stopped line is = cc
   unread (Refused TooManyNames) stopped line is = cc
+  unread (Refused (Line (wrong.BadLine n))) stopped told is = cc
+  unread (Refused (Line (wrong.Twice n kind name))) stopped told is = cc
+  unread (Refused (Line (wrong.TooMany n))) stopped told is = cc
   unread (Refused NotBuilt) stopped line is = cc
+  unread (Faulted fault) stopped line is = cc
   unread (Unread which) stopped line is = record { which = which; why = stopped.0; out_same = stopped.1; err_got = line }
   unread Memory stopped line is = cc
   unread Write stopped line is = cc
@@ -50,7 +56,11 @@ module _ (command : Command) (outside : Outside) where
   cut_short (Refused (TooDeep at)) stopped line is = cc
   cut_short (Refused (LargeTree at)) stopped line is = cc
   cut_short (Refused TooManyNames) stopped line is = cc
+  cut_short (Refused (Line (wrong.BadLine n))) stopped told is = cc
+  cut_short (Refused (Line (wrong.Twice n kind name))) stopped told is = cc
+  cut_short (Refused (Line (wrong.TooMany n))) stopped told is = cc
   cut_short (Refused NotBuilt) stopped line is = cc
+  cut_short (Faulted fault) stopped line is = cc
   cut_short (Unread which) stopped line is = cc
   cut_short Memory stopped line is = record { out_got = stopped; err_got = line }
   cut_short Write stopped line is = cc
@@ -62,7 +72,11 @@ module _ (command : Command) (outside : Outside) where
   unwritten (Refused (TooDeep at)) stopped line is = cc
   unwritten (Refused (LargeTree at)) stopped line is = cc
   unwritten (Refused TooManyNames) stopped line is = cc
+  unwritten (Refused (Line (wrong.BadLine n))) stopped told is = cc
+  unwritten (Refused (Line (wrong.Twice n kind name))) stopped told is = cc
+  unwritten (Refused (Line (wrong.TooMany n))) stopped told is = cc
   unwritten (Refused NotBuilt) stopped line is = cc
+  unwritten (Faulted fault) stopped line is = cc
   unwritten (Unread which) stopped line is = cc
   unwritten Memory stopped line is = cc
   unwritten Write stopped line is = record { out_failed = stopped; err_got = line }

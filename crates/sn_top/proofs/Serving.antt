@@ -1,7 +1,6 @@
 -- From what each step of a run gave to why it stopped, and what it printed.
-use Rattle.std.proofs.Common.{◌≡◌, ℕ, ◌<◌, ◌≤◌, List, length, Option, None, Some, refl, sym, ap, ◌∙◌, subst, arith, inl, inr}
+use Rattle.std.proofs.Common.{◌≡◌, ℕ, ◌<◌, ◌≤◌, List, length, map, Option, None, Some, refl, sym, ap, subst, arith, inl, inr}
 use Rattle.std.specs.Prelude.{Ok, IfSome, ◌⊎◌}
-use Rattle.std.specs.List.{flat_map}
 use Rattle.sn_io.specs.Causes.{Rose}
 use Rattle.sn_io.specs.Told.{AppendsPrefix}
 use Rattle.sn_top.specs.declared.load.Program.{Program}
@@ -9,18 +8,18 @@ use Rattle.sn_top.specs.declared.load.Answered.{Answered}
 use Rattle.sn_top.specs.declared.print.PrintFault.{PrintFault}
 use Rattle.sn_top.specs.declared.print.PrintFault.TheVariants as print_fault
 use Rattle.sn_top.specs.declared.status.Which.TheVariants.{Source, Input}
-use Rattle.sn_top.specs.declared.status.Refusal.TheVariants.{TooLarge, Source as SourceAt, NoMain, TooDeep, LargeTree, TooManyNames, NotBuilt}
+use Rattle.sn_top.specs.declared.status.Refusal.TheVariants.{TooLarge, Source as SourceAt, NoMain, TooDeep, LargeTree, TooManyNames, Line, NotBuilt}
 use Rattle.sn_top.specs.declared.status.Refusal.{Refusal}
 use Rattle.sn_top.specs.declared.status.Stop.{Stop}
-use Rattle.sn_top.specs.declared.status.Stop.TheVariants.{Refused, Unread, Memory, Write}
+use Rattle.sn_top.specs.declared.status.Stop.TheVariants.{Refused, Faulted, Unread, Memory, Write}
 use Rattle.sn_top.specs.declared.serve.TheConstants.{SOURCE_LIMIT, INPUT_LIMIT}
 use Rattle.sn_top.specs.Seen.{Sink, File, SinkFailed, WhyUnread}
-use Rattle.sn_top.specs.Line.{line}
-use Rattle.sn_top.specs.Meaning.{with_lines, printed}
-use Rattle.sn_top.specs.Load.{HasManyNames, HasNoRoute, IsAnswer, IsLoaded, WhyNoAnswer}
+use Rattle.sn_record.specs.declared.item.Fault.{Fault}
+use Rattle.sn_net.specs.Item.{modelled}
+use Rattle.sn_output.specs.Printed.{printed, ending}
+use Rattle.sn_top.specs.Load.{HasManyNames, HasNoRoute, HasWrongLine, IsAnswer, IsLoaded, WhyNoAnswer}
 use Rattle.sn_top.specs.Scope.{WhyUnloaded, WhyNoProgram}
-use Rattle.sn_top.specs.Answer.{IsAccepted, IsRefusedInput, IsRefusedSource, Prints, Finds, WhyStopped, print_stop}
-use Rattle.sn_top.proofs.Printing.{printed_records}
+use Rattle.sn_top.specs.Answer.{IsAccepted, IsRefusedInput, IsRefusedSource, Printout, Prints, Finds, WhyStopped, print_stop}
 
 -- what holds of the bytes that were read holds of those that are told
 pub of_told : (told : Option (List ℕ)) (bytes : List ℕ) (P : List ℕ → Type 0) → IfSome told (λ t. bytes ≡ t) → P bytes → IfSome told P
@@ -44,7 +43,9 @@ module _ (source input : File) (out : Sink) (same : out.now ≡ out.before) wher
   source_unread (Refused (TooDeep at)) why = absurd why
   source_unread (Refused (LargeTree at)) why = absurd why
   source_unread (Refused TooManyNames) why = absurd why
+  source_unread (Refused (Line fault)) why = absurd why
   source_unread (Refused NotBuilt) why = absurd why
+  source_unread (Faulted fault) why = absurd why
   source_unread (Unread Source) why = (why.1, same)
   source_unread (Unread Input) why = cc
   source_unread Memory why = inl same
@@ -64,7 +65,9 @@ module _ (source input : File) (out : Sink) (same : out.now ≡ out.before) wher
     not_loaded (Refused (TooDeep at)) why = (refused_source (TooDeep at) why, same)
     not_loaded (Refused (LargeTree at)) why = (refused_source (LargeTree at) why, same)
     not_loaded (Refused TooManyNames) why =
-        (told_source (λ t. IsRefusedSource TooManyNames t ⊎ IsRefusedInput input.told (λ program. HasManyNames program.names) t) (inl (read.within, why)), same)
+        (told_source (λ t. IsRefusedSource TooManyNames t ⊎ IsRefusedInput input.told HasManyNames t) (inl (read.within, why)), same)
+    not_loaded (Refused (Line fault)) why = absurd why
+    not_loaded (Faulted fault) why = absurd why
     not_loaded (Refused NotBuilt) why = (told_source (λ t. IsRefusedSource NotBuilt t ⊎ IsRefusedInput input.told HasNoRoute t) (inl (read.within, why)), same)
     not_loaded (Unread which) why = absurd why
     not_loaded Memory why = inl same
@@ -85,7 +88,9 @@ module _ (source input : File) (out : Sink) (same : out.now ≡ out.before) wher
       input_unread between told later now (Refused (TooDeep at)) why = absurd why
       input_unread between told later now (Refused (LargeTree at)) why = absurd why
       input_unread between told later now (Refused TooManyNames) why = absurd why
+      input_unread between told later now (Refused (Line fault)) why = absurd why
       input_unread between told later now (Refused NotBuilt) why = absurd why
+      input_unread between told later now (Faulted fault) why = absurd why
       input_unread between told later now (Unread Source) why = cc
       input_unread between told later now (Unread Input) why =
           let rose : Rose input.faults_before input.faults_now = omega (arith, why.1) in
@@ -105,9 +110,11 @@ module _ (source input : File) (out : Sink) (same : out.now ≡ out.before) wher
         no_answer (Refused (TooDeep at)) why = absurd why
         no_answer (Refused (LargeTree at)) why = absurd why
         no_answer (Refused TooManyNames) why = (
-          told_source (λ t. IsRefusedSource TooManyNames t ⊎ IsRefusedInput input.told (λ p. HasManyNames p.names) t) (inr (refused_input (λ p. HasManyNames p.names) why)),
+          told_source (λ t. IsRefusedSource TooManyNames t ⊎ IsRefusedInput input.told HasManyNames t) (inr (refused_input HasManyNames why)),
           same,
         )
+        no_answer (Refused (Line fault)) why = (told_source (IsRefusedInput input.told (HasWrongLine fault)) (refused_input (HasWrongLine fault) why), same)
+        no_answer (Faulted fault) why = absurd why
         no_answer (Refused NotBuilt) why = (told_source (λ t. IsRefusedSource NotBuilt t ⊎ IsRefusedInput input.told HasNoRoute t) (inr (refused_input HasNoRoute why)), same)
         no_answer (Unread which) why = absurd why
         no_answer Memory why = inl same
@@ -115,22 +122,28 @@ module _ (source input : File) (out : Sink) (same : out.now ≡ out.before) wher
 
 module _ (source input : File) (bytes : List ℕ) (read : HasBytes source SOURCE_LIMIT bytes) (program : Program) (is : IsLoaded bytes program) (more : List ℕ) (has : HasBytes input INPUT_LIMIT more)
     (answered : Answered) (answer : IsAnswer program more answered) where
-  -- the lines of the answered records are what the program prints
-  prints : Prints program more (flat_map (line answered.names) answered.records)
+  -- what is printed of the items
+  abbrev pub shown : Printout
+  shown = record { bytes = printed answered.names (map modelled answered.items); ending = ending (map modelled answered.items) }
+
+  prints : Prints program more shown
   prints = record {
     within = has.within;
-    lines = answer.lines;
+    input = answer.input;
     routed = answer.routed;
-    printed_is =
-        ap (λ names. flat_map (line names) answered.records) answer.names ∙ sym (printed_records (with_lines program.names answer.lines) answered.records)
-        ∙ ap (printed (with_lines program.names answer.lines)) (sym answer.stream);
+    bytes_are = (λ i. printed (answer.names i) (sym answer.stream i));
+    ending_is = ap ending (sym answer.stream);
   }
 
-  pub finds_lines : Finds source.told input.told (Ok (flat_map (line answered.names) answered.records))
-  finds_lines =
-      of_told source.told bytes (λ t. (p : Program) × IsAccepted t p × IfSome input.told (λ m. Prints p m (flat_map (line answered.names) answered.records))) read.told
-      (program, accepted bytes program is read.within, of_told input.told more (λ m. Prints program m (flat_map (line answered.names) answered.records)) has.told prints)
+  pub finds_shown : Finds source.told input.told (Ok shown)
+  finds_shown =
+      of_told source.told bytes (λ t. (p : Program) × IsAccepted t p × IfSome input.told (λ m. Prints p m shown)) read.told
+      (program, accepted bytes program is read.within, of_told input.told more (λ m. Prints program m shown) has.told prints)
 
-  pub not_printed : (out : Sink) (fault : PrintFault) → AppendsPrefix out.before out.now (flat_map (line answered.names) answered.records) → (fault ≡ print_fault.Write → SinkFailed out) → WhyStopped source input out (print_stop fault)
-  not_printed out print_fault.Memory part failed = inr (flat_map (line answered.names) answered.records, finds_lines, part)
-  not_printed out print_fault.Write part failed = (failed refl, (flat_map (line answered.names) answered.records, finds_lines, part))
+  -- what is found, by how it ends
+  pub finds_ending : (fault : Option Fault) → fault ≡ ending (map modelled answered.items) → Finds source.told input.told (Ok (record { bytes = printed answered.names (map modelled answered.items); ending = fault }))
+  finds_ending fault same = subst (λ e. Finds source.told input.told (Ok (record { bytes = printed answered.names (map modelled answered.items); ending = e }))) (sym same) finds_shown
+
+  pub not_printed : (out : Sink) (fault : PrintFault) → AppendsPrefix out.before out.now (printed answered.names (map modelled answered.items)) → (fault ≡ print_fault.Write → SinkFailed out) → WhyStopped source input out (print_stop fault)
+  not_printed out print_fault.Memory part failed = inr (shown, finds_shown, part)
+  not_printed out print_fault.Write part failed = (failed refl, (shown, finds_shown, part))

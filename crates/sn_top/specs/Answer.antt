@@ -3,13 +3,12 @@ use Rattle.std.specs.Prelude.{◌≡◌, ◌⊎◌, ◌≤◌, ◌<◌, ℕ, Lis
 use Rattle.sn_io.specs.Told.{appended, AppendsPrefix}
 use Rattle.sn_top.specs.declared.words.Command.{Command}
 use Rattle.sn_top.specs.declared.words.Command.TheVariants.{Once, Print}
-use Rattle.sn_top.specs.declared.written.WrittenLine.{WrittenLine}
 use Rattle.sn_top.specs.declared.status.Status.{Status}
 use Rattle.sn_top.specs.declared.status.Status.TheVariants as status
 use Rattle.sn_top.specs.declared.status.Which.{Which}
 use Rattle.sn_top.specs.declared.status.Which.TheVariants.{Source, Input}
 use Rattle.sn_top.specs.declared.status.Refusal.{Refusal}
-use Rattle.sn_top.specs.declared.status.Refusal.TheVariants.{TooLarge, Source as SourceAt, NoMain, TooDeep, LargeTree, TooManyNames, NotBuilt}
+use Rattle.sn_top.specs.declared.status.Refusal.TheVariants.{TooLarge, Source as SourceAt, NoMain, TooDeep, LargeTree, TooManyNames, Line, NotBuilt}
 use Rattle.sn_top.specs.declared.status.Stop.{Stop}
 use Rattle.sn_top.specs.declared.status.Stop.TheVariants as stop
 use Rattle.sn_top.specs.declared.print.PrintFault.{PrintFault}
@@ -19,22 +18,34 @@ use Rattle.sn_top.specs.Source.{FindsSource}
 use Rattle.sn_top.specs.Status.{refusal_status, stop_line}
 use Rattle.sn_top.specs.Words.{usage_text, source_of, input_of}
 use Rattle.sn_top.specs.Seen.{Sink, File, seen_sink, seen_file, SinkFailed, FileFailed, GotLine}
-use Rattle.sn_top.specs.Load.{HasManyNames, HasNoRoute}
-use Rattle.sn_top.specs.Meaning.{with_lines, stream_of, printed, IsRouted}
+use Rattle.sn_record.specs.declared.item.Fault.{Fault}
+use Rattle.sn_input.specs.declared.input.Input.{Input as RecordFile}
+use Rattle.sn_output.specs.Printed.{printed, ending}
+use Rattle.sn_top.specs.Load.{HasManyNames, HasNoRoute, HasWrongLine, stream_of, IsRouted}
 use Rattle.sn_top.specs.Scope.{IsChain, WhyNoProgram}
 use Rattle.sn_top.specs.declared.load.Program.{Program}
 
--- the source is within the limit, and its main network is a chain of filters that compute nothing
+-- the source is within the limit, and its main network is a chain of filters
 pub record IsAccepted (bytes : List ℕ) (program : Program) : Type 0 where
   pub within : length bytes ≤ SOURCE_LIMIT
   pub chain : IsChain bytes program
 
--- the program prints p for an input of these bytes, which is within the limit and of the small form
-pub record Prints (program : Program) (bytes p : List ℕ) : Type 0 where
+-- what a command prints, and the fault that ends it, if there is one
+pub record Printout : Type 0 where
+  pub bytes : List ℕ
+  pub ending : Option Fault
+
+-- what no fault ends
+abbrev pub whole : List ℕ → Printout
+whole bytes = record { bytes = bytes; ending = None }
+
+-- what the program prints for an input of these bytes, which is within the limit and a record file
+pub record Prints (program : Program) (bytes : List ℕ) (p : Printout) : Type 0 where
   pub within : length bytes ≤ INPUT_LIMIT
-  pub lines : List WrittenLine
-  pub routed : IsRouted program.names program.net bytes lines
-  pub printed_is : p ≡ printed (with_lines program.names lines) (stream_of program.names program.net lines)
+  pub input : RecordFile
+  pub routed : IsRouted program bytes input
+  pub bytes_are : p.bytes ≡ printed input.names (stream_of program input)
+  pub ending_is : p.ending ≡ ending (stream_of program input)
 
 -- the source is within the limit, and refused
 abbrev pub IsRefusedSource : Refusal → List ℕ → Type 0
@@ -46,19 +57,20 @@ IsRefusedInput input Why bytes = (program : Program) × IsAccepted bytes program
 
 -- what the checks and the run find of a source and an input, where their bytes are told; the checks come in the order:
 -- the source's file, the source, the input's file, the input, the run
-abbrev pub Finds : Option (List ℕ) → Option (List ℕ) → Result (List ℕ) Refusal → Type 0
+abbrev pub Finds : Option (List ℕ) → Option (List ℕ) → Result Printout Refusal → Type 0
 Finds source input (Err (TooLarge Source)) = IfSome source (λ bytes. SOURCE_LIMIT < length bytes)
 Finds source input (Err (SourceAt fault at)) = IfSome source (IsRefusedSource (SourceAt fault at))
 Finds source input (Err NoMain) = IfSome source (IsRefusedSource NoMain)
 Finds source input (Err (TooDeep at)) = IfSome source (IsRefusedSource (TooDeep at))
 Finds source input (Err (LargeTree at)) = IfSome source (IsRefusedSource (LargeTree at))
-Finds source input (Err TooManyNames) = IfSome source (λ bytes. IsRefusedSource TooManyNames bytes ⊎ IsRefusedInput input (λ program. HasManyNames program.names) bytes)
+Finds source input (Err TooManyNames) = IfSome source (λ bytes. IsRefusedSource TooManyNames bytes ⊎ IsRefusedInput input HasManyNames bytes)
+Finds source input (Err (Line fault)) = IfSome source (IsRefusedInput input (HasWrongLine fault))
 Finds source input (Err NotBuilt) = IfSome source (λ bytes. IsRefusedSource NotBuilt bytes ⊎ IsRefusedInput input HasNoRoute bytes)
 Finds source input (Err (TooLarge Input)) = IfSome source (λ bytes. (program : Program) × IsAccepted bytes program × IfSome input (λ more. INPUT_LIMIT < length more))
 Finds source input (Ok p) = IfSome source (λ bytes. (program : Program) × IsAccepted bytes program × IfSome input (λ more. Prints program more p))
 
 -- the same of a source alone, which is within the limit where more than its size is found
-abbrev pub FindsText : Option (List ℕ) → Result (List ℕ) Refusal → Type 0
+abbrev pub FindsText : Option (List ℕ) → Result Printout Refusal → Type 0
 FindsText source (Err (TooLarge Source)) = IfSome source (λ bytes. SOURCE_LIMIT < length bytes)
 FindsText source (Err (TooLarge Input)) = ⊥
 FindsText source (Err (SourceAt fault at)) = IfSome source (λ bytes. (length bytes ≤ SOURCE_LIMIT) × FindsSource bytes (Err (SourceAt fault at)))
@@ -66,20 +78,29 @@ FindsText source (Err NoMain) = ⊥
 FindsText source (Err (TooDeep at)) = IfSome source (λ bytes. (length bytes ≤ SOURCE_LIMIT) × FindsSource bytes (Err (TooDeep at)))
 FindsText source (Err (LargeTree at)) = ⊥
 FindsText source (Err TooManyNames) = ⊥
+FindsText source (Err (Line fault)) = ⊥
 FindsText source (Err NotBuilt) = ⊥
-FindsText source (Ok text) = IfSome source (λ bytes. (length bytes ≤ SOURCE_LIMIT) × FindsSource bytes (Ok text))
+FindsText source (Ok p) = IfSome source (λ bytes. (length bytes ≤ SOURCE_LIMIT) × FindsSource bytes (Ok p.bytes) × (p.ending ≡ None))
 
 -- the bytes on `out`, the status and the line on `err` for what was found
-abbrev pub found_bytes : Result (List ℕ) Refusal → List ℕ
-found_bytes (Ok p) = p
+abbrev pub found_bytes : Result Printout Refusal → List ℕ
+found_bytes (Ok p) = p.bytes
 found_bytes (Err refusal) = []
 
-abbrev pub found_status : Result (List ℕ) Refusal → Status
-found_status (Ok p) = status.Ok
+abbrev pub ending_status : Option Fault → Status
+ending_status None = status.Ok
+ending_status (Some fault) = status.Fault
+
+abbrev pub found_status : Result Printout Refusal → Status
+found_status (Ok p) = ending_status p.ending
 found_status (Err refusal) = refusal_status refusal
 
-abbrev pub found_line : Result (List ℕ) Refusal → List ℕ → List ℕ → List ℕ
-found_line (Ok p) source input = []
+abbrev pub ending_line : Option Fault → List ℕ → List ℕ → List ℕ
+ending_line None source input = []
+ending_line (Some fault) source input = stop_line (stop.Faulted fault) source input
+
+abbrev pub found_line : Result Printout Refusal → List ℕ → List ℕ → List ℕ
+found_line (Ok p) source input = ending_line p.ending source input
 found_line (Err refusal) source input = stop_line (stop.Refused refusal) source input
 
 -- the outside, as a call found it and as it left it: the file of each name, `out` and `err`
@@ -96,13 +117,13 @@ seen bytes_of file_faults out_held out_faults err_held err_faults files new_file
 }
 
 -- what is found of a command's files
-abbrev pub FindsFor : Command → (List ℕ → File) → Result (List ℕ) Refusal → Type 0
+abbrev pub FindsFor : Command → (List ℕ → File) → Result Printout Refusal → Type 0
 FindsFor (Once source input fuel depth) file found = Finds (file source).told (file input).told found
 FindsFor (Print source) file found = FindsText (file source).told found
 
 -- the whole answer: what is found decides the bytes, the status and the line
 pub record IsAnswered (command : Command) (outside : Outside) (s : Status) : Type 0 where
-  pub found : Result (List ℕ) Refusal
+  pub found : Result Printout Refusal
   pub finds : FindsFor command outside.file found
   pub status_is : s ≡ found_status found
   pub out_got : outside.out.now ≡ appended outside.out.before (found_bytes found)
@@ -129,24 +150,25 @@ pub record HasUnread (command : Command) (outside : Outside) : Type 0 where
   pub err_got : GotLine outside.err (stop_line (stop.Unread which) (source_of command) (input_of command))
 
 -- `out` got nothing, or some first bytes of what it would get
-abbrev pub GotPart : (Result (List ℕ) Refusal → Type 0) → Sink → Type 0
-GotPart finds out = (out.now ≡ out.before) ⊎ ((p : List ℕ) × finds (Ok p) × AppendsPrefix out.before out.now p)
+abbrev pub GotPart : (Result Printout Refusal → Type 0) → Sink → Type 0
+GotPart finds out = (out.now ≡ out.before) ⊎ ((p : Printout) × finds (Ok p) × AppendsPrefix out.before out.now p.bytes)
 
 pub record IsCutShort (command : Command) (outside : Outside) : Type 0 where
   pub out_got : GotPart (FindsFor command outside.file) outside.out
   pub err_got : GotLine outside.err (codes "memory\n")
 
 -- the count of `out` rose, and it got some first bytes of what it would get
-abbrev pub HasFailed : (Result (List ℕ) Refusal → Type 0) → Sink → Type 0
-HasFailed finds out = SinkFailed out × ((p : List ℕ) × finds (Ok p) × AppendsPrefix out.before out.now p)
+abbrev pub HasFailed : (Result Printout Refusal → Type 0) → Sink → Type 0
+HasFailed finds out = SinkFailed out × ((p : Printout) × finds (Ok p) × AppendsPrefix out.before out.now p.bytes)
 
 pub record IsUnwritten (command : Command) (outside : Outside) : Type 0 where
   pub out_failed : HasFailed (FindsFor command outside.file) outside.out
   pub err_got : GotLine outside.err (codes "write\n")
 
--- why a run stopped before its end, and what `out` holds then
-abbrev pub StoppedFor : (Result (List ℕ) Refusal → Type 0) → (Which → Type 0) → Sink → Stop → Type 0
+-- why a run ended otherwise than with its whole output, and what `out` holds then
+abbrev pub StoppedFor : (Result Printout Refusal → Type 0) → (Which → Type 0) → Sink → Stop → Type 0
 StoppedFor finds unread out (stop.Refused refusal) = finds (Err refusal) × (out.now ≡ out.before)
+StoppedFor finds unread out (stop.Faulted fault) = (p : List ℕ) × finds (Ok (record { bytes = p; ending = Some fault })) × (out.now ≡ appended out.before p)
 StoppedFor finds unread out (stop.Unread which) = unread which × (out.now ≡ out.before)
 StoppedFor finds unread out stop.Memory = GotPart finds out
 StoppedFor finds unread out stop.Write = HasFailed finds out

@@ -1,14 +1,7 @@
-pub mod Reading
-pub mod Small
-pub mod Entering
-pub mod Lines
 pub mod Status
 pub mod Seen
-pub mod Numbered
-pub mod Line
 pub mod Words
-pub mod Meaning
 pub mod Load
 pub mod Source
-pub mod Answer
 pub mod Scope
+pub mod Answer

@@ -1,7 +1,7 @@
 -- What a source of the whole language is resolved to, or why it is not.
 use Rattle.std.specs.Prelude.{◌≡◌, ◌⊎◌, ℕ, true, false, IsTrue, List, slice_get, Some, Ok, Err}
 use Rattle.sn_ast.specs.declared.declaration.Program.{Program as Tree}
-use Rattle.sn_net.specs.Net.{is_plain_chain}
+use Rattle.sn_net.specs.Net.{is_chain}
 use Rattle.sn_net.specs.declared.net.Claim.{Claim}
 use Rattle.sn_scope.specs.Resolution.{has_box, resolution}
 use Rattle.sn_scope.specs.declared.resolution.Resolved.{Resolved}
@@ -11,7 +11,7 @@ use Rattle.sn_top.specs.Source.{IsRefused, IsSource, IsWrong}
 use Rattle.sn_parser.specs.declared.parsing.ParseFault.TheVariants as parse_fault
 use Rattle.sn_top.specs.declared.load.Program.{Program}
 use Rattle.sn_top.specs.declared.status.Refusal.{Refusal}
-use Rattle.sn_top.specs.declared.status.Refusal.TheVariants.{TooLarge, Source as SourceAt, NoMain, TooDeep, LargeTree, TooManyNames, NotBuilt}
+use Rattle.sn_top.specs.declared.status.Refusal.TheVariants.{TooLarge, Source as SourceAt, NoMain, TooDeep, LargeTree, TooManyNames, Line, NotBuilt}
 use Rattle.sn_top.specs.declared.status.SourceFault.{SourceFault}
 use Rattle.sn_top.specs.declared.status.SourceFault.TheVariants.{BadUtf8, BadChar, NumberTooWide, TextOpen, Unexpected, Unknown, Twice, Arity, GuardTag}
 use Rattle.sn_top.specs.declared.status.Stop.{Stop}
@@ -50,19 +50,19 @@ pub record IsResolved (bytes : List ℕ) (names : List (List ℕ)) (claim : Clai
   pub names_are : names ≡ resolved.names
   pub main : slice_get resolved.claims resolved.main ≡ Some claim
 
--- a program whose main net is no chain of filters, or computes
+-- a program whose main net is no chain of filters
 pub record IsNoChain (bytes : List ℕ) : Type 0 where
   pub names : List (List ℕ)
   pub claim : Claim
   pub resolved : IsResolved bytes names claim
-  pub other : is_plain_chain claim.net ≡ false
+  pub other : is_chain claim.net ≡ false
 
--- the names and the main net of a program, which is a chain of filters that compute nothing
+-- the names and the main net of a program, which is a chain of filters
 pub record IsChain (bytes : List ℕ) (program : Program) : Type 0 where
   pub claim : Claim
   pub resolved : IsResolved bytes program.names claim
   pub net_is : program.net ≡ claim.net
-  pub plain : IsTrue (is_plain_chain program.net)
+  pub chained : IsTrue (is_chain program.net)
 
 -- what is wrong in the source, as it is read or as its names are resolved, and where
 abbrev pub IsWrongAt : List ℕ → SourceFault → ℕ → Type 0
@@ -84,11 +84,13 @@ WhyNoProgram bytes NoMain = IsUnresolved bytes scope.NoMain
 WhyNoProgram bytes (TooDeep at) = IsRefused bytes (parse_fault.TooDeep at)
 WhyNoProgram bytes (LargeTree at) = IsUnresolved bytes (scope.TooLarge at)
 WhyNoProgram bytes TooManyNames = IsUnresolved bytes scope.TooManyNames
+WhyNoProgram bytes (Line fault) = ⊥
 WhyNoProgram bytes NotBuilt = HasBox bytes ⊎ IsNoChain bytes
 
 -- why loading a source stopped
 abbrev pub WhyUnloaded : List ℕ → Stop → Type 0
 WhyUnloaded bytes (stop.Refused refusal) = WhyNoProgram bytes refusal
+WhyUnloaded bytes (stop.Faulted fault) = ⊥
 WhyUnloaded bytes (stop.Unread which) = ⊥
 WhyUnloaded bytes stop.Memory = Unit {0}
 WhyUnloaded bytes stop.Write = ⊥

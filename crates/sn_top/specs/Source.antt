@@ -10,7 +10,7 @@ use Rattle.sn_parser.specs.declared.parsing.ParseFault.{ParseFault}
 use Rattle.sn_parser.specs.declared.parsing.ParseFault.TheVariants as parse_fault
 use Rattle.sn_print.specs.Declarations.{program_text}
 use Rattle.sn_top.specs.declared.status.Refusal.{Refusal}
-use Rattle.sn_top.specs.declared.status.Refusal.TheVariants.{TooLarge, Source as SourceAt, NoMain, TooDeep, LargeTree, TooManyNames, NotBuilt}
+use Rattle.sn_top.specs.declared.status.Refusal.TheVariants.{TooLarge, Source as SourceAt, NoMain, TooDeep, LargeTree, TooManyNames, Line, NotBuilt}
 use Rattle.sn_top.specs.declared.status.SourceFault.{SourceFault}
 use Rattle.sn_top.specs.declared.status.SourceFault.TheVariants.{BadUtf8, BadChar, NumberTooWide, TextOpen, Unexpected, Unknown, Twice, Arity, GuardTag}
 use Rattle.sn_top.specs.declared.status.Stop.{Stop}
@@ -55,11 +55,13 @@ FindsSource bytes (Err NoMain) = ⊥
 FindsSource bytes (Err (TooDeep at)) = IsRefused bytes (parse_fault.TooDeep at)
 FindsSource bytes (Err (LargeTree at)) = ⊥
 FindsSource bytes (Err TooManyNames) = ⊥
+FindsSource bytes (Err (Line fault)) = ⊥
 FindsSource bytes (Err NotBuilt) = ⊥
 
 -- why there is no text
 abbrev pub WhyNoText : List ℕ → Stop → Type 0
 WhyNoText bytes (stop.Refused refusal) = FindsSource bytes (Err refusal)
+WhyNoText bytes (stop.Faulted fault) = ⊥
 WhyNoText bytes (stop.Unread which) = ⊥
 WhyNoText bytes stop.Memory = Unit {0}
 WhyNoText bytes stop.Write = ⊥

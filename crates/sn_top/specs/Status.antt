@@ -1,12 +1,17 @@
 -- Statuses, and the lines on `err`.
 use Rattle.std.specs.Prelude.{ℕ, List, [], ◌++◌, codes}
 use Rattle.std.specs.Fmt.{decimal}
+use Rattle.sn_record.specs.declared.item.FaultKind.{FaultKind}
+use Rattle.sn_record.specs.declared.item.FaultKind.TheVariants as kind
+use Rattle.sn_output.specs.Line.{printed_label}
 use Rattle.sn_top.specs.declared.status.Status.{Status}
 use Rattle.sn_top.specs.declared.status.Status.TheVariants as status
 use Rattle.sn_top.specs.declared.status.Which.{Which}
 use Rattle.sn_top.specs.declared.status.Which.TheVariants.{Source, Input}
 use Rattle.sn_top.specs.declared.status.Refusal.{Refusal}
-use Rattle.sn_top.specs.declared.status.Refusal.TheVariants.{TooLarge, Source as SourceAt, NoMain, TooDeep, LargeTree, TooManyNames, NotBuilt}
+use Rattle.sn_top.specs.declared.status.Refusal.TheVariants.{TooLarge, Source as SourceAt, NoMain, TooDeep, LargeTree, TooManyNames, Line, NotBuilt}
+use Rattle.sn_top.specs.declared.status.LineFault.{LineFault}
+use Rattle.sn_top.specs.declared.status.LineFault.TheVariants as line
 use Rattle.sn_top.specs.declared.status.SourceFault.{SourceFault}
 use Rattle.sn_top.specs.declared.status.SourceFault.TheVariants.{BadUtf8, BadChar, NumberTooWide, TextOpen, Unexpected, Unknown, Twice, Arity, GuardTag}
 use Rattle.sn_top.specs.declared.status.Stop.{Stop}
@@ -17,11 +22,19 @@ status_code status.Ok = 0
 status_code status.Usage = 2
 status_code status.Read = 3
 status_code status.Source = 4
+status_code status.Input = 6
+status_code status.Fault = 7
 status_code status.Memory = 8
 status_code status.Write = 9
 status_code status.TooLarge = 10
 status_code status.Limit = 11
 status_code status.NotBuilt = 12
+
+-- a line that is wrong, and a record that is one too many
+abbrev pub line_status : LineFault → Status
+line_status (line.BadLine n) = status.Input
+line_status (line.Twice n kind name) = status.Input
+line_status (line.TooMany n) = status.Limit
 
 abbrev pub refusal_status : Refusal → Status
 refusal_status (TooLarge which) = status.TooLarge
@@ -30,10 +43,12 @@ refusal_status NoMain = status.Source
 refusal_status (TooDeep at) = status.Limit
 refusal_status (LargeTree at) = status.Limit
 refusal_status TooManyNames = status.Limit
+refusal_status (Line fault) = line_status fault
 refusal_status NotBuilt = status.NotBuilt
 
 abbrev pub stop_status : Stop → Status
 stop_status (stop.Refused refusal) = refusal_status refusal
+stop_status (stop.Faulted fault) = status.Fault
 stop_status (stop.Unread which) = status.Read
 stop_status stop.Memory = status.Memory
 stop_status stop.Write = status.Write
@@ -53,6 +68,19 @@ fault_label Twice = codes "source: Twice at "
 fault_label Arity = codes "source: Arity at "
 fault_label GuardTag = codes "source: GuardTag at "
 
+abbrev pub line_label : LineFault → List ℕ
+line_label (line.BadLine n) = codes "input: BadLine "
+line_label (line.Twice n kind name) = codes "input: Twice "
+line_label (line.TooMany n) = codes "limit: Records at line "
+
+abbrev pub ending_label : FaultKind → List ℕ
+ending_label kind.Fuel = codes "fault: Fuel at "
+ending_label kind.Overflow = codes "fault: Overflow at "
+ending_label kind.DivZero = codes "fault: DivZero at "
+ending_label kind.Kind = codes "fault: Kind at "
+ending_label kind.Index = codes "fault: Index at "
+ending_label kind.Depth = codes "fault: Depth at "
+
 abbrev pub refusal_label : Refusal → List ℕ
 refusal_label (TooLarge which) = codes "too large: "
 refusal_label (SourceAt fault at) = fault_label fault
@@ -60,13 +88,21 @@ refusal_label NoMain = codes "source: NoMain"
 refusal_label (TooDeep at) = codes "limit: TooDeep at "
 refusal_label (LargeTree at) = codes "limit: TooLarge at "
 refusal_label TooManyNames = codes "limit: Names"
+refusal_label (Line fault) = line_label fault
 refusal_label NotBuilt = codes "not built"
 
 abbrev pub stop_label : Stop → List ℕ
 stop_label (stop.Refused refusal) = refusal_label refusal
+stop_label (stop.Faulted fault) = ending_label fault.kind
 stop_label (stop.Unread which) = codes "read: "
 stop_label stop.Memory = codes "memory"
 stop_label stop.Write = codes "write"
+
+-- the number of the line
+abbrev pub line_number : LineFault → ℕ
+line_number (line.BadLine n) = n
+line_number (line.Twice n kind name) = n
+line_number (line.TooMany n) = n
 
 abbrev pub refusal_name : Refusal → List ℕ → List ℕ → List ℕ
 refusal_name (TooLarge which) source input = name_of which source input
@@ -75,15 +111,17 @@ refusal_name NoMain source input = []
 refusal_name (TooDeep at) source input = decimal at
 refusal_name (LargeTree at) source input = decimal at
 refusal_name TooManyNames source input = []
+refusal_name (Line fault) source input = decimal (line_number fault)
 refusal_name NotBuilt source input = []
 
 abbrev pub stop_name : Stop → List ℕ → List ℕ → List ℕ
 stop_name (stop.Refused refusal) source input = refusal_name refusal source input
+stop_name (stop.Faulted fault) source input = decimal fault.place
 stop_name (stop.Unread which) source input = name_of which source input
 stop_name stop.Memory source input = []
 stop_name stop.Write source input = []
 
--- the place that the line speaks of
+-- the place in the source, or the number of the input's line, that the line on `err` speaks of
 abbrev pub refusal_place : Refusal → ℕ
 refusal_place (TooLarge which) = 0
 refusal_place (SourceAt fault at) = at
@@ -91,14 +129,30 @@ refusal_place NoMain = 0
 refusal_place (TooDeep at) = at
 refusal_place (LargeTree at) = at
 refusal_place TooManyNames = 0
+refusal_place (Line fault) = line_number fault
 refusal_place NotBuilt = 0
 
 abbrev pub stop_place : Stop → ℕ
 stop_place (stop.Refused refusal) = refusal_place refusal
+stop_place (stop.Faulted fault) = fault.place
 stop_place (stop.Unread which) = 0
 stop_place stop.Memory = 0
 stop_place stop.Write = 0
 
+-- the label that stands twice in a line
+abbrev pub line_detail : LineFault → List ℕ
+line_detail (line.BadLine n) = []
+line_detail (line.Twice n kind name) = codes " " ++ printed_label kind name
+line_detail (line.TooMany n) = []
+
+abbrev pub refusal_detail : Refusal → List ℕ
+refusal_detail (Line fault) = line_detail fault
+refusal_detail refusal = []
+
+abbrev pub stop_detail : Stop → List ℕ
+stop_detail (stop.Refused refusal) = refusal_detail refusal
+stop_detail why = []
+
 -- the line on `err`, which names a file by its word
 abbrev pub stop_line : Stop → List ℕ → List ℕ → List ℕ
-stop_line why source input = stop_label why ++ (stop_name why source input ++ codes "\n")
+stop_line why source input = stop_label why ++ (stop_name why source input ++ (stop_detail why ++ codes "\n"))

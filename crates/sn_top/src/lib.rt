@@ -2,24 +2,16 @@
 //! on standard error and the exit status.
 #![tactic(auto)]
 
-mod build;
 mod canonical;
 mod chain;
-mod cuts;
-mod enter;
-mod entry;
-mod label;
-mod line;
 mod load;
 mod outside;
 mod print;
-mod reading;
 mod serve;
 mod status;
 #[cfg(test)]
 mod tests;
 mod words;
-mod written;
 
 pub use serve::{INPUT_LIMIT, SOURCE_LIMIT, serve_plain, serve_words};
 pub use status::Status;

@@ -1,24 +1,23 @@
 //! From the bytes of a source and an input to the records that the network answers.
-ghost use Rattle.std.specs.Prelude.{◌≡◌, ◌<◌, ◌≤◌, length, All, IfOk, IfErr};
+ghost use Rattle.std.specs.Prelude.{◌≡◌, ◌<◌, ◌≤◌, length, map, All, IfOk, IfErr};
+ghost use Rattle.sn_net.specs.Item.{modelled, Rec};
 ghost use Rattle.sn_net.specs.Net.{IsClosedChain};
 ghost use Rattle.sn_net.specs.WellFormed.{IsWellFormed};
-ghost use Rattle.sn_top.specs.Load.{IsMainChain, IsLoaded, LoadsInput, IsAnswer, WhyNoAnswer, WhyNoMainChain};
+ghost use Rattle.sn_top.specs.Load.{program_of, IsMainChain, IsLoaded, IsAnswer, WhyNoAnswer, WhyNoMainChain};
 ghost use Rattle.sn_top.specs.Scope.{WhyUnloaded};
-ghost use Rattle.sn_top.specs.declared.serve.TheConstants.{SOURCE_LIMIT};
+ghost use Rattle.sn_top.specs.declared.serve.TheConstants.{SOURCE_LIMIT, INPUT_LIMIT};
 
-use crate::build::records_of;
 use crate::chain::{ChainFault, run_chain};
-use crate::enter::enter_all;
-use crate::entry::read_lines;
-use crate::reading::ReadFault;
 use crate::status::{Refusal, Stop};
+use sn_input::read_records;
 use sn_lexer::lex;
-use sn_list::Seq;
-use sn_names::{Names, NamesFault};
+use sn_list::{Memory, Seq};
+use sn_names::Names;
 use sn_net::{Claim, Net};
 use sn_parser::parse;
-use sn_record::Record;
+use sn_record::{Item, Items, Record};
 use sn_scope::{Resolved, has_box, resolve};
+use sn_stack::append;
 use std::alloc::Global;
 
 /// The main network of a source, and the names of its labels.
@@ -28,64 +27,11 @@ pub struct Program {
     pub net: Net,
 }
 
-/// The records that a network answered, and the names of their labels.
+/// The items that a network answered, and the names of their labels.
 #[derive(Drop)]
 pub struct Answered {
     pub names: Names,
-    pub records: Seq<Record>,
-}
-
-/// Why an input was not loaded.
-#[derive(Clone, Copy, PartialEq, Eq, Debug)]
-pub enum InputFault {
-    /// It is not of the small form.
-    NotBuilt,
-    /// With the names of the source it has too many.
-    TooManyNames,
-    Memory,
-}
-
-impl From<ReadFault> for InputFault {
-    ghost use Rattle.std.specs.Prelude.{◌≡◌};
-    ghost use Rattle.sn_top.specs.Load.{read_input_fault};
-
-    ghost from_gives = { λ f e. e ≡ read_input_fault f };
-
-    fn from(fault: ReadFault) -> InputFault {
-        match fault {
-            ReadFault::NotBuilt => InputFault::NotBuilt,
-            ReadFault::Memory => InputFault::Memory,
-        }
-    }
-}
-
-impl From<NamesFault> for InputFault {
-    ghost use Rattle.std.specs.Prelude.{◌≡◌};
-    ghost use Rattle.sn_top.specs.Load.{names_input_fault};
-
-    ghost from_gives = { λ f e. e ≡ names_input_fault f };
-
-    fn from(fault: NamesFault) -> InputFault {
-        match fault {
-            NamesFault::TooMany => InputFault::TooManyNames,
-            NamesFault::Memory => InputFault::Memory,
-        }
-    }
-}
-
-impl From<InputFault> for Stop {
-    ghost use Rattle.std.specs.Prelude.{◌≡◌};
-    ghost use Rattle.sn_top.specs.Load.{input_stop};
-
-    ghost from_gives = { λ f e. e ≡ input_stop f };
-
-    fn from(fault: InputFault) -> Stop {
-        match fault {
-            InputFault::NotBuilt => Stop::Refused(Refusal::NotBuilt),
-            InputFault::TooManyNames => Stop::Refused(Refusal::TooManyNames),
-            InputFault::Memory => Stop::Memory,
-        }
-    }
+    pub items: Items,
 }
 
 impl From<ChainFault> for Stop {
@@ -102,7 +48,7 @@ impl From<ChainFault> for Stop {
     }
 }
 
-/// The main network and the names of what a source is resolved to. Only chains of filters that compute nothing are built.
+/// The main network and the names of what a source is resolved to. Only chains of filters are built.
 fn main_chain(resolved: Resolved) -> Result<Program, Stop>
     requires main { resolved.main < length resolved.claims }
     requires formed { All (λ claim. IsWellFormed resolved.boxes claim.net) resolved.claims }
@@ -118,13 +64,13 @@ fn main_chain(resolved: Resolved) -> Result<Program, Stop>
     let mut claims = claims.into_vec();
     let claim = claims.swap_remove(main as usize);
     let Claim { net, .. } = claim;
-    if !net.is_plain_chain() {
+    if !net.is_chain() {
         return Err(Stop::Refused(Refusal::NotBuilt));
     }
     Ok(Program { names, net })
 }
 
-/// The program of a source whose main network is a chain of filters that compute nothing.
+/// The program of a source whose main network is a chain of filters.
 pub fn load_source(alloc: Global, bytes: &[u8]) -> Result<Program, Stop>
     requires { length bytes.now ≤ SOURCE_LIMIT }
     ensures loaded { IfOk result (IsLoaded bytes.now) }
@@ -139,30 +85,40 @@ pub fn load_source(alloc: Global, bytes: &[u8]) -> Result<Program, Stop>
     main_chain(resolved)
 }
 
-/// The records of an input of the small form, and the names with its own.
-#[derive(Drop)]
-struct Loaded {
-    names: Names,
-    records: Seq<Record>,
-}
-
-fn load_input(alloc: Global, mut names: Names, bytes: &[u8]) -> Result<Loaded, InputFault>
-    ensures { LoadsInput names bytes.now result }
+/// The records as items that flow.
+fn items_of(alloc: Global, records: Seq<Record>) -> Result<Items, Memory>
+    ensures { IfOk result (λ items. map modelled items ≡ map Rec records) }
 {
-    let lines = read_lines(alloc, bytes)?;
-    enter_all(lines.as_slice(), &mut names)?;
-    let records = records_of(alloc, &names, lines.as_slice())?;
-    Ok(Loaded { names, records })
+    let mut items = Items::new(alloc);
+    for record in records.into_vec() {
+        append(&mut items, Item::Rec(record))?;
+    }
+    Ok(items)
 }
 
-/// The records that the network answers to an input of the small form.
+/// The items that a network answers to the records of an input, whose new names go to the end of `names`.
+fn answer_records(alloc: Global, names: Names, net: &Net, bytes: &[u8]) -> Result<Answered, Stop>
+    requires chain { IsClosedChain net.now }
+    requires within { length bytes.now ≤ INPUT_LIMIT }
+    ensures answered { IfOk result (IsAnswer (program_of names net.now) bytes.now) }
+    ensures ended { IfErr result (WhyNoAnswer (program_of names net.now) bytes.now) }
+{
+    let input = read_records(alloc, bytes, names)?;
+    let items = items_of(alloc, input.records)?;
+    let items = run_chain(alloc, net, items)?;
+    Ok(Answered {
+        names: input.names,
+        items,
+    })
+}
+
+/// The items that a program answers to the records of an input. It has one exit, since each drops the network.
 pub fn answer_input(alloc: Global, program: Program, bytes: &[u8]) -> Result<Answered, Stop>
-    requires { IsClosedChain program.net }
+    requires chain { IsClosedChain program.net }
+    requires within { length bytes.now ≤ INPUT_LIMIT }
     ensures answered { IfOk result (IsAnswer program bytes.now) }
     ensures ended { IfErr result (WhyNoAnswer program bytes.now) }
 {
     let Program { names, net } = program;
-    let Loaded { names, records } = load_input(alloc, names, bytes)?;
-    let records = run_chain(alloc, &net, records)?;
-    Ok(Answered { names, records })
+    answer_records(alloc, names, &net, bytes)
 }

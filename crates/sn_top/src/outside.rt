@@ -1,4 +1,5 @@
 //! Reads the files of a command, and writes the line on `err`.
+ghost use Rattle.std.specs.List.{flat_map};
 ghost use Rattle.std.specs.Prelude.{◌≡◌, ◌≤◌, ◌++◌, ℕ, List, length, codes, IfOk, IfErr, IfSome, OnOk, OnErr};
 ghost use Rattle.sn_io.specs.Causes.{HasCause};
 ghost use Rattle.sn_io.specs.Told.{appended, AppendsPrefix};
@@ -30,30 +31,30 @@ pub fn read_file<F: Files>(
     }
 }
 
-/// Writes two texts one after the other.
-fn write_both<E: Sink>(err: &mut E, first: &[u8], second: &[u8]) -> Result<(), WriteFault>
-    ensures whole { OnOk result (E.held err.new ≡ appended (E.held err.old) (first.now ++ second.now)) }
-    ensures part { OnErr result (AppendsPrefix (E.held err.old) (E.held err.new) (first.now ++ second.now)) }
+/// Writes pieces one after the other. Takes no memory.
+fn write_pieces<E: Sink>(err: &mut E, pieces: &[&[u8]]) -> Result<(), WriteFault>
+    ensures whole { OnOk result (E.held err.new ≡ appended (E.held err.old) (flat_map (λ piece. piece.now) pieces.now)) }
+    ensures part { OnErr result (AppendsPrefix (E.held err.old) (E.held err.new) (flat_map (λ piece. piece.now) pieces.now)) }
     ensures cause { HasCause (E.faults err.old) (E.faults err.new) result }
 {
-    write_whole(err, first)?;
-    write_whole(err, second)
+    for piece in pieces {
+        write_whole(err, piece)?;
+    }
+    Ok(())
 }
 
-/// Writes a text, a name and a line feed. Takes no memory.
-fn write_parts<E: Sink>(err: &mut E, label: &[u8], name: &[u8]) -> Result<(), WriteFault>
-    ensures whole { OnOk result (E.held err.new ≡ appended (E.held err.old) (label.now ++ (name.now ++ codes "\n"))) }
-    ensures part { OnErr result (AppendsPrefix (E.held err.old) (E.held err.new) (label.now ++ (name.now ++ codes "\n"))) }
-    ensures cause { HasCause (E.faults err.old) (E.faults err.new) result }
-{
-    write_whole(err, label)?;
-    write_both(err, name, b"\n")
-}
-
-/// Writes the line that tells why a command stopped. Where `err` fails, the rest of the line is lost.
-pub fn write_line<E: Sink>(err: &mut E, label: &[u8], name: &[u8])
-    ensures got { GotLine (seen_sink E.held E.faults err.old err.new) (label.now ++ (name.now ++ codes "\n")) }
+/// Writes the line that tells why a command stopped: a text, a name, a detail in three pieces, and a line feed. Where
+/// `err` fails, the rest of the line is lost.
+pub fn write_line<'a, E: Sink>(
+    err: &mut E,
+    label: &'a [u8],
+    name: &'a [u8],
+    detail: (&'a [u8], &'a [u8], &'a [u8]),
+)
+    ensures got { GotLine (seen_sink E.held E.faults err.old err.new)
+        (label.now ++ (name.now ++ ((detail.entry.0.now ++ (detail.entry.1.now ++ detail.entry.2.now)) ++ codes "\n"))) }
     ensures later { E.faults err.old ≤ E.faults err.new }
 {
-    let _ = write_parts(err, label, name);
+    let (opening, middle, closing) = detail;
+    let _ = write_pieces(err, &[label, name, opening, middle, closing, b"\n"]);
 }

@@ -1,16 +1,17 @@
 //! Prints records one by one, each with one write of its whole line.
-ghost use Rattle.std.specs.Prelude.{◌≡◌, ◌≤◌, Err, OnOk, OnErr};
-ghost use Rattle.std.specs.List.{flat_map};
+ghost use Rattle.std.specs.Prelude.{◌≡◌, ◌≤◌, Err, IfOk, OnOk, OnErr, map};
 ghost use Rattle.sn_io.specs.Causes.{Rose};
 ghost use Rattle.sn_io.specs.Told.{appended, AppendsPrefix};
-ghost use Rattle.sn_top.specs.Line.{line as line_text};
+ghost use Rattle.sn_net.specs.Item.{modelled};
+ghost use Rattle.sn_output.specs.Line.{line as line_text};
+ghost use Rattle.sn_output.specs.Printed.{ending, printed as printed_lines};
 
-use crate::line::line_of;
 use crate::status::Stop;
 use sn_io::{Sink, WriteFault, write_whole};
 use sn_list::Memory;
 use sn_names::Names;
-use sn_record::Record;
+use sn_output::line_of;
+use sn_record::{Fault, Item, Record};
 use std::alloc::Global;
 
 /// Why not all was printed.
@@ -72,20 +73,24 @@ fn print_one<O: Sink>(
     Ok(())
 }
 
-/// Prints the line of each record.
-pub fn print_all<O: Sink>(
+/// Prints the line of each record before the first fault, and answers that fault.
+pub fn print_items<O: Sink>(
     alloc: Global,
     names: &Names,
-    records: &[Record],
+    items: &[Item],
     out: &mut O,
-) -> Result<(), PrintFault>
-    ensures whole { OnOk result (O.held out.new ≡ appended (O.held out.old) (flat_map (line_text names.now) records.now)) }
-    ensures part { OnErr result (AppendsPrefix (O.held out.old) (O.held out.new) (flat_map (line_text names.now) records.now)) }
+) -> Result<Option<Fault>, PrintFault>
+    ensures whole { OnOk result (O.held out.new ≡ appended (O.held out.old) (printed_lines names.now (map modelled items.now))) }
+    ensures end { IfOk result (λ fault. fault ≡ ending (map modelled items.now)) }
+    ensures part { OnErr result (AppendsPrefix (O.held out.old) (O.held out.new) (printed_lines names.now (map modelled items.now))) }
     ensures later { O.faults out.old ≤ O.faults out.new }
     ensures cause { result ≡ Err PrintFault.Write → Rose (O.faults out.old) (O.faults out.new) }
 {
-    for printed in records {
-        print_one(alloc, names, printed, out)?;
+    for item in items {
+        match item {
+            Item::Rec(printed) => print_one(alloc, names, printed, out)?,
+            Item::Fault(fault) => return Ok(Some(*fault)),
+        }
     }
-    Ok(())
+    Ok(None)
 }

@@ -5,12 +5,12 @@ ghost use Rattle.sn_io.specs.Told.{appended};
 ghost use Rattle.sn_top.specs.Seen.{GotLine, seen_file, seen_sink};
 ghost use Rattle.sn_top.specs.Status.{stop_line};
 ghost use Rattle.sn_top.specs.Words.{command_of, input_of, IsInRange, source_of};
-ghost use Rattle.sn_top.specs.Answer.{seen, Finds, FindsFor, FindsText, WhyEnded, WhyStopped, WhyUnprinted, IsAnswered, HasUnread, IsCutShort, IsUnwritten, IsAnsweredFor, OfCommand, IsCutShortFor};
+ghost use Rattle.sn_top.specs.Answer.{seen, whole, Finds, FindsFor, FindsText, WhyEnded, WhyStopped, WhyUnprinted, IsAnswered, HasUnread, IsCutShort, IsUnwritten, IsAnsweredFor, OfCommand, IsCutShortFor};
 
 use crate::canonical::canonical_text;
 use crate::load::{answer_input, load_source};
 use crate::outside::{read_file, write_line};
-use crate::print::print_all;
+use crate::print::print_items;
 use crate::status::{Status, Stop, Which};
 use crate::words::{Command, WordsFault, read_words, usage_line};
 use itoa::Buffer;
@@ -34,7 +34,7 @@ fn run_once<F: Files, O: Sink>(
     out: &mut O,
 ) -> Result<(), Stop>
     ensures done { OnOk result ((p : List ℕ)
-        × Finds (F.bytes_of files.old source_name.now) (F.bytes_of files.old input_name.now) (Ok p)
+        × Finds (F.bytes_of files.old source_name.now) (F.bytes_of files.old input_name.now) (Ok (whole p))
         × (O.held out.new ≡ appended (O.held out.old) p)) }
     ensures stopped { IfErr result (WhyStopped
         (seen_file F.bytes_of F.faults files.old files.new source_name.now)
@@ -48,8 +48,10 @@ fn run_once<F: Files, O: Sink>(
     let program = load_source(alloc, source.as_slice())?;
     let input = read_file(alloc, files, Which::Input, input_name, INPUT_LIMIT)?;
     let answered = answer_input(alloc, program, input.as_slice())?;
-    print_all(alloc, &answered.names, answered.records.as_slice(), out)?;
-    Ok(())
+    match print_items(alloc, &answered.names, answered.items.as_slice(), out)? {
+        None => Ok(()),
+        Some(fault) => Err(Stop::Faulted(fault)),
+    }
 }
 
 /// Prints the canonical text of a source.
@@ -60,7 +62,7 @@ fn run_print<F: Files, O: Sink>(
     out: &mut O,
 ) -> Result<(), Stop>
     ensures done { OnOk result ((p : List ℕ)
-        × FindsText (F.bytes_of files.old source_name.now) (Ok p)
+        × FindsText (F.bytes_of files.old source_name.now) (Ok (whole p))
         × (O.held out.new ≡ appended (O.held out.old) p)) }
     ensures stopped { IfErr result (WhyUnprinted
         (seen_file F.bytes_of F.faults files.old files.new source_name.now)
@@ -82,7 +84,7 @@ fn run<F: Files, O: Sink>(
     out: &mut O,
 ) -> Result<(), Stop>
     ensures done { OnOk result ((p : List ℕ)
-        × FindsFor command.now (seen_file F.bytes_of F.faults files.old files.new) (Ok p)
+        × FindsFor command.now (seen_file F.bytes_of F.faults files.old files.new) (Ok (whole p))
         × (O.held out.new ≡ appended (O.held out.old) p)) }
     ensures stopped { IfErr result (WhyEnded command.now
         (seen_file F.bytes_of F.faults files.old files.new)
@@ -107,7 +109,7 @@ fn tell<E: Sink>(command: &Command, stop: &Stop, err: &mut E)
     let mut buffer = Buffer::new();
     let place = buffer.format(stop.place()).as_bytes();
     let name = stop.name(command.source(), command.input(), place);
-    write_line(err, stop.label(), name);
+    write_line(err, stop.label(), name, stop.detail());
 }
 
 /// Does a command on the calling thread. A failing `err` changes no status.
@@ -171,7 +173,7 @@ pub fn serve_words<R: Threads + Wait + Sync, F: Files, O: Sink, E: Sink, G: Gate
             Status::Usage
         }
         Err(WordsFault::Memory) => {
-            write_line(err, b"memory", b"");
+            write_line(err, b"memory", b"", (b"", b"", b""));
             Status::Memory
         }
     }

@@ -1,12 +1,14 @@
 //! How a call ends: its status, and what it writes on `err`.
-ghost use Rattle.std.specs.Prelude.{◌≡◌};
+ghost use Rattle.std.specs.Prelude.{◌≡◌, ◌++◌};
 ghost use Rattle.std.specs.Fmt.{decimal};
-ghost use Rattle.sn_top.specs.Status.{fault_label, status_code, stop_label, stop_name, stop_place, stop_status};
+ghost use Rattle.sn_top.specs.Status.{ending_label, fault_label, line_label, line_number, line_status, status_code, stop_detail, stop_label, stop_name, stop_place, stop_status};
 
+use sn_input::InputFault;
 use sn_io::WriteFault;
 use sn_lexer::LexFault;
 use sn_list::Memory;
 use sn_parser::ParseFault;
+use sn_record::{Fault, FaultKind, Kind, Text};
 use sn_scope::ScopeFault;
 
 /// How a command ended. Its number is the exit status of the program.
@@ -20,6 +22,10 @@ pub enum Status {
     Read,
     /// The source is none.
     Source,
+    /// The input is no record file.
+    Input,
+    /// What was printed ends at a fault.
+    Fault,
     /// Memory was wanted and not had.
     Memory,
     /// The output was not all written.
@@ -28,7 +34,7 @@ pub enum Status {
     TooLarge,
     /// Another limit is passed.
     Limit,
-    /// The source or the input is of a form that is not built yet, or a record has no route.
+    /// The source is of a form that is not built yet, or a record has no route.
     NotBuilt,
 }
 
@@ -42,6 +48,8 @@ impl Status {
             Status::Usage => 2,
             Status::Read => 3,
             Status::Source => 4,
+            Status::Input => 6,
+            Status::Fault => 7,
             Status::Memory => 8,
             Status::Write => 9,
             Status::TooLarge => 10,
@@ -91,8 +99,64 @@ impl SourceFault {
     }
 }
 
+/// What is wrong in a line of an input. Lines are counted from 1.
+#[derive(PartialEq, Eq, Debug, Drop)]
+pub enum LineFault {
+    /// It is no record.
+    BadLine(u32),
+    /// A label repeats an earlier one, by its kind and name.
+    Twice(u32, Kind, Text),
+    /// Its record is one too many.
+    TooMany(u32),
+}
+
+impl LineFault {
+    fn status(&self) -> Status
+        ensures { result ≡ line_status self.now }
+    {
+        match self {
+            LineFault::BadLine(_) | LineFault::Twice(_, _, _) => Status::Input,
+            LineFault::TooMany(_) => Status::Limit,
+        }
+    }
+
+    /// The number of the line.
+    fn number(&self) -> u32
+        ensures { result ≡ line_number self.now }
+    {
+        match self {
+            LineFault::BadLine(n) | LineFault::Twice(n, _, _) | LineFault::TooMany(n) => *n,
+        }
+    }
+
+    /// What the line on `err` says before the number.
+    fn label(&self) -> &'static [u8]
+        ensures { result.now ≡ line_label self.now }
+    {
+        match self {
+            LineFault::BadLine(_) => b"input: BadLine ",
+            LineFault::Twice(_, _, _) => b"input: Twice ",
+            LineFault::TooMany(_) => b"limit: Records at line ",
+        }
+    }
+}
+
+/// What the line on `err` says before the place of a fault that ends the output.
+fn ending_label(kind: FaultKind) -> &'static [u8]
+    ensures { result.now ≡ ending_label kind }
+{
+    match kind {
+        FaultKind::Fuel => b"fault: Fuel at ",
+        FaultKind::Overflow => b"fault: Overflow at ",
+        FaultKind::DivZero => b"fault: DivZero at ",
+        FaultKind::Kind => b"fault: Kind at ",
+        FaultKind::Index => b"fault: Index at ",
+        FaultKind::Depth => b"fault: Depth at ",
+    }
+}
+
 /// What the checks of a command refuse. A place is an offset in the source's bytes.
-#[derive(Clone, Copy, PartialEq, Eq, Debug)]
+#[derive(PartialEq, Eq, Debug, Drop)]
 pub enum Refusal {
     TooLarge(Which),
     Source(SourceFault, u32),
@@ -103,13 +167,17 @@ pub enum Refusal {
     LargeTree(u32),
     /// The labels have too many different names.
     TooManyNames,
+    /// A line of the input is wrong.
+    Line(LineFault),
     NotBuilt,
 }
 
-/// Why a command stops before its end.
-#[derive(Clone, Copy, PartialEq, Eq, Debug)]
+/// Why a command ends otherwise than with its whole output.
+#[derive(PartialEq, Eq, Debug, Drop)]
 pub enum Stop {
     Refused(Refusal),
+    /// What was printed ends at a fault.
+    Faulted(Fault),
     Unread(Which),
     Memory,
     Write,
@@ -134,6 +202,25 @@ impl From<WriteFault> for Stop {
 
     fn from(_fault: WriteFault) -> Stop {
         Stop::Write
+    }
+}
+
+impl From<InputFault> for Stop {
+    ghost use Rattle.std.specs.Prelude.{◌≡◌};
+    ghost use Rattle.sn_top.specs.Load.{input_stop};
+
+    ghost from_gives = { λ f e. e ≡ input_stop f };
+
+    fn from(fault: InputFault) -> Stop {
+        match fault {
+            InputFault::BadLine(n) => Stop::Refused(Refusal::Line(LineFault::BadLine(n))),
+            InputFault::Twice(n, kind, name) => {
+                Stop::Refused(Refusal::Line(LineFault::Twice(n, kind, name)))
+            }
+            InputFault::TooMany(n) => Stop::Refused(Refusal::Line(LineFault::TooMany(n))),
+            InputFault::TooManyNames => Stop::Refused(Refusal::TooManyNames),
+            InputFault::Memory => Stop::Memory,
+        }
     }
 }
 
@@ -204,14 +291,16 @@ impl Stop {
             Stop::Refused(Refusal::TooDeep(_)) => Status::Limit,
             Stop::Refused(Refusal::LargeTree(_)) => Status::Limit,
             Stop::Refused(Refusal::TooManyNames) => Status::Limit,
+            Stop::Refused(Refusal::Line(fault)) => fault.status(),
             Stop::Refused(Refusal::NotBuilt) => Status::NotBuilt,
+            Stop::Faulted(_) => Status::Fault,
             Stop::Unread(_) => Status::Read,
             Stop::Memory => Status::Memory,
             Stop::Write => Status::Write,
         }
     }
 
-    /// The place in the source that the line speaks of, or 0.
+    /// The place in the source or the number of the input's line that the line on `err` speaks of, or 0.
     pub fn place(&self) -> u32
         ensures { result ≡ stop_place self.now }
     {
@@ -219,6 +308,8 @@ impl Stop {
             Stop::Refused(Refusal::Source(_, at)) => *at,
             Stop::Refused(Refusal::TooDeep(at)) => *at,
             Stop::Refused(Refusal::LargeTree(at)) => *at,
+            Stop::Refused(Refusal::Line(fault)) => fault.number(),
+            Stop::Faulted(fault) => fault.place,
             _ => 0,
         }
     }
@@ -234,7 +325,9 @@ impl Stop {
             Stop::Refused(Refusal::TooDeep(_)) => b"limit: TooDeep at ",
             Stop::Refused(Refusal::LargeTree(_)) => b"limit: TooLarge at ",
             Stop::Refused(Refusal::TooManyNames) => b"limit: Names",
+            Stop::Refused(Refusal::Line(fault)) => fault.label(),
             Stop::Refused(Refusal::NotBuilt) => b"not built",
+            Stop::Faulted(fault) => ending_label(fault.kind),
             Stop::Unread(_) => b"read: ",
             Stop::Memory => b"memory",
             Stop::Write => b"write",
@@ -251,8 +344,25 @@ impl Stop {
             Stop::Refused(Refusal::TooLarge(Which::Input)) | Stop::Unread(Which::Input) => input,
             Stop::Refused(Refusal::Source(_, _))
             | Stop::Refused(Refusal::TooDeep(_))
-            | Stop::Refused(Refusal::LargeTree(_)) => place,
+            | Stop::Refused(Refusal::LargeTree(_))
+            | Stop::Refused(Refusal::Line(_))
+            | Stop::Faulted(_) => place,
             _ => &source[..0],
+        }
+    }
+
+    /// What the line says last, in three pieces: the label that stands twice, or nothing.
+    pub fn detail(&self) -> (&[u8], &[u8], &[u8])
+        ensures { result.0.now ++ (result.1.now ++ result.2.now) ≡ stop_detail self.now }
+    {
+        match self {
+            Stop::Refused(Refusal::Line(LineFault::Twice(_, Kind::Field, name))) => {
+                (b" ", name.as_slice(), b"")
+            }
+            Stop::Refused(Refusal::Line(LineFault::Twice(_, Kind::Tag, name))) => {
+                (b" <", name.as_slice(), b">")
+            }
+            _ => (b"", b"", b""),
         }
     }
 }

@@ -93,6 +93,62 @@ fn chains_answer_as_their_filters(rt: HostRuntime) -> Result<(), Fail> {
     Ok(())
 }
 
+const REST: &[u8] = b"net main ({<a>,<b>} -> {<a>}) connect [{<a>,<b>} -> {<a>=<a>%<b>}];";
+
+#[test]
+fn record_files_are_read_whole(rt: HostRuntime) -> Result<(), Fail> {
+    let alloc = rt.alloc();
+    let table: [(&[u8], &[u8], Status, &[u8], &[u8]); 6] = [
+        (
+            SOURCE,
+            b"{ a = \"x\\\"y\" , <t>=007 }\r\n",
+            Status::Ok,
+            b"{b=\"x\\\"y\", <t>=7}\n",
+            b"",
+        ),
+        (
+            SOURCE,
+            b"{a=[1,[],\"z\"]}",
+            Status::Ok,
+            b"{b=[1, [], \"z\"]}\n",
+            b"",
+        ),
+        (
+            SOURCE,
+            b"{a=1, a=2}",
+            Status::Input,
+            b"",
+            b"input: Twice 1 a\n",
+        ),
+        (
+            SOURCE,
+            b"\n{a=1}\n{a}",
+            Status::Input,
+            b"",
+            b"input: BadLine 3\n",
+        ),
+        (
+            REST,
+            b"{<a>=-9223372036854775808, <b>=-1}",
+            Status::Ok,
+            b"{<a>=0}\n",
+            b"",
+        ),
+        (
+            REST,
+            b"{<a>=-7, <b>=2}\n{<a>=1, <b>=0}\n{<a>=5, <b>=3}",
+            Status::Fault,
+            b"{<a>=-1}\n",
+            b"fault: DivZero at 38\n",
+        ),
+    ];
+    for (source, input, status, out, err) in table {
+        let served = serve(alloc, files(alloc, source, input)?, sink(alloc, 64)?)?;
+        assert!(rt; served.is(status, out, err));
+    }
+    Ok(())
+}
+
 /// Whether the source is refused with the line, and nothing is printed.
 fn is_refused(alloc: Global, source: &[u8], status: Status, line: &[u8]) -> Result<bool, Memory> {
     let served = serve(alloc, files(alloc, source, INPUT)?, sink(alloc, 64)?)?;
@@ -148,10 +204,9 @@ fn the_first_refusal_of_names_comes(rt: HostRuntime) -> Result<(), Fail> {
 
 #[test]
 fn other_networks_are_not_built(rt: HostRuntime) -> Result<(), Fail> {
-    let table: [&[u8]; 3] = [
+    let table: [&[u8]; 2] = [
         b"box f ((a) -> (b)) { out 1(a) } net main ({a} -> {b}) connect f;",
         b"net main ({a} -> {a}) connect [] || [];",
-        b"net main ({<a>} -> {<a>}) connect [{<a>} -> {<a>=1}];",
     ];
     for source in table {
         assert!(rt; is_refused(rt.alloc(), source, Status::NotBuilt, b"not built\n")?);

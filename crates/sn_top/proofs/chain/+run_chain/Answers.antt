@@ -8,11 +8,8 @@ use Rattle.sn_top.specs.declared.chain.ChainFault.{ChainFault}
 use Rattle.sn_top.proofs.Chains.{serial_stuck}
 use Rattle.sn_top.proofs.chain.+run_chain.Goals as goal
 
-pub run_filter-requires-clause-closed : goal.run_filter-requires-clause-closed
-run_filter-requires-clause-closed t c = (leaf_of_chain c.in-Filter.filter (subst IsClosedChain c.in-Filter.is c.requires)).0
-
-pub run_filter-requires-clause-plain : goal.run_filter-requires-clause-plain
-run_filter-requires-clause-plain t c = (leaf_of_chain c.in-Filter.filter (subst IsClosedChain c.in-Filter.is c.requires)).1
+pub run_filter-requires : goal.run_filter-requires
+run_filter-requires t c = leaf_of_chain c.in-Filter.filter (subst IsClosedChain c.in-Filter.is c.requires)
 
 pub run_chain-requires : goal.run_chain-requires
 run_chain-requires t c = (
@@ -31,4 +28,4 @@ returns-in_err-between-in-Serial-clause-stuck t c =
     let p = err_from_is_err_and c.from_residual.result c.from_residual.ensures.1 in
     λ stuck.
     let left_stuck = c.in_err-between-in-Serial.ensures.stuck (sym (p.1 ∙ ap (λ (fault : ChainFault). Err fault) p.2) ∙ stuck) in
-    rw c.in-Serial.is (serial_stuck c.in-Serial.left c.in-Serial.right c.get.result.now c.args.records (both_of_chain c.in-Serial.left c.in-Serial.right (subst IsClosedChain c.in-Serial.is c.requires)).1.chain c.get.ensures left_stuck)
+    rw c.in-Serial.is (serial_stuck c.in-Serial.left c.in-Serial.right c.get.result.now c.args.items (both_of_chain c.in-Serial.left c.in-Serial.right (subst IsClosedChain c.in-Serial.is c.requires)).1.chain c.get.ensures left_stuck)

@@ -1,13 +1,13 @@
-use Rattle.std.proofs.Common.{sym, subst}
-use Rattle.std.proofs.lemmas.List.Elements.{All-get_or, All-same}
-use Rattle.sn_net.specs.Filter.{IsClosedTemplate, IsPlainTemplate}
+use Rattle.std.proofs.Common.{sym, ◌∙◌}
+use Rattle.std.proofs.lemmas.Bool.{false≢true}
+use Rattle.sn_top.proofs.Chains.{answer_stuck, answered_by}
 use Rattle.sn_top.proofs.chain.answer.Goals as goal
 
-pub emit-requires-clause-closed : goal.emit-requires-clause-closed
-emit-requires-clause-closed c =
-    let P = IsClosedTemplate c.args.filter.now.pattern in
-    subst P (sym c.template-item.is) (All-get_or P _ c.loop-template.template-index c.template-item.result c.loop-template-test.true (All-same P _ _ c.as_slice-template-items.ensures c.requires.closed))
+pub returns-then-not-matches-clause-stuck : goal.returns-then-not-matches-clause-stuck
+returns-then-not-matches-clause-stuck c _ =
+    answer_stuck c.args.filter.now c.args.item.now c.in-Rec.taken c.in-Rec.is (λ matches. false≢true (sym c.if-not-matches.true ∙ c.matches.ensures.1 matches))
 
-pub emit-requires-clause-plain : goal.emit-requires-clause-plain
-emit-requires-clause-plain c =
-    subst IsPlainTemplate (sym c.template-item.is) (All-get_or IsPlainTemplate _ c.loop-template.template-index c.template-item.result c.loop-template-test.true (All-same IsPlainTemplate _ _ c.as_slice-template-items.ensures c.requires.plain))
+pub returns-in_ok-append_all-in-Rec-clause-ok : goal.returns-in_ok-append_all-in-Rec-clause-ok
+returns-in_ok-append_all-in-Rec-clause-ok c =
+    answered_by c.args.filter.now c.args.item.now c.in-Rec.taken c.in-Rec.is (c.matches.ensures.0 c.if-not-matches.false)
+    c.args.out.now c.append_all.new.out c.in_ok-apply-in-Rec.field-0 c.in_ok-append_all-in-Rec.ensures c.in_ok-apply-in-Rec.ensures

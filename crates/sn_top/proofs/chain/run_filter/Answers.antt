@@ -1,15 +1,22 @@
-use Rattle.std.proofs.Common.{◌∙◌, sym, IsTrue, subst, map}
+use Rattle.std.proofs.Common.{◌∙◌, ap, IsTrue, subst, map}
 use Rattle.std.specs.List.{flat_map}
-use Rattle.std.proofs.lemmas.Bool.{false≢true}
-use Rattle.sn_net.specs.Meaning.{Rec, holds_stuck, answer}
-use Rattle.sn_top.proofs.Chains.{answered_more, stuck_at}
+use Rattle.std.specs.Prelude.{Err}
+use Rattle.std.proofs.lemmas.Result.{err_from_is_err_and}
+use Rattle.sn_net.specs.Item.{holds_stuck, modelled}
+use Rattle.sn_net.specs.Meaning.{answer}
+use Rattle.sn_top.specs.declared.chain.ChainFault.{ChainFault}
+use Rattle.sn_top.specs.declared.chain.ChainFault.TheVariants.{Stuck}
+use Rattle.sn_top.proofs.Chains.{answered_more, same_fault, stuck_at}
 use Rattle.sn_top.proofs.chain.run_filter.Goals as goal
 
-pub returns-then-not-matches-clause-stuck : goal.returns-then-not-matches-clause-stuck
-returns-then-not-matches-clause-stuck c _ =
-    subst (λ rs. IsTrue (holds_stuck (flat_map (answer c.args.filter.now) (map Rec rs)))) c.as_slice-record-items.ensures
-    (stuck_at c.args.filter.now c.as_slice-record-items.result.now c.loop-record.record-index c.record-item.result c.loop-record-test.true c.record-item.is (λ matches. false≢true (sym c.if-not-matches.true ∙ c.matches.ensures.1 matches)))
+pub loop-item-preserved : goal.loop-item-preserved
+loop-item-preserved c =
+    answered_more c.args.filter.now c.as_slice-item-items.result.now c.loop-item.item-index c.item-item.result c.loop-item.out c.answer.new.out c.loop-item-test.true c.item-item.is c.loop-item.invariant c.in_ok-answer.ensures.ok
 
-pub loop-record-preserved : goal.loop-record-preserved
-loop-record-preserved c =
-    answered_more c.args.filter.now c.as_slice-record-items.result.now c.loop-record.record-index c.record-item.result c.loop-record.out c.answer.new.out c.loop-record-test.true c.record-item.is (c.matches.ensures.0 c.if-not-matches.false) c.loop-record.invariant c.in_ok-answer.ensures
+pub returns-in_err-answer-clause-stuck : goal.returns-in_err-answer-clause-stuck
+returns-in_err-answer-clause-stuck c =
+    let p = err_from_is_err_and c.from_residual.result c.from_residual.ensures.1 in
+    λ stuck.
+    let here = c.in_err-answer.ensures.stuck (same_fault c.from_residual.result c.in_err-answer.field-0.0 Stuck (p.1 ∙ ap (λ (fault : ChainFault). Err fault) p.2) stuck) in
+    subst (λ items. IsTrue (holds_stuck (flat_map (answer c.args.filter.now) (map modelled items)))) c.as_slice-item-items.ensures
+    (stuck_at c.args.filter.now c.as_slice-item-items.result.now c.loop-item.item-index c.item-item.result c.loop-item-test.true c.item-item.is here)

@@ -1,29 +1,29 @@
 use Rattle.std.proofs.Common.{◌≡◌, get_or, true, Some, refl, sym, ap, ◌∙◌, subst}
 use Rattle.std.proofs.lemmas.Option.{slice_get-get_or}
-use Rattle.sn_net.specs.Net.{is_plain_chain}
+use Rattle.sn_net.specs.Net.{is_chain}
 use Rattle.sn_net.specs.WellFormed.{IsWellFormed}
-use Rattle.sn_net.proofs.Plain.{plain_closed}
+use Rattle.sn_net.proofs.Chained.{chain_closed}
 use Rattle.sn_top.proofs.load.main_chain.Goals as goal
 
-pub returns-then-not-is_plain_chain-clause-refused : goal.returns-then-not-is_plain_chain-clause-refused
-returns-then-not-is_plain_chain-clause-refused c =
+pub returns-then-not-is_chain-clause-refused : goal.returns-then-not-is_chain-clause-refused
+returns-then-not-is_chain-clause-refused c =
     let claims = c.args.resolved.claims in
     let claim = c.swap_remove-claim.result in
     let at : claim ≡ get_or claims c.args.resolved.main claim = c.swap_remove-claim.ensures.value ∙ ap (λ cs. get_or cs c.args.resolved.main claim) c.into_vec-claims.ensures in
-    (refl, record { claim = claim; main = slice_get-get_or claims c.args.resolved.main claim c.requires.main ∙ ap Some (sym at); other = sym c.is_plain_chain.ensures ∙ c.if-not-is_plain_chain.true })
+    (refl, record { claim = claim; main = slice_get-get_or claims c.args.resolved.main claim c.requires.main ∙ ap Some (sym at); other = sym c.is_chain.ensures ∙ c.if-not-is_chain.true })
 
 pub returns-clause-ok : goal.returns-clause-ok
 returns-clause-ok c =
     let claims = c.args.resolved.claims in
     let claim = c.swap_remove-claim.result in
     let at : claim ≡ get_or claims c.args.resolved.main claim = c.swap_remove-claim.ensures.value ∙ ap (λ cs. get_or cs c.args.resolved.main claim) c.into_vec-claims.ensures in
-    let plain : is_plain_chain claim.net ≡ true = sym c.is_plain_chain.ensures ∙ c.if-not-is_plain_chain.false in
+    let chained : is_chain claim.net ≡ true = sym c.is_chain.ensures ∙ c.if-not-is_chain.false in
     let formed : IsWellFormed c.args.resolved.boxes claim.net = subst (λ x. IsWellFormed c.args.resolved.boxes x.net) (sym at) (c.requires.formed c.args.resolved.main claim c.requires.main) in
     record {
       claim = claim;
       main = slice_get-get_or claims c.args.resolved.main claim c.requires.main ∙ ap Some (sym at);
       names_are = refl;
       net_is = refl;
-      plain = plain;
-      closed = plain_closed c.args.resolved.boxes claim.net formed plain;
+      chained = chained;
+      closed = chain_closed c.args.resolved.boxes claim.net formed chained;
     }

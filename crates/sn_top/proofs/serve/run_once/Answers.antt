@@ -1,13 +1,13 @@
-use Rattle.std.proofs.Common.{◌≡◌, refl, ap, ◌∙◌, subst}
+use Rattle.std.proofs.Common.{◌≡◌, Some, None, map, refl, sym, ap, ◌∙◌, subst}
 use Rattle.std.specs.Prelude.{IfSome, Err}
-use Rattle.std.specs.List.{flat_map}
 use Rattle.std.proofs.lemmas.Result.{err_from_is_err_and}
 use Rattle.sn_io.specs.Told.{AppendsPrefix}
 use Rattle.sn_top.specs.declared.print.PrintFault.TheVariants.{Write}
-use Rattle.sn_top.specs.Line.{line}
+use Rattle.sn_net.specs.Item.{modelled}
+use Rattle.sn_output.specs.Printed.{printed}
 use Rattle.sn_top.specs.Seen.{File, Sink, seen_file, seen_sink, SinkFailed}
 use Rattle.sn_top.specs.Load.{IsLoaded, IsAnswer}
-use Rattle.sn_top.proofs.Serving.{source_unread, not_loaded, input_unread, no_answer, finds_lines, not_printed, HasBytes}
+use Rattle.sn_top.proofs.Serving.{source_unread, not_loaded, input_unread, no_answer, finds_ending, not_printed, HasBytes}
 use Rattle.sn_top.proofs.serve.run_once.Goals as goal
 
 pub returns-in_err-source-clause-stopped : goal.returns-in_err-source-clause-stopped
@@ -51,27 +51,40 @@ returns-in_err-answered-clause-stopped g c =
     let why = rw c.as_slice-2.ensures at c.in_err-answered.ensures.ended in
     rw (p.1, p.2) (no_answer source input out refl c.in_ok-source.source read c.in_ok-program.program program c.in_ok-input.input has c.in_err-answered.field-0.0 why)
 
-pub returns-in_err-print_all-clause-stopped : goal.returns-in_err-print_all-clause-stopped
-returns-in_err-print_all-clause-stopped g c =
-    let p = err_from_is_err_and c.from_residual-in_err-print_all.result c.from_residual-in_err-print_all.ensures.1 in
+pub returns-in_err-print_items-clause-stopped : goal.returns-in_err-print_items-clause-stopped
+returns-in_err-print_items-clause-stopped g c =
+    let p = err_from_is_err_and c.from_residual-in_err-print_items.result c.from_residual-in_err-print_items.ensures.1 in
     let source : File = seen_file g.F.Files.bytes_of g.F.Files.faults c.args.files.now c.read_file-2.new.files c.args.source_name.now in
     let input : File = seen_file g.F.Files.bytes_of g.F.Files.faults c.args.files.now c.read_file-2.new.files c.args.input_name.now in
-    let out : Sink = seen_sink g.O.Sink.held g.O.Sink.faults c.args.out.now c.print_all.new.out in
+    let out : Sink = seen_sink g.O.Sink.held g.O.Sink.faults c.args.out.now c.print_items.new.out in
     let read : HasBytes source _ c.in_ok-source.source = record { told = c.in_ok-source.ensures.whole; within = c.in_ok-source.ensures.within } in
     let program : IsLoaded c.in_ok-source.source c.in_ok-program.program = rw c.as_slice.ensures at c.in_ok-program.ensures.loaded in
     let has : HasBytes input _ c.in_ok-input.input = record { told = subst (λ t. IfSome t (λ x. c.in_ok-input.input ≡ x)) (c.read_file.ensures.same c.args.input_name.now) c.in_ok-input.ensures.whole; within = c.in_ok-input.ensures.within } in
     let answer : IsAnswer c.in_ok-program.program c.in_ok-input.input c.in_ok-answered.answered = rw c.as_slice-2.ensures at c.in_ok-answered.ensures.answered in
-    let part : AppendsPrefix (g.O.Sink.held c.args.out.now) (g.O.Sink.held c.print_all.new.out) (flat_map (line c.in_ok-answered.answered.names) c.in_ok-answered.answered.records) = rw c.as_slice-3.ensures at c.in_err-print_all.ensures.part in
-    let failed : c.in_err-print_all.field-0.0 ≡ Write → SinkFailed out = λ is. c.print_all.ensures.cause (c.in_err-print_all.was ∙ ap (λ e. Err e) is) in
-    rw (p.1, p.2) (not_printed source input c.in_ok-source.source read c.in_ok-program.program program c.in_ok-input.input has c.in_ok-answered.answered answer out c.in_err-print_all.field-0.0 part failed)
+    let part : AppendsPrefix (g.O.Sink.held c.args.out.now) (g.O.Sink.held c.print_items.new.out) (printed c.in_ok-answered.answered.names (map modelled c.in_ok-answered.answered.items)) = rw c.as_slice-3.ensures at c.in_err-print_items.ensures.part in
+    let failed : c.in_err-print_items.field-0.0 ≡ Write → SinkFailed out = λ is. c.print_items.ensures.cause (c.in_err-print_items.was ∙ ap (λ e. Err e) is) in
+    rw (p.1, p.2) (not_printed source input c.in_ok-source.source read c.in_ok-program.program program c.in_ok-input.input has c.in_ok-answered.answered answer out c.in_err-print_items.field-0.0 part failed)
 
-pub returns-clause-done : goal.returns-clause-done
-returns-clause-done g c =
+pub returns-in-None-clause-done : goal.returns-in-None-clause-done
+returns-in-None-clause-done g c =
     let source : File = seen_file g.F.Files.bytes_of g.F.Files.faults c.args.files.now c.read_file-2.new.files c.args.source_name.now in
     let input : File = seen_file g.F.Files.bytes_of g.F.Files.faults c.args.files.now c.read_file-2.new.files c.args.input_name.now in
     let read : HasBytes source _ c.in_ok-source.source = record { told = c.in_ok-source.ensures.whole; within = c.in_ok-source.ensures.within } in
     let program : IsLoaded c.in_ok-source.source c.in_ok-program.program = rw c.as_slice.ensures at c.in_ok-program.ensures.loaded in
     let has : HasBytes input _ c.in_ok-input.input = record { told = subst (λ t. IfSome t (λ x. c.in_ok-input.input ≡ x)) (c.read_file.ensures.same c.args.input_name.now) c.in_ok-input.ensures.whole; within = c.in_ok-input.ensures.within } in
     let answer : IsAnswer c.in_ok-program.program c.in_ok-input.input c.in_ok-answered.answered = rw c.as_slice-2.ensures at c.in_ok-answered.ensures.answered in
-    let whole = rw c.as_slice-3.ensures at c.in_ok-print_all.ensures.whole in
-    (flat_map (line c.in_ok-answered.answered.names) c.in_ok-answered.answered.records, finds_lines source input c.in_ok-source.source read c.in_ok-program.program program c.in_ok-input.input has c.in_ok-answered.answered answer, whole)
+    let whole = rw c.as_slice-3.ensures at c.in_ok-print_items.ensures.whole in
+    let end = rw c.as_slice-3.ensures at c.in_ok-print_items.ensures.end in
+    (printed c.in_ok-answered.answered.names (map modelled c.in_ok-answered.answered.items), finds_ending source input c.in_ok-source.source read c.in_ok-program.program program c.in_ok-input.input has c.in_ok-answered.answered answer None (sym c.in-None.is ∙ end), whole)
+
+pub returns-clause-stopped : goal.returns-clause-stopped
+returns-clause-stopped g c =
+    let source : File = seen_file g.F.Files.bytes_of g.F.Files.faults c.args.files.now c.read_file-2.new.files c.args.source_name.now in
+    let input : File = seen_file g.F.Files.bytes_of g.F.Files.faults c.args.files.now c.read_file-2.new.files c.args.input_name.now in
+    let read : HasBytes source _ c.in_ok-source.source = record { told = c.in_ok-source.ensures.whole; within = c.in_ok-source.ensures.within } in
+    let program : IsLoaded c.in_ok-source.source c.in_ok-program.program = rw c.as_slice.ensures at c.in_ok-program.ensures.loaded in
+    let has : HasBytes input _ c.in_ok-input.input = record { told = subst (λ t. IfSome t (λ x. c.in_ok-input.input ≡ x)) (c.read_file.ensures.same c.args.input_name.now) c.in_ok-input.ensures.whole; within = c.in_ok-input.ensures.within } in
+    let answer : IsAnswer c.in_ok-program.program c.in_ok-input.input c.in_ok-answered.answered = rw c.as_slice-2.ensures at c.in_ok-answered.ensures.answered in
+    let whole = rw c.as_slice-3.ensures at c.in_ok-print_items.ensures.whole in
+    let end = rw c.as_slice-3.ensures at c.in_ok-print_items.ensures.end in
+    (printed c.in_ok-answered.answered.names (map modelled c.in_ok-answered.answered.items), finds_ending source input c.in_ok-source.source read c.in_ok-program.program program c.in_ok-input.input has c.in_ok-answered.answered answer (Some c.in-Some.fault) (sym c.in-Some.is ∙ end), whole)
