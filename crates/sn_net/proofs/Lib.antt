@@ -6,3 +6,4 @@ pub mod Variants
 pub mod Sound
 pub mod Forms
 pub mod Chained
+pub mod Evaluation

@@ -6,4 +6,6 @@ pub mod Meaning
 pub mod Face
 pub mod Faced
 pub mod Boxes
+pub mod BoxValues
+pub mod BoxEvaluation
 pub mod WellFormed

@@ -2,13 +2,14 @@
 //!
 //! `face` walks all that is below a node. Here a node's face comes from those of its parts, so a network that is made from
 //! its leaves up is never walked.
-ghost use Rattle.std.specs.Prelude.{◌≡◌, IfOk, List, All, map};
+ghost use Rattle.std.specs.Prelude.{◌≡◌, ◌<◌, IfOk, List, All, length, map};
 ghost use Rattle.std.specs.List.{flat_map};
 ghost use Rattle.sn_net.specs.declared.expr.BoxProgram.{BoxProgram};
 ghost use Rattle.sn_net.specs.declared.net.Net.TheVariants as form;
 ghost use Rattle.sn_net.specs.Faced.{IsFaced, net_of, face_of};
 
-use crate::faces::{ascending, copy_sets, push_copies, push_copy, push_tagged};
+use crate::expr::Boxes;
+use crate::faces::{ascending, copy_sets, face, push_copies, push_copy, push_tagged};
 use crate::filter::Filter;
 use crate::list::append;
 use crate::net::{Merge, Net};
@@ -50,6 +51,17 @@ fn all_sets(alloc: Global, faces: &[Seq<LabelSet>]) -> Result<Seq<LabelSet>, Mem
 }
 
 impl Faced {
+    /// A call of one of the boxes. Its face is the box's input variant.
+    pub fn of_box(alloc: Global, place: u32, number: u32, boxes: &Boxes) -> Result<Faced, Memory>
+        requires { number < length boxes.now }
+        ensures net { IfOk result (λ faced. faced.net ≡ form.Box place number) }
+        ensures face { IfOk result (IsFaced boxes.now) }
+    {
+        let net = Net::Box { place, number };
+        let face = face(alloc, &net, boxes)?;
+        Ok(Faced { net, face })
+    }
+
     pub fn filter(alloc: Global, filter: Filter) -> Result<Faced, Memory>
         ensures net { IfOk result (λ faced. faced.net ≡ form.Filter filter) }
         ensures face { (boxes : List BoxProgram) → IfOk result (IsFaced boxes) }

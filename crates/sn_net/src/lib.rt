@@ -5,6 +5,7 @@ mod expr;
 mod faced;
 mod faces;
 mod filter;
+mod laws;
 mod list;
 mod net;
 mod tags;
