@@ -1,0 +1,5 @@
+pub mod Equal
+pub mod Sound
+pub mod Sizes
+pub mod Emitted
+pub mod Operated

@@ -1,0 +1,89 @@
+ghost use Rattle.std.specs.Prelude.{◌≡◌, ◌++◌, ◌∷◌, [], map, IfOk, OnOk};
+ghost use Rattle.sn_net.specs.Item.{modelled};
+ghost use Rattle.sn_net.specs.Face.{variant_of};
+ghost use Rattle.sn_net.specs.BoxEvaluation.{body_outcome, box_answer};
+ghost use Rattle.sn_boxrun.specs.Call.{emitted_of, fault_of, fault_items, inherited};
+
+use crate::machine::Machine;
+use sn_box_values::{Stop, inputs};
+use sn_list::{Memory, Seq};
+use sn_net::BoxProgram;
+use sn_record::{Fault, FaultKind, Item, Items, Label, LabelSet, Record};
+use sn_stack::append;
+use std::alloc::Global;
+
+/// What a box's body emits, and the fault that ended it, if there was one.
+fn evaluate(
+    alloc: Global,
+    b: &BoxProgram,
+    r: &Record,
+    fuel: u64,
+) -> Result<(Seq<Record>, Option<FaultKind>), Memory>
+    ensures emitted { IfOk result (λ done. done.0 ≡ emitted_of (body_outcome b.now r.now fuel)) }
+    ensures fault { IfOk result (λ done. done.1 ≡ fault_of (body_outcome b.now r.now fuel)) }
+{
+    let variables = inputs(alloc, r, b.input.as_slice())?;
+    let mut machine = Machine::new(alloc, b, variables, fuel);
+    match machine.run(&b.body) {
+        Ok(_) => Ok((machine.into_emitted(), None)),
+        Err(Stop::Faulted(fault)) => Ok((machine.into_emitted(), Some(fault))),
+        Err(Stop::Memory) => Err(Memory),
+    }
+}
+
+/// The set of the labels.
+fn variant_of(alloc: Global, labels: &[Label]) -> Result<LabelSet, Memory>
+    ensures { IfOk result (λ variant. variant ≡ variant_of labels.now) }
+{
+    let mut variant = LabelSet::new(alloc);
+    for label in labels {
+        variant.insert(*label)?;
+    }
+    Ok(variant)
+}
+
+/// The records that were emitted, each with what it inherits from the record that a box with the input took.
+fn inheriting(
+    alloc: Global,
+    input: &LabelSet,
+    r: &Record,
+    emitted: Seq<Record>,
+) -> Result<Items, Memory>
+    ensures { IfOk result (λ items. map modelled items ≡ map (inherited r.now input.now) emitted) }
+{
+    let mut items = Items::new(alloc);
+    for made in emitted.into_vec() {
+        let whole = made.inheriting(alloc, r, input)?;
+        append(&mut items, Item::Rec(whole))?;
+    }
+    Ok(items)
+}
+
+/// Appends the fault, if there was one, at the place.
+fn add_fault(items: &mut Items, place: u32, fault: Option<FaultKind>) -> Result<(), Memory>
+    ensures { OnOk result (map modelled items.new ≡ map modelled items.old ++ fault_items place fault) }
+{
+    match fault {
+        Some(kind) => append(items, Item::Fault(Fault { kind, place })),
+        None => Ok(()),
+    }
+}
+
+/// What a box answers to a record: what its body emits with so much fuel, in order, each record with what it inherits, and
+/// then the fault, if one ended it, at the place of the box. The body's calls stand on a stack of the machine's own, so their
+/// depth is bounded by the fuel alone.
+pub fn call(
+    alloc: Global,
+    b: &BoxProgram,
+    place: u32,
+    r: &Record,
+    fuel: u64,
+) -> Result<Items, Memory>
+    ensures { IfOk result (λ items. map modelled items ≡ box_answer b.now place r.now fuel) }
+{
+    let (emitted, fault) = evaluate(alloc, b, r, fuel)?;
+    let input = variant_of(alloc, b.input.as_slice())?;
+    let mut items = inheriting(alloc, &input, r, emitted)?;
+    add_fault(&mut items, place, fault)?;
+    Ok(items)
+}
