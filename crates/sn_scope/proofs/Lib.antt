@@ -4,7 +4,6 @@ pub mod Nodes
 pub mod Levels
 pub mod Building
 pub mod Fitting
-pub mod SoundChecks
 pub mod SoundTags
 pub mod SoundFilters
 pub mod SoundComponents

@@ -7,8 +7,11 @@ use Rattle.sn_net.specs.declared.net.Merge.{Merge}
 use Rattle.sn_net.specs.declared.net.Net.{Net}
 use Rattle.sn_net.specs.declared.net.Net.TheOpen.{Net-F}
 use Rattle.sn_net.specs.declared.net.Net.TheFolds.{fold-roll-Net, ind-Net, map-Net}
-use Rattle.sn_net.specs.declared.net.Net.TheVariants.{Filter as FilterLeaf, Sync, Serial, Choice, Star, Split, rolls-Filter, rolls-Sync, rolls-Serial, rolls-Choice, rolls-Star, rolls-Split}
+use Rattle.sn_net.specs.declared.net.Net.TheVariants.{Box, Filter as FilterLeaf, Sync, Serial, Choice, Star, Split, rolls-Box, rolls-Filter, rolls-Sync, rolls-Serial, rolls-Choice, rolls-Star, rolls-Split}
 use Rattle.sn_net.specs.Net.{nodes, nodes_step}
+
+pub nodes-Box : (place number : ℕ) → nodes (Box place number) ≡ 1
+nodes-Box place number = ap nodes (sym (rolls-Box place number)) ∙ fold-roll-Net ℕ nodes_step (Net-F.Box place number)
 
 pub nodes-Filter : (filter : Filter) → nodes (FilterLeaf filter) ≡ 1
 nodes-Filter filter = ap nodes (sym (rolls-Filter filter)) ∙ fold-roll-Net ℕ nodes_step (Net-F.Filter filter)

@@ -5,6 +5,7 @@ use Rattle.std.proofs.lemmas.Bool.Decides.{nat_tests}
 use Rattle.sn_ast.specs.declared.declaration.Program.{Program}
 use Rattle.sn_net.specs.Net.{nodes}
 use Rattle.sn_net.specs.WellFormed.{IsWellFormed}
+use Rattle.sn_net.specs.declared.expr.BoxProgram.{BoxProgram}
 use Rattle.sn_net.specs.declared.net.Claim.{Claim}
 use Rattle.sn_net.specs.declared.net.Net.{Net}
 use Rattle.sn_scope.specs.Declarations.{declarations_of}
@@ -13,7 +14,7 @@ use Rattle.sn_scope.specs.Resolution.{fault_at, most_names, resolution, resoluti
 use Rattle.sn_scope.specs.Trees.{claim_at, claims_within, fitting, led_by, most_nodes, or_refused, tree_of}
 use Rattle.sn_scope.specs.declared.declarations.Declarations.{Declarations}
 use Rattle.sn_scope.specs.declared.declarations.Pending.{Pending}
-use Rattle.sn_scope.specs.declared.refusal.Refusal.{Refusal}
+use Rattle.sn_label_scope.specs.declared.refusal.Refusal.{Refusal}
 use Rattle.sn_scope.specs.declared.resolution.Resolved.{Resolved}
 use Rattle.sn_scope.specs.declared.resolution.ScopeFault.TheVariants as cause
 use Rattle.sn_scope.proofs.SoundTrees.{trees_are_sound}
@@ -30,75 +31,76 @@ pub not_refused : (program : Program) (names : List (List ℕ)) (st : Declaratio
     resolution program ≡ with_main names st st.main
 not_refused program names st is_names is_st none = under program names st is_names is_st ∙ ap (unless_refused names st) none
 
-abbrev AreFormed : List Claim → Type 0
-AreFormed claims = All (λ claim. IsWellFormed [] claim.net) claims
+abbrev AreFormed : List BoxProgram → List Claim → Type 0
+AreFormed boxes claims = All (λ claim. IsWellFormed boxes claim.net) claims
 
-abbrev AllFormed : Result (List Claim) ℕ → Type 0
-AllFormed claims = IfOk claims AreFormed
+abbrev AllFormed : List BoxProgram → Result (List Claim) ℕ → Type 0
+AllFormed boxes claims = IfOk claims (AreFormed boxes)
 
-led_formed : (claim : Claim) → IsWellFormed [] claim.net → (claims : Result (List Claim) ℕ) → AllFormed claims → AllFormed (led_by (claim ∷ []) claims)
-led_formed claim formed (Ok more) all = All-cons (λ c. IsWellFormed [] c.net) claim more formed all
-led_formed claim formed (Err place) all = tt
+led_formed : (boxes : List BoxProgram) (claim : Claim) → IsWellFormed boxes claim.net → (claims : Result (List Claim) ℕ) → AllFormed boxes claims → AllFormed boxes (led_by (claim ∷ []) claims)
+led_formed boxes claim formed (Ok more) all = All-cons (λ c. IsWellFormed boxes c.net) claim more formed all
+led_formed boxes claim formed (Err place) all = tt
 
 -- a claim that is not refused, before others
-claim_formed : (st : Declarations) (room : ℕ) (pending : Pending) (rest : Net → Result (List Claim) ℕ) → ((tree : Net) → AllFormed (rest tree)) →
-    (made : Option Net) → ((tree : Net) → made ≡ Some tree → IsWellFormed [] tree) →
-    AllFormed (or_refused pending.place (fitting room made) (λ tree. led_by (claim_at st pending tree ∷ []) (rest tree)))
+claim_formed : (st : Declarations) (room : ℕ) (pending : Pending) (rest : Net → Result (List Claim) ℕ) → ((tree : Net) → AllFormed st.boxes (rest tree)) →
+    (made : Option Net) → ((tree : Net) → made ≡ Some tree → IsWellFormed st.boxes tree) →
+    AllFormed st.boxes (or_refused pending.place (fitting room made) (λ tree. led_by (claim_at st pending tree ∷ []) (rest tree)))
 claim_formed st room pending rest all None formed = tt
 claim_formed st room pending rest all (Some tree) formed =
-    elim (nat_le (nodes tree) room) as (λ b. AllFormed (or_refused pending.place (cond b (Some tree) None) (λ t. led_by (claim_at st pending t ∷ []) (rest t)))) [
-      | true ↦ led_formed (claim_at st pending tree) (formed tree refl) (rest tree) (all tree)
+    elim (nat_le (nodes tree) room) as (λ b. AllFormed st.boxes (or_refused pending.place (cond b (Some tree) None) (λ t. led_by (claim_at st pending t ∷ []) (rest t)))) [
+      | true ↦ led_formed st.boxes (claim_at st pending tree) (formed tree refl) (rest tree) (all tree)
       | false ↦ tt
     ]
 
 -- where each tree is well formed, each claim is
-claims_formed : (st : Declarations) → ((number : ℕ) (tree : Net) → tree_of st.nets number ≡ Some tree → IsWellFormed [] tree) → (room : ℕ) (pending : List Pending) → AllFormed (claims_within st room pending)
-claims_formed st sound room [] = All-nil (λ c. IsWellFormed [] c.net)
+claims_formed : (st : Declarations) → ((number : ℕ) (tree : Net) → tree_of st.boxes st.nets number ≡ Some tree → IsWellFormed st.boxes tree) → (room : ℕ) (pending : List Pending) → AllFormed st.boxes (claims_within st room pending)
+claims_formed st sound room [] = All-nil (λ c. IsWellFormed st.boxes c.net)
 claims_formed st sound room (pending ∷ more) =
-    claim_formed st room pending (λ tree. claims_within st (room - nodes tree) more) (λ tree. claims_formed st sound (room - nodes tree) more) (tree_of st.nets pending.net) (sound pending.net)
+    claim_formed st room pending (λ tree. claims_within st (room - nodes tree) more) (λ tree. claims_formed st sound (room - nodes tree) more) (tree_of st.boxes st.nets pending.net) (sound pending.net)
 
 abbrev IsFormed : Resolved → Type 0
 IsFormed r = All (λ claim. IsWellFormed r.boxes claim.net) r.claims
 
-resolved_formed : (names : List (List ℕ)) (main : ℕ) (claims : Result (List Claim) ℕ) → AllFormed claims → IfOk (resolved names main claims) IsFormed
-resolved_formed names main (Ok claims) formed =
-    elim (nat_lt main (length claims)) as (λ b. IfOk (cond b (Ok (record { names = names; boxes = []; claims = claims; main = main })) (Err cause.NoMain)) IsFormed) [
+resolved_formed : (names : List (List ℕ)) (boxes : List BoxProgram) (main : ℕ) (claims : Result (List Claim) ℕ) → AllFormed boxes claims → IfOk (resolved names boxes main claims) IsFormed
+resolved_formed names boxes main (Ok claims) formed =
+    elim (nat_lt main (length claims)) as (λ b. IfOk (cond b (Ok (record { names = names; boxes = boxes; claims = claims; main = main })) (Err cause.NoMain)) IsFormed) [
       | true ↦ formed
       | false ↦ tt
     ]
-resolved_formed names main (Err place) formed = tt
+resolved_formed names boxes main (Err place) formed = tt
 
-main_formed : (names : List (List ℕ)) (st : Declarations) → ((number : ℕ) (tree : Net) → tree_of st.nets number ≡ Some tree → IsWellFormed [] tree) → (main : Option ℕ) → IfOk (with_main names st main) IsFormed
+main_formed : (names : List (List ℕ)) (st : Declarations) → ((number : ℕ) (tree : Net) → tree_of st.boxes st.nets number ≡ Some tree → IsWellFormed st.boxes tree) → (main : Option ℕ) → IfOk (with_main names st main) IsFormed
 main_formed names st sound None = tt
 main_formed names st sound (Some main) =
-    elim (nat_le (length names) most_names) as (λ b. IfOk (cond b (resolved names main (claims_within st most_nodes st.claims)) (Err cause.TooManyNames)) IsFormed) [
-      | true ↦ resolved_formed names main (claims_within st most_nodes st.claims) (claims_formed st sound most_nodes st.claims)
+    elim (nat_le (length names) most_names) as (λ b. IfOk (cond b (resolved names st.boxes main (claims_within st most_nodes st.claims)) (Err cause.TooManyNames)) IsFormed) [
+      | true ↦ resolved_formed names st.boxes main (claims_within st most_nodes st.claims) (claims_formed st sound most_nodes st.claims)
       | false ↦ tt
     ]
 
 -- where nothing is refused, what is resolved is well formed
 pub all_formed : (program : Program) (names : List (List ℕ)) (st : Declarations) (r : Resolved) → st ≡ declarations_of names program → st.refusals ≡ None → with_main names st st.main ≡ Ok r → IsFormed r
 all_formed program names st r is_st none is =
-    let sound : (number : ℕ) (tree : Net) → tree_of st.nets number ≡ Some tree → IsWellFormed [] tree =
-    λ number tree made. trees_are_sound names program number tree (ap (λ s. s.refusals) (sym is_st) ∙ none) (ap (λ s. tree_of s.nets number) (sym is_st) ∙ made) in
+    let sound : (number : ℕ) (tree : Net) → tree_of st.boxes st.nets number ≡ Some tree → IsWellFormed st.boxes tree =
+    λ number tree made. subst (λ s. IsWellFormed s.boxes tree) (sym is_st)
+    (trees_are_sound names program number tree (ap (λ s. s.refusals) (sym is_st) ∙ none) (ap (λ s. tree_of s.boxes s.nets number) (sym is_st) ∙ made)) in
     subst (λ x. IfOk x IsFormed) is (main_formed names st sound st.main)
 
 abbrev HasMain : Resolved → Type 0
 HasMain r = r.main < length r.claims
 
-resolved_main : (names : List (List ℕ)) (main : ℕ) (claims : Result (List Claim) ℕ) → IfOk (resolved names main claims) HasMain
-resolved_main names main (Ok claims) =
-    elim (nat_lt main (length claims)) as (λ b. nat_lt main (length claims) ≡ b → IfOk (cond b (Ok (record { names = names; boxes = []; claims = claims; main = main })) (Err cause.NoMain)) HasMain) [
+resolved_main : (names : List (List ℕ)) (boxes : List BoxProgram) (main : ℕ) (claims : Result (List Claim) ℕ) → IfOk (resolved names boxes main claims) HasMain
+resolved_main names boxes main (Ok claims) =
+    elim (nat_lt main (length claims)) as (λ b. nat_lt main (length claims) ≡ b → IfOk (cond b (Ok (record { names = names; boxes = boxes; claims = claims; main = main })) (Err cause.NoMain)) HasMain) [
       | true ↦ λ below. grind (arith, nat_tests, below)
       | false ↦ λ _. tt
     ] refl
-resolved_main names main (Err place) = tt
+resolved_main names boxes main (Err place) = tt
 
 main_within : (names : List (List ℕ)) (st : Declarations) (main : Option ℕ) → IfOk (with_main names st main) HasMain
 main_within names st None = tt
 main_within names st (Some main) =
-    elim (nat_le (length names) most_names) as (λ b. IfOk (cond b (resolved names main (claims_within st most_nodes st.claims)) (Err cause.TooManyNames)) HasMain) [
-      | true ↦ resolved_main names main (claims_within st most_nodes st.claims)
+    elim (nat_le (length names) most_names) as (λ b. IfOk (cond b (resolved names st.boxes main (claims_within st most_nodes st.claims)) (Err cause.TooManyNames)) HasMain) [
+      | true ↦ resolved_main names st.boxes main (claims_within st most_nodes st.claims)
       | false ↦ tt
     ]
 

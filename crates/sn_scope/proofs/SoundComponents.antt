@@ -16,6 +16,7 @@ use Rattle.sn_tagexpr.specs.declared.expr.TagExpr.{TagExpr}
 
 -- one level: a filter is closed, a choice has few enough branches, and a guard has only tags of the exit pattern
 abbrev pub IsSoundLevel : Component-F Component Network → Type 0
+IsSoundLevel (Component-F.Box place number) = Unit {0}
 IsSoundLevel (Component-F.Filter filter) = IsClosed filter
 IsSoundLevel (Component-F.Sync place patterns) = Unit {0}
 IsSoundLevel (Component-F.Serial parts) = Unit {0}
@@ -51,6 +52,10 @@ networks = each (λ e. e.0)
 made : (x : Component-F SoundComponent SoundNetwork) (y : Component-F Component Network) → map-Component SoundComponent SoundNetwork Component Network (λ e. e.0) (λ e. e.0) x ≡ y
     → IsSoundLevel y → IsSoundComponent (roll-Component y)
 made x y is level = every_made-Component IsSoundLevel IsSoundPart y x is level
+
+-- a call of a box is sound
+pub sound_box : (place number : ℕ) → IsSoundComponent (component.Box place number)
+sound_box place number = subst IsSoundComponent (component.rolls-Box place number) (made (Component-F.Box place number) (Component-F.Box place number) refl tt)
 
 -- a closed filter is sound
 pub sound_filter : (filter : Filter) → IsClosed filter → IsSoundComponent (component.Filter filter)

@@ -21,10 +21,10 @@ use Rattle.sn_record.specs.LabelSet.{Labels, contains}
 use Rattle.sn_record.proofs.Sets.{contains-insert}
 use Rattle.sn_scope.specs.Filters.{filter_at, filter_required, from_required, identity_at, is_between, items_required, part_at, part_of, source_required, template_at, template_required}
 use Rattle.sn_scope.specs.Keys.{label_Decides}
-use Rattle.sn_scope.specs.Labels.{label_at, variant_at, variant_required}
-use Rattle.sn_scope.specs.Refusals.{required}
-use Rattle.sn_scope.specs.declared.refusal.Reason.TheVariants.{Unknown, Twice, Arity}
-use Rattle.sn_scope.proofs.SoundChecks.{Tells, required_tells, tells_each, variant_tells}
+use Rattle.sn_label_scope.specs.Labels.{label_at, variant_at, variant_required}
+use Rattle.sn_label_scope.specs.Refusals.{required}
+use Rattle.sn_label_scope.specs.declared.refusal.Reason.TheVariants.{Unknown, Twice, Arity}
+use Rattle.sn_label_scope.proofs.Checks.{Tells, required_tells, tells_each, variant_tells}
 use Rattle.sn_scope.proofs.SoundTags.{tags_tell}
 
 -- a label that is not in a set with one label more is another, and was not in the set

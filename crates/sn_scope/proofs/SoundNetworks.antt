@@ -1,5 +1,5 @@
 -- Networks that are not refused are sound at each level.
-use Rattle.std.proofs.Common.{◌≡◌, ℕ, ◌≤◌, Bool, IsTrue, IfSome, List, [], ◌∷◌, length, map as each, Option, Some, None, is_some, nat_le, refl, sym, ap, ◌∙◌, subst, subst₂, arith}
+use Rattle.std.proofs.Common.{◌≡◌, ℕ, ◌≤◌, Bool, IsTrue, IfSome, List, [], ◌∷◌, length, map as each, Option, Some, None, nat_le, refl, sym, ap, ◌∙◌, subst, subst₂, arith}
 use Rattle.std.proofs.lemmas.Bool.{and_parts}
 use Rattle.std.proofs.lemmas.Bool.Decides.{nat_tests}
 use Rattle.std.proofs.lemmas.List.{length-map}
@@ -14,18 +14,19 @@ use Rattle.sn_net.specs.Filter.{is_over}
 use Rattle.sn_net.specs.WellFormed.{most_branches}
 use Rattle.sn_record.specs.LabelSet.{Labels}
 use Rattle.sn_scope.specs.Filters.{filter_at, identity_at, is_between}
-use Rattle.sn_scope.specs.Labels.{variant_at, variant_required}
-use Rattle.sn_scope.specs.Networks.{all_required, guard_at, guard_required, merge_of, named_at, network_at, network_required, network_step, required_step}
-use Rattle.sn_scope.specs.Refusals.{required}
-use Rattle.sn_scope.specs.Scopes.{net_of}
-use Rattle.sn_scope.specs.Tags.{Check}
+use Rattle.sn_label_scope.specs.Labels.{variant_at, variant_required}
+use Rattle.sn_scope.specs.Networks.{all_required, guard_at, guard_required, is_part, merge_of, named_at, network_at, network_required, network_step, required_step}
+use Rattle.sn_label_scope.specs.Refusals.{required, Check}
+use Rattle.sn_scope.specs.Scopes.{meaning_of}
 use Rattle.sn_scope.specs.declared.network.Component.TheVariants as component
 use Rattle.sn_scope.specs.declared.network.Network.{Network}
 use Rattle.sn_scope.specs.declared.network.Network.TheVariants.{Made}
-use Rattle.sn_scope.specs.declared.refusal.Reason.TheVariants.{Unknown, Arity, GuardTag}
+use Rattle.sn_label_scope.specs.declared.refusal.Reason.TheVariants.{Unknown, Arity, GuardTag}
+use Rattle.sn_scope.specs.declared.scopes.Meaning.{Meaning}
+use Rattle.sn_scope.specs.declared.scopes.Meaning.TheVariants as meaning
 use Rattle.sn_scope.specs.declared.scopes.Scopes.{Scopes}
-use Rattle.sn_scope.proofs.SoundChecks.{Tells, required_tells, tells_each, tells_weaker, variant_tells}
-use Rattle.sn_scope.proofs.SoundComponents.{IsSoundComponent, IsSoundNetwork, SoundNetwork, networks, sound_choice, sound_filter, sound_made, sound_named, sound_serial, sound_split, sound_star, sound_sync}
+use Rattle.sn_label_scope.proofs.Checks.{Tells, required_tells, tells_each, tells_weaker, variant_tells}
+use Rattle.sn_scope.proofs.SoundComponents.{IsSoundComponent, IsSoundNetwork, SoundNetwork, networks, sound_box, sound_choice, sound_filter, sound_made, sound_named, sound_serial, sound_split, sound_star, sound_sync}
 use Rattle.sn_scope.proofs.SoundFilters.{filter_tells, identity_closed}
 use Rattle.sn_scope.proofs.SoundTags.{tags_tell}
 
@@ -41,8 +42,11 @@ between_most least most count between = let parts = and_parts (nat_le least coun
 identity_sound : (place : ℕ) → IsSoundNetwork (Made (component.Filter (identity_at place)))
 identity_sound place = sound_made _ (sound_filter (identity_at place) (identity_closed place))
 
-named_sound : (found : Option ℕ) (place : ℕ) → IsSoundNetwork (named_at found place)
-named_sound (Some number) place = sound_named number
+named_sound : (found : Option Meaning) (place : ℕ) → IsSoundNetwork (named_at found place)
+named_sound (Some (meaning.«Type» number)) place = identity_sound place
+named_sound (Some (meaning.Signature number)) place = identity_sound place
+named_sound (Some (meaning.Net number)) place = sound_named number
+named_sound (Some (meaning.Box number)) place = sound_made _ (sound_box place number)
 named_sound None place = identity_sound place
 
 module _ (names : List (List ℕ)) (scopes : Scopes) where
@@ -110,7 +114,7 @@ module _ (names : List (List ℕ)) (scopes : Scopes) where
       (λ x y is. subst (λ z. FormTells (roll-NetForm z)) is (level (map-NetForm _ _ NetForm NetExpr (λ e. e.0) (λ e. e.0) y) (elim y as (λ z. (place : ℕ) → Tells
       (required_step names scopes (map-NetForm NetForm NetExpr (ℕ → Check) Check form_check check_of (map-NetForm _ _ NetForm NetExpr (λ e. e.0) (λ e. e.0) z)) place)
       (IsSoundNetwork (network_step names scopes (map-NetForm NetForm NetExpr (ℕ → Network) Network form_network network_of (map-NetForm _ _ NetForm NetExpr (λ e. e.0) (λ e. e.0) z)) place))) [
-        | NetForm-F.Name name ↦ λ place. tells_weaker _ _ _ (required_tells (is_some (net_of scopes name.text)) Unknown name.at) (λ there. named_sound (net_of scopes name.text) name.at)
+        | NetForm-F.Name name ↦ λ place. tells_weaker _ _ _ (required_tells (is_part (meaning_of scopes name.text)) Unknown name.at) (λ there. named_sound (meaning_of scopes name.text) name.at)
         | NetForm-F.Identity ↦ λ place least none. (none, identity_sound place)
         | NetForm-F.Filter pattern templates ↦ λ place. tells_weaker _ _ _ (filter_tells names place pattern templates) (λ closed. sound_made _ (sound_filter (filter_at names place pattern templates) closed))
         | NetForm-F.Sync patterns ↦ λ place least none.

@@ -10,9 +10,11 @@ use Rattle.sn_names.specs.Names.{number_in}
 use Rattle.sn_net.specs.Filter.{is_over, tag}
 use Rattle.sn_tagexpr.specs.Evaluation.{every_tag_step}
 use Rattle.sn_record.specs.LabelSet.{Labels, contains}
-use Rattle.sn_scope.specs.Tags.{Check, bin_op, tag_expr, tag_step, tags_required, tags_step}
-use Rattle.sn_scope.specs.declared.refusal.Reason.{Reason}
-use Rattle.sn_scope.proofs.SoundChecks.{Tells, required_tells, tells_both, tells_weaker}
+use Rattle.sn_label_scope.specs.Operators.{bin_op}
+use Rattle.sn_label_scope.specs.Refusals.{Check}
+use Rattle.sn_scope.specs.Tags.{tag_expr, tag_step, tags_required, tags_step}
+use Rattle.sn_label_scope.specs.declared.refusal.Reason.{Reason}
+use Rattle.sn_label_scope.proofs.Checks.{Tells, required_tells, tells_both, tells_weaker}
 use Rattle.sn_tagexpr.specs.declared.expr.TagExpr.{TagExpr, fold-roll-TagExpr}
 use Rattle.sn_tagexpr.specs.declared.expr.TagExpr.TheOpen.{TagExpr-F}
 use Rattle.sn_tagexpr.specs.declared.expr.TagExpr.TheVariants as made

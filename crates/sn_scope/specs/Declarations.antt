@@ -1,7 +1,8 @@
--- What a source declares: its types, signatures and nets, the names that stand for them, and its claims.
+-- What a source declares: its types, signatures, nets and boxes, the names that stand for them, and its claims.
 use Rattle.std.specs.Prelude.{ℕ, ◌&&◌, if◌then◌else◌, List, [], ◌∷◌, ◌++◌, length, map as each, codes, Option, Some, None, is_some, unwrap_or, not}
 use Rattle.std.specs.List.{fold}
 use Rattle.std.specs.Str.{bytes_eq}
+use Rattle.sn_ast.specs.declared.declaration.BoxDecl.{BoxDecl}
 use Rattle.sn_ast.specs.declared.declaration.Decl.{Decl, fold-Decl}
 use Rattle.sn_ast.specs.declared.declaration.Decl.TheOpen.{Decl-F}
 use Rattle.sn_ast.specs.declared.declaration.NetDecl.{NetDecl, NetDecl-F, fold-NetDecl}
@@ -12,8 +13,9 @@ use Rattle.sn_ast.specs.declared.label.Sig.TheVariants.{Arrow, Named as NamedSig
 use Rattle.sn_ast.specs.declared.label.TypePart.{TypePart}
 use Rattle.sn_ast.specs.declared.network.NetExpr.{NetExpr}
 use Rattle.sn_names.specs.Names.{is_held}
+use Rattle.sn_box_scope.specs.Boxes.{box_at, box_required}
 use Rattle.sn_scope.specs.Networks.{network_at, network_required}
-use Rattle.sn_scope.specs.Refusals.{required}
+use Rattle.sn_label_scope.specs.Refusals.{required}
 use Rattle.sn_scope.specs.Scopes.{declared, empty_scope, entered_scope, is_outermost, left_scope, signature_of}
 use Rattle.sn_scope.specs.Types.{type_at, type_required}
 use Rattle.sn_scope.specs.declared.declarations.Declarations.{Declarations}
@@ -21,13 +23,13 @@ use Rattle.sn_scope.specs.declared.declarations.Pending.{Pending}
 use Rattle.sn_scope.specs.declared.network.Component.{Component}
 use Rattle.sn_scope.specs.declared.network.Network.{Network}
 use Rattle.sn_scope.specs.declared.network.Network.TheVariants.{Named, Made}
-use Rattle.sn_scope.specs.declared.refusal.Reason.TheVariants.{Unknown, Twice}
+use Rattle.sn_label_scope.specs.declared.refusal.Reason.TheVariants.{Unknown, Twice}
 use Rattle.sn_scope.specs.declared.scopes.Meaning.{Meaning}
 use Rattle.sn_scope.specs.declared.scopes.Meaning.TheVariants as meaning
 
 -- nothing is declared
 abbrev pub start : Declarations
-start = record { types = []; signatures = []; nets = []; scopes = record { outer = []; current = empty_scope }; claims = []; main = None; refusals = None }
+start = record { types = []; signatures = []; nets = []; boxes = []; scopes = record { outer = []; current = empty_scope }; claims = []; main = None; refusals = None }
 
 -- what a part of a source adds to the declarations so far
 abbrev pub Change : Type 0
@@ -110,6 +112,12 @@ after_type names name parts st = with_meaning name (meaning.«Type» (length st.
 abbrev pub after_sig : List (List ℕ) → Ident → Sig → Change
 after_sig names name sig st = with_meaning name (meaning.Signature (number_at sig st)) (with_signature names sig st)
 
+abbrev pub after_box : List (List ℕ) → BoxDecl → Change
+after_box names declaration st = with_meaning declaration.name (meaning.Box (length st.boxes)) (record st {
+  boxes = st.boxes ++ box_at names declaration ∷ [];
+  refusals = box_required names declaration st.refusals;
+})
+
 -- a net: its signature, its inner declarations, its network, and then its name
 abbrev pub net_step : List (List ℕ) → NetDecl-F Change Change → Change
 net_step names net st =
@@ -118,9 +126,8 @@ net_step names net st =
     let number = net_number names net.connect inner in
     with_meaning net.name (meaning.Net number) (with_claim net.name (net_signature net.sig st) number opened.claims (ended names net.connect inner))
 
--- boxes are not resolved yet
 abbrev pub decl_step : List (List ℕ) → Decl-F Change Change → Change
-decl_step names (Decl-F.BoxDecl b) st = st
+decl_step names (Decl-F.BoxDecl declaration) st = after_box names declaration st
 decl_step names (Decl-F.NetDecl net) st = net st
 decl_step names (Decl-F.TypeDecl name parts) st = after_type names name parts st
 decl_step names (Decl-F.SigDecl name sig) st = after_sig names name sig st

@@ -15,11 +15,11 @@ use Rattle.sn_net.specs.declared.filter.Filter.{Filter}
 use Rattle.sn_net.specs.declared.filter.Part.{Part}
 use Rattle.sn_net.specs.declared.filter.Part.TheVariants.{Copy, Rename, Compute}
 use Rattle.sn_net.specs.declared.filter.Template.{Template}
-use Rattle.sn_scope.specs.Labels.{label_at, variant_at, variant_required}
-use Rattle.sn_scope.specs.Refusals.{required}
-use Rattle.sn_scope.specs.Tags.{Check, tag_expr, tags_required}
-use Rattle.sn_scope.specs.declared.refusal.Reason.TheVariants.{Unknown, Twice, Arity}
-use Rattle.sn_scope.specs.declared.refusal.Refusal.{Refusal}
+use Rattle.sn_label_scope.specs.Labels.{label_at, variant_at, variant_required}
+use Rattle.sn_label_scope.specs.Refusals.{required, Check}
+use Rattle.sn_scope.specs.Tags.{tag_expr, tags_required}
+use Rattle.sn_label_scope.specs.declared.refusal.Reason.TheVariants.{Unknown, Twice, Arity}
+use Rattle.sn_label_scope.specs.declared.refusal.Refusal.{Refusal}
 
 -- the count is one of those from the least to the most
 abbrev pub is_between : ℕ → ℕ → ℕ → Bool

@@ -1,5 +1,3 @@
-pub mod Refusals
-pub mod Labels
 pub mod Tags
 pub mod Filters
 pub mod Scopes

@@ -1,6 +1,7 @@
 -- The names of the labels of a source, entered one after another in the order in which they stand.
 use Rattle.std.specs.Prelude.{ℕ, List, [], map as each, Option, Some, None}
 use Rattle.std.specs.List.{fold}
+use Rattle.sn_ast.specs.declared.declaration.BoxDecl.{BoxDecl}
 use Rattle.sn_ast.specs.declared.declaration.Decl.{Decl, fold-Decl}
 use Rattle.sn_ast.specs.declared.declaration.Decl.TheOpen.{Decl-F}
 use Rattle.sn_ast.specs.declared.declaration.NetDecl.{NetDecl, NetDecl-F, fold-NetDecl}
@@ -8,6 +9,7 @@ use Rattle.sn_ast.specs.declared.declaration.Program.{Program}
 use Rattle.sn_ast.specs.declared.label.LabelAt.{LabelAt}
 use Rattle.sn_ast.specs.declared.label.Sig.{Sig}
 use Rattle.sn_ast.specs.declared.label.Sig.TheVariants.{Arrow, Named as NamedSig}
+use Rattle.sn_ast.specs.declared.label.Tuple.{Tuple}
 use Rattle.sn_ast.specs.declared.label.TypePart.{TypePart}
 use Rattle.sn_ast.specs.declared.label.TypePart.TheVariants.{Set, Named}
 use Rattle.sn_ast.specs.declared.label.Variant.{Variant}
@@ -102,13 +104,19 @@ abbrev pub after_signature : Option Sig → Entry
 after_signature None names = names
 after_signature (Some sig) names = after_sig sig names
 
+abbrev pub after_tuple : Names → Tuple → Names
+after_tuple names tuple = after_labels names tuple.labels
+
+-- the labels that a box takes, and then those of each output; its functions and its body name no others
+abbrev pub after_box : BoxDecl → Entry
+after_box declaration names = fold after_tuple (after_tuple names declaration.input) declaration.outputs
+
 -- a net's signature, its inner declarations, and then its network
 abbrev pub net_step : NetDecl-F Entry Entry → Entry
 net_step net names = after_network net.connect (all_after net.decls (after_signature net.sig names))
 
--- boxes are not resolved yet
 abbrev pub decl_step : Decl-F Entry Entry → Entry
-decl_step (Decl-F.BoxDecl b) names = names
+decl_step (Decl-F.BoxDecl declaration) names = after_box declaration names
 decl_step (Decl-F.NetDecl net) names = net names
 decl_step (Decl-F.TypeDecl name parts) names = after_types names parts
 decl_step (Decl-F.SigDecl name sig) names = after_sig sig names

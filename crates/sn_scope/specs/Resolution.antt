@@ -1,18 +1,19 @@
 -- What a program is resolved to, or which refusal comes.
-use Rattle.std.specs.Prelude.{ℕ, Bool, true, false, nat_le, nat_lt, if◌then◌else◌, List, [], length, map, Option, Some, None, Result, Ok, Err}
+use Rattle.std.specs.Prelude.{ℕ, Bool, true, false, nat_le, nat_lt, if◌then◌else◌, List, length, map, Option, Some, None, Result, Ok, Err}
 use Rattle.std.specs.List.{list_any}
 use Rattle.sn_ast.specs.declared.declaration.Decl.{Decl, fold-Decl}
 use Rattle.sn_ast.specs.declared.declaration.Decl.TheOpen.{Decl-F}
 use Rattle.sn_ast.specs.declared.declaration.NetDecl.{NetDecl, NetDecl-F, fold-NetDecl}
 use Rattle.sn_ast.specs.declared.declaration.Program.{Program}
+use Rattle.sn_net.specs.declared.expr.BoxProgram.{BoxProgram}
 use Rattle.sn_net.specs.declared.net.Claim.{Claim}
 use Rattle.sn_scope.specs.Declarations.{declarations_of}
 use Rattle.sn_scope.specs.Numbering.{names_of}
 use Rattle.sn_scope.specs.Trees.{claims_within, most_nodes}
 use Rattle.sn_scope.specs.declared.declarations.Declarations.{Declarations}
-use Rattle.sn_scope.specs.declared.refusal.Reason.{Reason}
-use Rattle.sn_scope.specs.declared.refusal.Reason.TheVariants as reason
-use Rattle.sn_scope.specs.declared.refusal.Refusal.{Refusal}
+use Rattle.sn_label_scope.specs.declared.refusal.Reason.{Reason}
+use Rattle.sn_label_scope.specs.declared.refusal.Reason.TheVariants as reason
+use Rattle.sn_label_scope.specs.declared.refusal.Refusal.{Refusal}
 use Rattle.sn_scope.specs.declared.resolution.Resolved.{Resolved}
 use Rattle.sn_scope.specs.declared.resolution.ScopeFault.{ScopeFault}
 use Rattle.sn_scope.specs.declared.resolution.ScopeFault.TheVariants.{Unknown, Twice, Arity, NoMain, GuardTag, TooLarge, TooManyNames}
@@ -27,15 +28,15 @@ fault_at reason.Twice at = Twice at
 fault_at reason.Arity at = Arity at
 fault_at reason.GuardTag at = GuardTag at
 
--- the claims with their trees, one of which is the program's, or that one is too large
-abbrev pub resolved : List (List ℕ) → ℕ → Result (List Claim) ℕ → Result Resolved ScopeFault
-resolved names main (Ok claims) = if nat_lt main (length claims) then Ok (record { names = names; boxes = []; claims = claims; main = main }) else Err NoMain
-resolved names main (Err place) = Err (TooLarge place)
+-- the boxes and the claims with their trees, one of which is the program's, or that one is too large
+abbrev pub resolved : List (List ℕ) → List BoxProgram → ℕ → Result (List Claim) ℕ → Result Resolved ScopeFault
+resolved names boxes main (Ok claims) = if nat_lt main (length claims) then Ok (record { names = names; boxes = boxes; claims = claims; main = main }) else Err NoMain
+resolved names boxes main (Err place) = Err (TooLarge place)
 
 -- one of the outermost nets is the program's, or there is none
 abbrev pub with_main : List (List ℕ) → Declarations → Option ℕ → Result Resolved ScopeFault
 with_main names st None = Err NoMain
-with_main names st (Some main) = if nat_le (length names) most_names then resolved names main (claims_within st most_nodes st.claims) else Err TooManyNames
+with_main names st (Some main) = if nat_le (length names) most_names then resolved names st.boxes main (claims_within st most_nodes st.claims) else Err TooManyNames
 
 -- nothing is refused at a place, or the first refusal comes
 abbrev pub unless_refused : List (List ℕ) → Declarations → Option Refusal → Result Resolved ScopeFault

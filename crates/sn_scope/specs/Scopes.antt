@@ -28,29 +28,22 @@ abbrev pub type_number : Option Meaning → Option ℕ
 type_number (Some (meaning.«Type» number)) = Some number
 type_number (Some (meaning.Signature number)) = None
 type_number (Some (meaning.Net number)) = None
+type_number (Some (meaning.Box number)) = None
 type_number None = None
 
 abbrev pub signature_number : Option Meaning → Option ℕ
 signature_number (Some (meaning.«Type» number)) = None
 signature_number (Some (meaning.Signature number)) = Some number
 signature_number (Some (meaning.Net number)) = None
+signature_number (Some (meaning.Box number)) = None
 signature_number None = None
 
-abbrev pub net_number : Option Meaning → Option ℕ
-net_number (Some (meaning.«Type» number)) = None
-net_number (Some (meaning.Signature number)) = None
-net_number (Some (meaning.Net number)) = Some number
-net_number None = None
-
--- the number of the type, the signature or the net that the name stands for
+-- the number of the type or of the signature that the name stands for
 abbrev pub type_of : Scopes → List ℕ → Option ℕ
 type_of scopes name = type_number (meaning_of scopes name)
 
 abbrev pub signature_of : Scopes → List ℕ → Option ℕ
 signature_of scopes name = signature_number (meaning_of scopes name)
-
-abbrev pub net_of : Scopes → List ℕ → Option ℕ
-net_of scopes name = net_number (meaning_of scopes name)
 
 abbrev pub is_outermost : Scopes → Bool
 is_outermost scopes = length scopes.outer == 0

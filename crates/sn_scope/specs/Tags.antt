@@ -1,32 +1,15 @@
 -- Expressions over tags by the numbers of the tags.
-use Rattle.std.specs.Prelude.{ℕ, List, Option}
-use Rattle.sn_ast.specs.declared.tag_expr.Operator.{Operator}
-use Rattle.sn_ast.specs.declared.tag_expr.Operator.TheVariants as op
+use Rattle.std.specs.Prelude.{ℕ, List}
 use Rattle.sn_ast.specs.declared.tag_expr.TExpr.{TExpr, fold-TExpr}
 use Rattle.sn_ast.specs.declared.tag_expr.TForm.TheOpen.{TForm-F}
 use Rattle.sn_record.specs.LabelSet.{Labels, contains}
-use Rattle.sn_tagexpr.specs.declared.expr.BinOp.{BinOp}
-use Rattle.sn_tagexpr.specs.declared.expr.BinOp.TheVariants.{Add, Sub, Mul, Div, Rem, Lt, Le, Gt, Ge, Eq, Ne}
 use Rattle.sn_tagexpr.specs.declared.expr.TagExpr.{TagExpr}
 use Rattle.sn_tagexpr.specs.declared.expr.TagExpr.TheVariants.{Number, Tag, Neg, Not, Op, And, Or, Cond}
 use Rattle.sn_names.specs.Names.{number_in}
 use Rattle.sn_net.specs.Filter.{tag}
-use Rattle.sn_scope.specs.Refusals.{required}
-use Rattle.sn_scope.specs.declared.refusal.Reason.{Reason}
-use Rattle.sn_scope.specs.declared.refusal.Refusal.{Refusal}
-
-abbrev pub bin_op : Operator → BinOp
-bin_op op.Add = Add
-bin_op op.Sub = Sub
-bin_op op.Mul = Mul
-bin_op op.Div = Div
-bin_op op.Rem = Rem
-bin_op op.Lt = Lt
-bin_op op.Le = Le
-bin_op op.Gt = Gt
-bin_op op.Ge = Ge
-bin_op op.Eq = Eq
-bin_op op.Ne = Ne
+use Rattle.sn_label_scope.specs.Operators.{bin_op}
+use Rattle.sn_label_scope.specs.Refusals.{Check, required}
+use Rattle.sn_label_scope.specs.declared.refusal.Reason.{Reason}
 
 -- one level, with each part by its numbers in its place
 abbrev pub tag_step : List (List ℕ) → TForm-F TagExpr TagExpr → TagExpr
@@ -42,10 +25,6 @@ tag_step names (TForm-F.Cond c e f) = Cond c e f
 -- the expression with each tag by the number of its name
 abbrev pub tag_expr : List (List ℕ) → TExpr → TagExpr
 tag_expr names = fold-TExpr TagExpr TagExpr (tag_step names) (λ e. e.form)
-
--- what a part of a source adds to the refusals so far
-abbrev pub Check : Type 0
-Check = Option Refusal → Option Refusal
 
 -- one level, with what each part adds in its place
 abbrev pub tags_step : List (List ℕ) → Labels → Reason → TForm-F Check Check → Check

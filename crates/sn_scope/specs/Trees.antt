@@ -1,8 +1,9 @@
 -- The trees of claims: each name of a net stands for a copy of that net's tree, within limits on height, faces and nodes.
-use Rattle.std.specs.Prelude.{ℕ, zero, suc, ◌-◌, nat_le, if◌then◌else◌, List, [], ◌∷◌, ◌++◌, length, map as each, get_or, slice_get, Option, Some, None, Result, Ok, Err}
+use Rattle.std.specs.Prelude.{ℕ, zero, suc, ◌-◌, nat_le, nat_lt, if◌then◌else◌, List, [], ◌∷◌, ◌++◌, length, map as each, get_or, slice_get, Option, Some, None, Result, Ok, Err}
 use Rattle.std.specs.Option.{option_map}
 use Rattle.sn_net.specs.Face.{face}
 use Rattle.sn_net.specs.Net.{nodes}
+use Rattle.sn_net.specs.declared.expr.BoxProgram.{BoxProgram}
 use Rattle.sn_net.specs.declared.net.Claim.{Claim}
 use Rattle.sn_net.specs.declared.net.Net.{Net}
 use Rattle.sn_net.specs.declared.net.Net.TheVariants as net
@@ -53,32 +54,37 @@ series part rest (first ∷ []) = None
 series part rest (first ∷ second ∷ []) = in_series (part first) (part second)
 series part rest (first ∷ second ∷ third ∷ more) = in_series (part first) (rest (second ∷ third ∷ more))
 
+-- a call of the box of the number, where there is such a box
+abbrev pub call : List BoxProgram → ℕ → ℕ → Option Net
+call boxes place number = if nat_lt number (length boxes) then Some (net.Box place number) else None
+
 -- one level, over the trees of its parts
-abbrev pub node_step : (Network → Option Net) → (List Network → Option Net) → Component-F Component Network → Option Net
-node_step part rest (Component-F.Filter filter) = Some (net.Filter filter)
-node_step part rest (Component-F.Sync place patterns) = Some (net.Sync place patterns)
-node_step part rest (Component-F.Serial parts) = series part rest parts
-node_step part rest (Component-F.Choice place merge branches) = option_map (λ nets. net.Choice place merge nets (each (face []) nets)) (all_some (each part branches))
-node_step part rest (Component-F.Star place merge body exit guard) = option_map (λ tree. net.Star place merge tree exit guard) (part body)
-node_step part rest (Component-F.Split place merge body tag) = option_map (λ tree. net.Split place merge tree tag) (part body)
+abbrev pub node_step : List BoxProgram → (Network → Option Net) → (List Network → Option Net) → Component-F Component Network → Option Net
+node_step boxes part rest (Component-F.Box place number) = call boxes place number
+node_step boxes part rest (Component-F.Filter filter) = Some (net.Filter filter)
+node_step boxes part rest (Component-F.Sync place patterns) = Some (net.Sync place patterns)
+node_step boxes part rest (Component-F.Serial parts) = series part rest parts
+node_step boxes part rest (Component-F.Choice place merge branches) = option_map (λ nets. net.Choice place merge nets (each (face boxes) nets)) (all_some (each part branches))
+node_step boxes part rest (Component-F.Star place merge body exit guard) = option_map (λ tree. net.Star place merge tree exit guard) (part body)
+node_step boxes part rest (Component-F.Split place merge body tag) = option_map (λ tree. net.Split place merge tree tag) (part body)
 
 -- one node, over the trees of its parts
-abbrev pub node : (Network → Option Net) → (List Network → Option Net) → Component → Option Net
-node part rest component = node_step part rest (out-Component component)
+abbrev pub node : List BoxProgram → (Network → Option Net) → (List Network → Option Net) → Component → Option Net
+node boxes part rest component = node_step boxes part rest (out-Component component)
 
 -- nothing where the face has too many variants
-abbrev pub narrow : Net → Option Net
-narrow tree = if nat_le (length (face [] tree)) most_variants then Some tree else None
+abbrev pub narrow : List BoxProgram → Net → Option Net
+narrow boxes tree = if nat_le (length (face boxes tree)) most_variants then Some tree else None
 
--- the tree of a component over the nets that were declared, with so many levels at most and no node whose face is too wide
-abbrev pub tree : ℕ → List Component → Component → Option Net
-tree zero nets component = None
-tree (suc levels) nets component =
-    then_some (node (λ part. then_some (component_of nets part) (tree levels nets)) (λ parts. tree levels nets (Serial parts)) component) narrow
+-- the tree of a component over the boxes and nets that were declared, with so many levels at most and no node whose face is too wide
+abbrev pub tree : List BoxProgram → ℕ → List Component → Component → Option Net
+tree boxes zero nets component = None
+tree boxes (suc levels) nets component =
+    then_some (node boxes (λ part. then_some (component_of nets part) (tree boxes levels nets)) (λ parts. tree boxes levels nets (Serial parts)) component) (narrow boxes)
 
 -- the tree of a net by its number
-abbrev pub tree_of : List Component → ℕ → Option Net
-tree_of nets number = then_some (slice_get nets number) (tree most_levels nets)
+abbrev pub tree_of : List BoxProgram → List Component → ℕ → Option Net
+tree_of boxes nets number = then_some (slice_get nets number) (tree boxes most_levels nets)
 
 -- nothing where there is no room for the nodes
 abbrev pub fitting : ℕ → Option Net → Option Net
@@ -104,4 +110,4 @@ or_refused place (Some tree) next = next tree
 abbrev pub claims_within : Declarations → ℕ → List Pending → Result (List Claim) ℕ
 claims_within st room [] = Ok []
 claims_within st room (pending ∷ more) =
-    or_refused pending.place (fitting room (tree_of st.nets pending.net)) (λ tree. led_by (claim_at st pending tree ∷ []) (claims_within st (room - nodes tree) more))
+    or_refused pending.place (fitting room (tree_of st.boxes st.nets pending.net)) (λ tree. led_by (claim_at st pending tree ∷ []) (claims_within st (room - nodes tree) more))

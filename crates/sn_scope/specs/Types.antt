@@ -4,13 +4,12 @@ use Rattle.std.specs.List.{fold}
 use Rattle.sn_ast.specs.declared.label.TypePart.{TypePart}
 use Rattle.sn_ast.specs.declared.label.TypePart.TheVariants.{Set, Named}
 use Rattle.sn_record.specs.LabelSet.{Labels}
-use Rattle.sn_scope.specs.Labels.{variant_at, variant_required}
-use Rattle.sn_scope.specs.Refusals.{required}
+use Rattle.sn_label_scope.specs.Labels.{variant_at, variant_required}
+use Rattle.sn_label_scope.specs.Refusals.{required, Check}
 use Rattle.sn_scope.specs.Scopes.{type_of}
-use Rattle.sn_scope.specs.Tags.{Check}
 use Rattle.sn_scope.specs.Variants.{added}
-use Rattle.sn_scope.specs.declared.refusal.Reason.TheVariants.{Unknown}
-use Rattle.sn_scope.specs.declared.refusal.Refusal.{Refusal}
+use Rattle.sn_label_scope.specs.declared.refusal.Reason.TheVariants.{Unknown}
+use Rattle.sn_label_scope.specs.declared.refusal.Refusal.{Refusal}
 use Rattle.sn_scope.specs.declared.scopes.Scopes.{Scopes}
 
 -- the variants of a type by its number, and none where it is unknown

@@ -1,4 +1,4 @@
-//! Whether a program declares a box. Boxes are not resolved yet.
+//! Whether a program declares a box.
 ghost use Rattle.std.specs.Prelude.{◌≡◌, map};
 ghost use Rattle.std.specs.List.{list_any};
 ghost use Rattle.sn_scope.specs.Resolution.{has_box, holds_box};

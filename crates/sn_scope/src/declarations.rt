@@ -1,14 +1,16 @@
-//! What a source declares: its types, signatures and nets, and the claims about those that have a signature.
+//! What a source declares: its types, signatures, nets and boxes, and the claims about the nets that have a signature.
 ghost use Rattle.std.specs.Prelude.{◌≡◌, ◌++◌, IfOk, OnOk, map as each};
-ghost use Rattle.sn_scope.specs.Declarations.{after, after_net, after_type, all_after, ended, main_after, net_at, net_number, net_signature, number_at, start, with_claim, with_meaning, with_net, with_net_signature, with_signature};
+ghost use Rattle.sn_scope.specs.Declarations.{after, after_box, after_net, after_type, all_after, ended, main_after, net_at, net_number, net_signature, number_at, start, with_claim, with_meaning, with_net, with_net_signature, with_signature};
 
 use crate::network::{Component, Network, network_at};
-use crate::refusal::{Reason, Refusals};
 use crate::scopes::{Meaning, Scopes};
 use crate::types::type_at;
-use sn_ast::{Decl, Ident, NetDecl, NetExpr, Sig, TypePart};
+use sn_ast::{BoxDecl, Decl, Ident, NetDecl, NetExpr, Sig, TypePart};
+use sn_box_scope::box_at;
+use sn_label_scope::{Reason, Refusals};
 use sn_list::{Memory, Seq};
 use sn_names::NameTable;
+use sn_net::Boxes;
 use sn_record::LabelSet;
 use std::alloc::Global;
 use std::mem::replace;
@@ -28,12 +30,14 @@ pub struct Pending {
     pub signature: usize,
 }
 
-/// What was declared so far. Types, signatures and nets are numbered from 0 in the order in which their declarations end.
+/// What was declared so far. Types, signatures, nets and boxes are each numbered from 0 in the order in which their
+/// declarations end.
 #[derive(Debug, Drop)]
 pub struct Declarations {
     pub types: Seq<Seq<LabelSet>>,
     pub signatures: Seq<Signature>,
     pub nets: Seq<Component>,
+    pub boxes: Boxes,
     pub scopes: Scopes,
     /// In the order of the places of their names.
     pub claims: Seq<Pending>,
@@ -50,6 +54,7 @@ impl Declarations {
             types: Seq::new(alloc),
             signatures: Seq::new(alloc),
             nets: Seq::new(alloc),
+            boxes: Seq::new(alloc),
             scopes: Scopes::new(alloc),
             claims: Seq::new(alloc),
             main: None,
@@ -195,7 +200,7 @@ impl Declarations {
         ensures { OnOk result (self.new ≡ after names.now decl.now self.old) }
     {
         match decl {
-            Decl::BoxDecl(_) => Ok(()),
+            Decl::BoxDecl(declaration) => self.box_declaration(alloc, names, declaration),
             Decl::NetDecl(net) => self.net_declaration(alloc, names, net),
             Decl::TypeDecl { name, parts } => self.type_declaration(
                 alloc,
@@ -230,6 +235,24 @@ impl Declarations {
         )?;
         sn_stack::append(&mut self.types, variants)?;
         self.declare(name, Meaning::Type(number))
+    }
+
+    /// Nothing in a box's declaration sees its name.
+    fn box_declaration(
+        &mut self,
+        alloc: Global,
+        names: &NameTable,
+        declaration: &BoxDecl,
+    ) -> Result<(), Memory>
+        ensures { OnOk result (self.new ≡ after_box names.now declaration.now self.old) }
+    {
+        // So many boxes do not fit into memory.
+        let Ok(number) = u32::try_from(self.boxes.len()) else {
+            return Err(Memory);
+        };
+        let program = box_at(alloc, names, &mut self.refusals, declaration)?;
+        sn_stack::append(&mut self.boxes, program)?;
+        self.declare(&declaration.name, Meaning::Box(number))
     }
 
     /// A net's inner declarations stand in a scope of their own, and its network sees them.

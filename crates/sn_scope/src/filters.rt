@@ -3,10 +3,9 @@ ghost use Rattle.std.specs.Prelude.{◌≡◌, IfOk, OnOk, fold, map as each};
 ghost use Rattle.std.specs.FinMap as map;
 ghost use Rattle.sn_scope.specs.Filters.{filter_at, filter_required, identity_at, is_between, items_required, part_at, source_required, template_at, template_required};
 
-use crate::labels::{label_at, label_set};
-use crate::refusal::{Reason, Refusals};
 use crate::tags::{require_tags, tag_expr};
 use sn_ast::{ItemAt, ItemSource, TemplateAt, Variant};
+use sn_label_scope::{Reason, Refusals, label_at, label_set};
 use sn_list::{Memory, Seq};
 use sn_names::NameTable;
 use sn_net::{Filter, Part, Template};

@@ -1,13 +1,11 @@
-//! Scope: from a source's tree to the networks that its claims are about, in which each name is resolved.
+//! Scope: from a source's tree to its boxes and to the networks that its claims are about, in which each name is resolved.
 #![tactic(auto)]
 
 mod boxes;
 mod declarations;
 mod filters;
-mod labels;
 mod network;
 mod numbering;
-mod refusal;
 mod resolution;
 mod scopes;
 mod tags;

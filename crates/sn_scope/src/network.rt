@@ -1,16 +1,15 @@
-//! Networks in which each name of a net is the number of its declaration.
-ghost use Rattle.std.specs.Prelude.{◌≡◌, IfOk, OnOk, fold, is_some, map as each};
-ghost use Rattle.sn_scope.specs.Networks.{guard_at, guard_required, merge_of, named_at, network_at, network_required};
-ghost use Rattle.sn_scope.specs.Refusals.{required};
-ghost use Rattle.sn_scope.specs.Scopes.{net_of};
-ghost use Rattle.sn_scope.specs.declared.refusal.Reason.TheVariants as reason;
+//! Networks in which each name of a net or of a box is the number of its declaration.
+ghost use Rattle.std.specs.Prelude.{◌≡◌, IfOk, OnOk, fold, map as each};
+ghost use Rattle.sn_scope.specs.Networks.{guard_at, guard_required, is_part, merge_of, named_at, network_at, network_required};
+ghost use Rattle.sn_label_scope.specs.Refusals.{required};
+ghost use Rattle.sn_scope.specs.Scopes.{meaning_of};
+ghost use Rattle.sn_label_scope.specs.declared.refusal.Reason.TheVariants as reason;
 
 use crate::filters::{filter_at, identity_at, is_between};
-use crate::labels::{label_set, label_sets};
-use crate::refusal::{Reason, Refusals};
-use crate::scopes::Scopes;
+use crate::scopes::{Meaning, Scopes};
 use crate::tags::{require_tags, tag_expr};
 use sn_ast::{Ident, NetExpr, NetForm, TExpr};
+use sn_label_scope::{Reason, Refusals, label_set, label_sets};
 use sn_list::{Boxed, Memory, Seq};
 use sn_names::NameTable;
 use sn_net::{Filter, Merge, TagExpr};
@@ -29,6 +28,11 @@ pub enum Network {
 #[cycle(network)]
 #[derive(PartialEq, Eq, Debug, Drop)]
 pub enum Component {
+    /// A call of the box of that number.
+    Box {
+        place: u32,
+        number: u32,
+    },
     Filter(Filter),
     Sync {
         place: u32,
@@ -62,21 +66,35 @@ fn merge_of(det: bool) -> Merge
     if det { Merge::Det } else { Merge::Free }
 }
 
-/// The net that the name stands for. What is no net is refused, and then a filter stands for it.
+/// Whether a name with this meaning may stand in a network.
+fn is_part(meaning: Option<Meaning>) -> bool
+    ensures { result ≡ is_part meaning }
+{
+    match meaning {
+        Some(Meaning::Net(_) | Meaning::Box(_)) => true,
+        Some(Meaning::Type(_) | Meaning::Signature(_)) | None => false,
+    }
+}
+
+/// The net that the name stands for, or a call of the box. What is neither is refused, and then a filter stands for it.
 fn named_at(
     alloc: Global,
     scopes: &Scopes,
     refusals: &mut Refusals,
     name: &Ident,
 ) -> Result<Network, Memory>
-    ensures network { IfOk result (λ network. network ≡ named_at (net_of scopes.now name.now.text) name.now.at) }
-    ensures refused { OnOk result (refusals.new ≡ required (is_some (net_of scopes.now name.now.text)) reason.Unknown name.now.at refusals.old) }
+    ensures network { IfOk result (λ network. network ≡ named_at (meaning_of scopes.now name.now.text) name.now.at) }
+    ensures refused { OnOk result (refusals.new ≡ required (is_part (meaning_of scopes.now name.now.text)) reason.Unknown name.now.at refusals.old) }
 {
-    let number = scopes.net_of(name.text.as_slice());
-    refusals.require(number.is_some(), Reason::Unknown, name.at);
-    match number {
-        Some(number) => Ok(Network::Named(number)),
-        None => Ok(Network::Made(Component::Filter(identity_at(alloc, name.at)?))),
+    let place = name.at;
+    let meaning = scopes.find(name.text.as_slice());
+    refusals.require(is_part(meaning), Reason::Unknown, place);
+    match meaning {
+        Some(Meaning::Net(number)) => Ok(Network::Named(number)),
+        Some(Meaning::Box(number)) => Ok(Network::Made(Component::Box { place, number })),
+        Some(Meaning::Type(_) | Meaning::Signature(_)) | None => {
+            Ok(Network::Made(Component::Filter(identity_at(alloc, place)?)))
+        }
     }
 }
 
@@ -100,8 +118,8 @@ fn guard_at(
     }
 }
 
-/// The network with each net's name by the number of the net, and each label by the number of its name. As deep in
-/// calls as the network is high.
+/// The network with each name of a net or of a box by the number of that, and each label by the number of its name. As
+/// deep in calls as the network is high.
 #[cycle(network_at)]
 pub fn network_at(
     alloc: Global,

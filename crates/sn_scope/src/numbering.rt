@@ -1,11 +1,11 @@
 //! The names of a source's labels, entered in the order in which they stand.
 ghost use Rattle.std.specs.Prelude.{◌≡◌, OnOk, map as each};
 ghost use Rattle.std.specs.List.{fold};
-ghost use Rattle.sn_scope.specs.Numbering.{after_decl, after_guard, after_item, after_label, after_labels, after_net, after_network, after_sig, after_tags, after_part, after_template, after_types, after_variant, all_after};
+ghost use Rattle.sn_scope.specs.Numbering.{after_box, after_decl, after_guard, after_item, after_label, after_labels, after_net, after_network, after_sig, after_tags, after_part, after_template, after_tuple, after_types, after_variant, all_after};
 
 use sn_ast::{
-    Decl, ItemAt, ItemSource, LabelAt, NetDecl, NetExpr, NetForm, Sig, TExpr, TForm, TemplateAt,
-    TypePart, Variant,
+    BoxDecl, Decl, ItemAt, ItemSource, LabelAt, NetDecl, NetExpr, NetForm, Sig, TExpr, TForm,
+    TemplateAt, Tuple, TypePart, Variant,
 };
 use sn_list::Memory;
 use sn_names::NameTable;
@@ -168,13 +168,30 @@ fn enter_networks(names: &mut NameTable, networks: &[NetExpr]) -> Result<(), Mem
     Ok(())
 }
 
+fn enter_tuples(names: &mut NameTable, tuples: &[Tuple]) -> Result<(), Memory>
+    ensures { OnOk result (names.new ≡ fold after_tuple names.old tuples.now) }
+{
+    for tuple in tuples {
+        enter_labels(names, tuple.labels.as_slice())?;
+    }
+    Ok(())
+}
+
+/// The functions and the body of a box name no labels but those of its input and its outputs.
+fn enter_box(names: &mut NameTable, declaration: &BoxDecl) -> Result<(), Memory>
+    ensures { OnOk result (names.new ≡ after_box declaration.now names.old) }
+{
+    enter_labels(names, declaration.input.labels.as_slice())?;
+    enter_tuples(names, declaration.outputs.as_slice())
+}
+
 /// As deep in calls as declarations stand within one another.
 #[cycle(enter_decl)]
 fn enter_decl(names: &mut NameTable, decl: &Decl) -> Result<(), Memory>
     ensures { OnOk result (names.new ≡ after_decl decl.now names.old) }
 {
     match decl {
-        Decl::BoxDecl(_) => Ok(()),
+        Decl::BoxDecl(declaration) => enter_box(names, declaration),
         Decl::NetDecl(net) => enter_net(names, net),
         Decl::TypeDecl { parts, .. } => enter_types(names, parts.as_slice()),
         Decl::SigDecl { sig, .. } => enter_sig(names, sig),

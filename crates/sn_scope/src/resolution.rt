@@ -1,21 +1,22 @@
-//! From a program to its claims.
-ghost use Rattle.std.specs.Prelude.{◌≡◌, ◌<◌, ◌⊎◌, IfOk, IfErr, IfSome, All, false, [], Ok, Err, length};
+//! From a program to its boxes and its claims.
+ghost use Rattle.std.specs.Prelude.{◌≡◌, ◌<◌, ◌⊎◌, IfOk, IfErr, IfSome, All, [], Ok, Err, length};
 ghost use Rattle.sn_net.specs.WellFormed.{IsWellFormed};
 ghost use Rattle.sn_scope.specs.Claims.{IsClaim};
-ghost use Rattle.sn_scope.specs.Resolution.{fault_at, has_box, resolution, with_main};
+ghost use Rattle.sn_scope.specs.Resolution.{fault_at, resolution, with_main};
 ghost use Rattle.sn_scope.specs.Trees.{claims_within, most_nodes, signature_at};
 ghost use Rattle.sn_scope.specs.declared.resolution.ScopeFault.TheVariants as cause;
 
 use crate::declarations::{Declarations, Pending};
 use crate::numbering::enter_decls;
-use crate::refusal::{Reason, Refusal};
 use crate::trees::tree;
 use sn_ast::Program;
+use sn_label_scope::{Reason, Refusal};
 use sn_list::{Memory, Seq};
 use sn_names::{NameTable, Names};
 use sn_net::{Boxes, Claim, copy_sets};
 use sn_record::LabelSet;
 use std::alloc::Global;
+use std::mem::replace;
 
 /// How many nodes one below another a tree may have.
 const MOST_LEVELS: u32 = 256;
@@ -60,6 +61,7 @@ impl From<Memory> for ScopeFault {
 pub struct Resolved {
     /// The names of the labels, numbered in the order of their first places.
     pub names: Names,
+    /// In the order of their declarations.
     pub boxes: Boxes,
     /// One for each net with a signature, in the order of the places of the nets' names.
     pub claims: Seq<Claim>,
@@ -105,11 +107,12 @@ fn claim(
 ) -> Result<Option<Claim>, Memory>
     ensures { IfOk result (IsClaim declarations.now pending room.old room.new) }
 {
+    let boxes = &declarations.boxes;
     let nets = declarations.nets.as_slice();
     if pending.net >= nets.len() {
         return Ok(None);
     }
-    match tree(alloc, nets, &nets[pending.net], MOST_LEVELS, room)? {
+    match tree(alloc, boxes, nets, &nets[pending.net], MOST_LEVELS, room)? {
         Some(faced) => {
             let (input, output) = types_of(alloc, declarations, pending.signature)?;
             Ok(Some(Claim {
@@ -138,14 +141,14 @@ fn claims(alloc: Global, declarations: &Declarations) -> Result<Result<Seq<Claim
     Ok(Ok(made))
 }
 
-/// What is left to decide where nothing is refused at a place.
+/// What is left to decide where nothing is refused at a place. Takes the boxes out of the declarations.
 fn finish(
     alloc: Global,
     names: NameTable,
-    declarations: &Declarations,
+    declarations: &mut Declarations,
 ) -> Result<Resolved, ScopeFault>
-    ensures ok { IfOk result (λ resolved. with_main names declarations.now declarations.now.main ≡ Ok resolved) }
-    ensures refused { IfErr result (λ fault. (fault ≡ cause.Memory) ⊎ (with_main names declarations.now declarations.now.main ≡ Err fault)) }
+    ensures ok { IfOk result (λ resolved. with_main names declarations.old declarations.old.main ≡ Ok resolved) }
+    ensures refused { IfErr result (λ fault. (fault ≡ cause.Memory) ⊎ (with_main names declarations.old declarations.old.main ≡ Err fault)) }
 {
     let Some(main) = declarations.main else {
         return Err(ScopeFault::NoMain);
@@ -157,8 +160,9 @@ fn finish(
     let Ok(names) = Names::from_table(names) else {
         return Err(ScopeFault::TooManyNames);
     };
-    let boxes = Seq::new(alloc);
-    match claims(alloc, declarations)? {
+    let claims = claims(alloc, declarations)?;
+    let boxes = replace(&mut declarations.boxes, Seq::new(alloc));
+    match claims {
         Ok(claims) if (main as usize) < claims.len() => Ok(Resolved {
             names,
             boxes,
@@ -171,13 +175,12 @@ fn finish(
     }
 }
 
-/// Resolves the names of a program without box declarations: labels are numbered, each name of a net in a network is
-/// replaced by a copy of that net's tree, and each net with a signature is a claim.
+/// Resolves the names of a program: labels are numbered, each name of a net in a network is replaced by a copy of that
+/// net's tree and each name of a box by a call of the box, and each net with a signature is a claim.
 ///
 /// The refusal at the least place comes, and at one place the first of Unknown, Twice, Arity and GuardTag; where there
 /// is none, NoMain, then TooManyNames, then TooLarge. Trees are made for claims alone.
 pub fn resolve(alloc: Global, program: &Program) -> Result<Resolved, ScopeFault>
-    requires { has_box program.now ≡ false }
     ensures ok { IfOk result (λ resolved. resolution program.now ≡ Ok resolved) }
     ensures main { IfOk result (λ resolved. resolved.main < length resolved.claims) }
     ensures well_formed { IfOk result (λ resolved. All (λ claim. IsWellFormed resolved.boxes claim.net) resolved.claims) }
@@ -189,6 +192,6 @@ pub fn resolve(alloc: Global, program: &Program) -> Result<Resolved, ScopeFault>
     declarations.declarations(alloc, &names, program.decls.as_slice())?;
     match declarations.refusals.least() {
         Some(refusal) => Err(fault_of(refusal)),
-        None => finish(alloc, names, &declarations),
+        None => finish(alloc, names, &mut declarations),
     }
 }

@@ -1,19 +1,21 @@
 //! Scopes: which declaration a name stands for where it is used.
 ghost use Rattle.std.specs.Prelude.{◌≡◌, [], IfOk, OnOk, not, slice_get};
 ghost use Rattle.sn_names.specs.Names.{is_held};
-ghost use Rattle.sn_scope.specs.Scopes.{declared, entered_scope, empty_scope, is_outermost, left_scope, meaning_in, meaning_of, net_of, signature_of, type_of};
+ghost use Rattle.sn_scope.specs.Scopes.{declared, entered_scope, empty_scope, is_outermost, left_scope, meaning_in, meaning_of, signature_of, type_of};
 
 use sn_list::{Memory, Seq};
 use sn_names::NameTable;
 use std::alloc::Global;
 use std::mem::replace;
 
-/// What a name was declared as: the number of a type, a signature or a net, from 0 in the order of their declarations.
+/// What a name was declared as: the number of a type, a signature, a net or a box, from 0 in the order of their
+/// declarations.
 #[derive(Clone, Copy, PartialEq, Eq, Debug)]
 pub enum Meaning {
     Type(usize),
     Signature(usize),
     Net(usize),
+    Box(u32),
 }
 
 /// The names that were declared in one scope, each beside its meaning.
@@ -77,7 +79,7 @@ impl Scopes {
     }
 
     /// What the name stands for: its meaning in the innermost scope that declares it.
-    fn find(&self, name: &[u8]) -> Option<Meaning>
+    pub fn find(&self, name: &[u8]) -> Option<Meaning>
         ensures { result ≡ meaning_of self.now name.now }
     {
         let mut found = None;
@@ -103,16 +105,6 @@ impl Scopes {
     {
         match self.find(name) {
             Some(Meaning::Signature(number)) => Some(number),
-            _ => None,
-        }
-    }
-
-    /// The number of the net that the name stands for.
-    pub fn net_of(&self, name: &[u8]) -> Option<usize>
-        ensures { result ≡ net_of self.now name.now }
-    {
-        match self.find(name) {
-            Some(Meaning::Net(number)) => Some(number),
             _ => None,
         }
     }

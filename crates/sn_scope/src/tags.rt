@@ -1,32 +1,14 @@
 //! Expressions over tags by the numbers of the tags.
 ghost use Rattle.std.specs.Prelude.{◌≡◌, IfOk};
-ghost use Rattle.sn_scope.specs.Tags.{bin_op, tag_expr, tags_required};
+ghost use Rattle.sn_scope.specs.Tags.{tag_expr, tags_required};
 
-use crate::refusal::{Reason, Refusals};
-use sn_ast::{Operator, TExpr, TForm};
+use sn_ast::{TExpr, TForm};
+use sn_label_scope::{Reason, Refusals, bin_op};
 use sn_list::{Boxed, Memory};
 use sn_names::NameTable;
 use sn_record::{Kind, Label, LabelSet};
-use sn_tagexpr::{BinOp, TagExpr};
+use sn_tagexpr::TagExpr;
 use std::alloc::Global;
-
-fn bin_op(operator: Operator) -> BinOp
-    ensures { result ≡ bin_op operator }
-{
-    match operator {
-        Operator::Add => BinOp::Add,
-        Operator::Sub => BinOp::Sub,
-        Operator::Mul => BinOp::Mul,
-        Operator::Div => BinOp::Div,
-        Operator::Rem => BinOp::Rem,
-        Operator::Lt => BinOp::Lt,
-        Operator::Le => BinOp::Le,
-        Operator::Gt => BinOp::Gt,
-        Operator::Ge => BinOp::Ge,
-        Operator::Eq => BinOp::Eq,
-        Operator::Ne => BinOp::Ne,
-    }
-}
 
 #[cycle(tag_expr)]
 fn boxed_expr(alloc: Global, names: &NameTable, e: &TExpr) -> Result<Boxed<TagExpr>, Memory>

@@ -1,13 +1,13 @@
 //! The trees of claims: each name of a net stands for a copy of that net's tree.
 //!
 //! A node takes its room before it is made, so a tree that is too large costs no more than one that fits.
-ghost use Rattle.std.specs.Prelude.{◌≡◌, suc, IfOk, IsTrue, IsFalse, map as each};
+ghost use Rattle.std.specs.Prelude.{◌≡◌, ℕ, suc, IfOk, IsTrue, IsFalse, map as each};
 ghost use Rattle.sn_scope.specs.Built.{AreBuilt, IsBuilt, narrowed, node_of, part_of, parts_of, rest_of, series_of};
-ghost use Rattle.sn_scope.specs.Trees.{all_some, tree};
+ghost use Rattle.sn_scope.specs.Trees.{all_some, call, tree};
 
 use crate::network::{Component, Network};
 use sn_list::{Memory, Seq};
-use sn_net::{Faced, TagExpr, copy_sets};
+use sn_net::{Boxes, Faced, TagExpr, copy_sets};
 use std::alloc::Global;
 
 const MOST_VARIANTS: usize = 1024;
@@ -40,17 +40,18 @@ fn take_room(room: &mut usize) -> bool
 #[cycle(tree)]
 pub fn tree(
     alloc: Global,
+    boxes: &Boxes,
     nets: &[Component],
     component: &Component,
     levels: u32,
     room: &mut usize,
 ) -> Result<Option<Faced>, Memory>
-    ensures { IfOk result (IsBuilt (tree levels nets.now component.now) room.old room.new) }
+    ensures { IfOk result (IsBuilt boxes.now (tree boxes.now levels nets.now component.now) room.old room.new) }
 {
     if levels == 0 || !take_room(room) {
         return Ok(None);
     }
-    let built = node(alloc, nets, component, levels - 1, room)?;
+    let built = node(alloc, boxes, nets, component, levels - 1, room)?;
     Ok(narrow(built))
 }
 
@@ -58,17 +59,18 @@ pub fn tree(
 #[cycle(tree)]
 fn series_tree(
     alloc: Global,
+    boxes: &Boxes,
     nets: &[Component],
     parts: &[Network],
     levels: u32,
     room: &mut usize,
 ) -> Result<Option<Faced>, Memory>
-    ensures { IfOk result (IsBuilt (parts_of levels nets.now parts.now) room.old room.new) }
+    ensures { IfOk result (IsBuilt boxes.now (parts_of boxes.now levels nets.now parts.now) room.old room.new) }
 {
     if levels == 0 || !take_room(room) {
         return Ok(None);
     }
-    let built = series(alloc, nets, parts, levels - 1, room)?;
+    let built = series(alloc, boxes, nets, parts, levels - 1, room)?;
     Ok(narrow(built))
 }
 
@@ -76,26 +78,28 @@ fn series_tree(
 #[cycle(tree)]
 fn node(
     alloc: Global,
+    boxes: &Boxes,
     nets: &[Component],
     component: &Component,
     levels: u32,
     room: &mut usize,
 ) -> Result<Option<Faced>, Memory>
-    ensures { IfOk result (IsBuilt (node_of levels nets.now component.now) (suc room.old) room.new) }
+    ensures { IfOk result (IsBuilt boxes.now (node_of boxes.now levels nets.now component.now) (suc room.old) room.new) }
 {
     match component {
+        Component::Box { place, number } => call(alloc, boxes, *place, *number),
         Component::Filter(filter) => Ok(Some(Faced::filter(alloc, filter.copy(alloc)?)?)),
         Component::Sync { place, patterns } => {
             let patterns = copy_sets(alloc, patterns.as_slice())?;
             Ok(Some(Faced::sync(alloc, *place, patterns)?))
         }
-        Component::Serial(parts) => series(alloc, nets, parts.as_slice(), levels, room),
+        Component::Serial(parts) => series(alloc, boxes, nets, parts.as_slice(), levels, room),
         Component::Choice {
             place,
             merge,
             branches,
         } => {
-            let built = trees(alloc, nets, branches.as_slice(), levels, room)?;
+            let built = trees(alloc, boxes, nets, branches.as_slice(), levels, room)?;
             let Some(branches) = built else {
                 return Ok(None);
             };
@@ -108,7 +112,7 @@ fn node(
             exit,
             guard,
         } => {
-            let built = part(alloc, nets, body.get(), levels, room)?;
+            let built = part(alloc, boxes, nets, body.get(), levels, room)?;
             let Some(body) = built else {
                 return Ok(None);
             };
@@ -122,13 +126,23 @@ fn node(
             body,
             tag,
         } => {
-            let built = part(alloc, nets, body.get(), levels, room)?;
+            let built = part(alloc, boxes, nets, body.get(), levels, room)?;
             let Some(body) = built else {
                 return Ok(None);
             };
             Ok(Some(Faced::split(alloc, *place, *merge, body, *tag)?))
         }
     }
+}
+
+/// The call of a box, whose room is taken, or nothing where there is no box of that number.
+fn call(alloc: Global, boxes: &Boxes, place: u32, number: u32) -> Result<Option<Faced>, Memory>
+    ensures { IfOk result (λ built. (room : ℕ) → IsBuilt boxes.now (call boxes.now place number) (suc room) room built) }
+{
+    if number as usize >= boxes.len() {
+        return Ok(None);
+    }
+    Ok(Some(Faced::of_box(alloc, place, number, boxes)?))
 }
 
 fn copy_guard(alloc: Global, guard: &Option<TagExpr>) -> Result<Option<TagExpr>, Memory>
@@ -144,20 +158,21 @@ fn copy_guard(alloc: Global, guard: &Option<TagExpr>) -> Result<Option<TagExpr>,
 #[cycle(tree)]
 fn series(
     alloc: Global,
+    boxes: &Boxes,
     nets: &[Component],
     parts: &[Network],
     levels: u32,
     room: &mut usize,
 ) -> Result<Option<Faced>, Memory>
-    ensures { IfOk result (IsBuilt (series_of levels nets.now parts.now) (suc room.old) room.new) }
+    ensures { IfOk result (IsBuilt boxes.now (series_of boxes.now levels nets.now parts.now) (suc room.old) room.new) }
 {
     if parts.len() < 2 {
         return Ok(None);
     }
-    let Some(left) = part(alloc, nets, &parts[0], levels, room)? else {
+    let Some(left) = part(alloc, boxes, nets, &parts[0], levels, room)? else {
         return Ok(None);
     };
-    let Some(right) = rest(alloc, nets, &parts[1..], levels, room)? else {
+    let Some(right) = rest(alloc, boxes, nets, &parts[1..], levels, room)? else {
         return Ok(None);
     };
     Ok(Some(Faced::serial(alloc, left, right)?))
@@ -167,38 +182,40 @@ fn series(
 #[cycle(tree)]
 fn rest(
     alloc: Global,
+    boxes: &Boxes,
     nets: &[Component],
     parts: &[Network],
     levels: u32,
     room: &mut usize,
 ) -> Result<Option<Faced>, Memory>
-    ensures { IfOk result (IsBuilt (rest_of levels nets.now parts.now) room.old room.new) }
+    ensures { IfOk result (IsBuilt boxes.now (rest_of boxes.now levels nets.now parts.now) room.old room.new) }
 {
     if parts.len() == 1 {
-        return part(alloc, nets, &parts[0], levels, room);
+        return part(alloc, boxes, nets, &parts[0], levels, room);
     }
-    series_tree(alloc, nets, parts, levels, room)
+    series_tree(alloc, boxes, nets, parts, levels, room)
 }
 
 /// The tree of the component that a part of a network stands for.
 #[cycle(tree)]
 fn part(
     alloc: Global,
+    boxes: &Boxes,
     nets: &[Component],
     network: &Network,
     levels: u32,
     room: &mut usize,
 ) -> Result<Option<Faced>, Memory>
-    ensures { IfOk result (IsBuilt (part_of levels nets.now network.now) room.old room.new) }
+    ensures { IfOk result (IsBuilt boxes.now (part_of boxes.now levels nets.now network.now) room.old room.new) }
 {
     match network {
         Network::Named(number) => {
             if *number >= nets.len() {
                 return Ok(None);
             }
-            tree(alloc, nets, &nets[*number], levels, room)
+            tree(alloc, boxes, nets, &nets[*number], levels, room)
         }
-        Network::Made(component) => tree(alloc, nets, component, levels, room),
+        Network::Made(component) => tree(alloc, boxes, nets, component, levels, room),
     }
 }
 
@@ -206,16 +223,17 @@ fn part(
 #[cycle(tree)]
 fn trees(
     alloc: Global,
+    boxes: &Boxes,
     nets: &[Component],
     networks: &[Network],
     levels: u32,
     room: &mut usize,
 ) -> Result<Option<Seq<Faced>>, Memory>
-    ensures { IfOk result (AreBuilt (all_some (each (part_of levels nets.now) networks.now)) room.old room.new) }
+    ensures { IfOk result (AreBuilt boxes.now (all_some (each (part_of boxes.now levels nets.now) networks.now)) room.old room.new) }
 {
     let mut made = Seq::new(alloc);
     for network in networks {
-        let Some(faced) = part(alloc, nets, network, levels, room)? else {
+        let Some(faced) = part(alloc, boxes, nets, network, levels, room)? else {
             return Ok(None);
         };
         sn_stack::append(&mut made, faced)?;

@@ -2,11 +2,10 @@
 ghost use Rattle.std.specs.Prelude.{◌≡◌, IfOk, OnOk};
 ghost use Rattle.sn_scope.specs.Types.{part_added, part_required, type_at, type_required, variants_of};
 
-use crate::labels::label_set;
-use crate::refusal::{Reason, Refusals};
 use crate::scopes::Scopes;
 use crate::variants::Variants;
 use sn_ast::TypePart;
+use sn_label_scope::{Reason, Refusals, label_set};
 use sn_list::{Memory, Seq};
 use sn_names::NameTable;
 use sn_record::LabelSet;

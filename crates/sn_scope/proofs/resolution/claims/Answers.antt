@@ -12,7 +12,7 @@ returns-in_default c =
     let items = c.as_slice-pending-items.result.now in
     let i = c.loop-pending.pending-index in
     let d : Pending = record { place = 0; net = 0; signature = 0 } in
-    let unfit : fitting c.loop-pending.room (tree_of st.nets (get_or items i d).net) ≡ None = search rules in
+    let unfit : fitting c.loop-pending.room (tree_of st.boxes st.nets (get_or items i d).net) ≡ None = search rules in
     ap (claims_within st most_nodes) (sym c.as_slice-pending-items.ensures)
     ∙ sym c.loop-pending.invariant
     ∙ ap (λ ps. led_by c.loop-pending.made (claims_within st c.loop-pending.room ps)) (drop_more items i d c.loop-pending-test.true)

@@ -25,4 +25,4 @@ abbrev pub decreases-part : goal.decreases-part
 decreases-part l = 5 * l.levels + 1
 
 abbrev pub invariant-trees-loop-network : goal.invariant-trees-loop-network
-invariant-trees-loop-network l = IsPartly (part_of l.levels l.nets) l.networks (drop l.network-index l.networks) l.initial.room l.room l.made
+invariant-trees-loop-network l = IsPartly l.boxes (part_of l.boxes l.levels l.nets) l.networks (drop l.network-index l.networks) l.initial.room l.room l.made

@@ -1,6 +1,6 @@
 use Rattle.std.proofs.Common.{◌≡◌, take, drop, fold, map}
-use Rattle.sn_scope.specs.Labels.{variant_at, variant_required}
-use Rattle.sn_scope.proofs.labels.label_sets.Given as goal
+use Rattle.sn_label_scope.specs.Labels.{variant_at, variant_required}
+use Rattle.sn_label_scope.proofs.labels.label_sets.Given as goal
 
 abbrev pub invariant-loop-variant : goal.invariant-loop-variant
 invariant-loop-variant l =

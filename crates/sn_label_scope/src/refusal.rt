@@ -1,6 +1,6 @@
 //! What a source may be refused for, and which refusal comes.
 ghost use Rattle.std.specs.Prelude.{◌≡◌, None};
-ghost use Rattle.sn_scope.specs.Refusals.{comes_before, noted, rank, required};
+ghost use Rattle.sn_label_scope.specs.Refusals.{comes_before, noted, rank, required};
 
 use std::marker::Model;
 
@@ -32,8 +32,8 @@ pub struct Refusals {
 
 impl Model for Refusals {
     ghost use Rattle.std.specs.Prelude.{Option};
-    ghost use Rattle.sn_scope.specs.declared.refusal.Refusal.{Refusal};
-    ghost use Rattle.sn_scope.specs.contracts.refusal.Refusal as refusal;
+    ghost use Rattle.sn_label_scope.specs.declared.refusal.Refusal.{Refusal};
+    ghost use Rattle.sn_label_scope.specs.contracts.refusal.Refusal as refusal;
     ghost use Rattle.std.specs.Coded.{coded_option};
 
     ghost Value = { Option Refusal };

@@ -1,8 +1,8 @@
 -- Which of the refusals of a source comes: the one at the least place, and at one place the first by reason.
 use Rattle.std.specs.Prelude.{ℕ, Bool, true, false, ◌==◌, ◌&&◌, ◌||◌, nat_lt, if◌then◌else◌, Option, Some, None}
-use Rattle.sn_scope.specs.declared.refusal.Reason.{Reason}
-use Rattle.sn_scope.specs.declared.refusal.Reason.TheVariants.{Unknown, Twice, Arity, GuardTag}
-use Rattle.sn_scope.specs.declared.refusal.Refusal.{Refusal}
+use Rattle.sn_label_scope.specs.declared.refusal.Reason.{Reason}
+use Rattle.sn_label_scope.specs.declared.refusal.Reason.TheVariants.{Unknown, Twice, Arity, GuardTag}
+use Rattle.sn_label_scope.specs.declared.refusal.Refusal.{Refusal}
 
 -- the order of reasons at one place
 abbrev pub rank : Reason → ℕ
@@ -23,3 +23,7 @@ noted (Some least) refusal = if comes_before refusal least then Some refusal els
 abbrev pub required : Bool → Reason → ℕ → Option Refusal → Option Refusal
 required true reason at least = least
 required false reason at least = noted least (record { reason = reason; at = at })
+
+-- what a part of a source adds to the refusals so far
+abbrev pub Check : Type 0
+Check = Option Refusal → Option Refusal

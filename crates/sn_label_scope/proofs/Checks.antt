@@ -5,12 +5,12 @@ use Rattle.std.proofs.lemmas.List.Elements.{All-nil, All-cons}
 use Rattle.sn_ast.specs.declared.label.LabelAt.{LabelAt}
 use Rattle.sn_ast.specs.declared.label.Variant.{Variant}
 use Rattle.sn_record.specs.LabelSet.{Labels, contains}
-use Rattle.sn_scope.specs.Labels.{label_at, no_repeats, variant_required}
-use Rattle.sn_scope.specs.Refusals.{comes_before, noted, required}
-use Rattle.sn_scope.specs.Tags.{Check}
-use Rattle.sn_scope.specs.declared.refusal.Reason.{Reason}
-use Rattle.sn_scope.specs.declared.refusal.Reason.TheVariants.{Twice}
-use Rattle.sn_scope.specs.declared.refusal.Refusal.{Refusal}
+use Rattle.sn_label_scope.specs.Labels.{label_at, no_repeats, variant_required}
+use Rattle.sn_label_scope.specs.Refusals.{comes_before, noted, required}
+use Rattle.sn_label_scope.specs.Refusals.{Check}
+use Rattle.sn_label_scope.specs.declared.refusal.Reason.{Reason}
+use Rattle.sn_label_scope.specs.declared.refusal.Reason.TheVariants.{Twice}
+use Rattle.sn_label_scope.specs.declared.refusal.Refusal.{Refusal}
 
 -- where the check leaves no refusal, there was none before, and the fact holds
 abbrev pub Tells : Check → Type 0 → Type 0

@@ -1,7 +1,7 @@
 //! Labels by their numbers, and variants.
 ghost use Rattle.std.specs.Prelude.{◌≡◌, IfOk, OnOk, fold, map as each};
 ghost use Rattle.std.specs.FinMap as map;
-ghost use Rattle.sn_scope.specs.Labels.{kind_of, label_at, labels_at, no_repeats, variant_at, variant_required};
+ghost use Rattle.sn_label_scope.specs.Labels.{kind_of, label_at, labels_at, no_repeats, variant_at, variant_required};
 
 use crate::refusal::{Reason, Refusals};
 use sn_ast::{LabelAt, Variant};

@@ -1,7 +1,7 @@
 use Rattle.std.proofs.Common.{◌≡◌, drop, fold}
 use Rattle.std.specs.FinMap as map
-use Rattle.sn_scope.specs.Labels.{label_at, labels_at, no_repeats}
-use Rattle.sn_scope.proofs.labels.label_set.Given as goal
+use Rattle.sn_label_scope.specs.Labels.{label_at, labels_at, no_repeats}
+use Rattle.sn_label_scope.proofs.labels.label_set.Given as goal
 
 abbrev pub invariant-loop-label : goal.invariant-loop-label
 invariant-loop-label l =

@@ -9,9 +9,9 @@ use Rattle.sn_record.specs.declared.label.Kind.TheVariants.{Field, Tag}
 use Rattle.sn_record.specs.declared.label.Label.{Label}
 use Rattle.sn_record.specs.LabelSet.{Labels, contains}
 use Rattle.sn_names.specs.Names.{number_in}
-use Rattle.sn_scope.specs.Refusals.{required}
-use Rattle.sn_scope.specs.declared.refusal.Reason.TheVariants.{Twice}
-use Rattle.sn_scope.specs.declared.refusal.Refusal.{Refusal}
+use Rattle.sn_label_scope.specs.Refusals.{required}
+use Rattle.sn_label_scope.specs.declared.refusal.Reason.TheVariants.{Twice}
+use Rattle.sn_label_scope.specs.declared.refusal.Refusal.{Refusal}
 
 abbrev pub kind_of : Bool → Kind
 kind_of true = Tag

@@ -1,0 +1,4 @@
+pub mod FirstPlaces
+pub mod ClosedExpressions
+pub mod ClosedBoxes
+pub mod Programs
