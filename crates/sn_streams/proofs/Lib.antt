@@ -1,0 +1,13 @@
+pub mod Keys
+pub mod Machines
+pub mod Shuffles
+pub mod Forks
+pub mod Trees
+pub mod Silence
+pub mod Lists
+pub mod Segmentwise
+pub mod Occurring
+pub mod OneByOne
+pub mod LastBorder
+pub mod Passing
+pub mod Example

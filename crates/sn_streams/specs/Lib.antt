@@ -1,0 +1,9 @@
+pub mod Keys
+pub mod Segments
+pub mod Machines
+pub mod Shuffles
+pub mod Forks
+pub mod Trees
+pub mod OneByOne
+pub mod Occurring
+pub mod Example
