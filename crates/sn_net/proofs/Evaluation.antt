@@ -1,20 +1,16 @@
 -- Each node takes a unit of fuel before its parts, so as many levels as there is fuel are enough, and an evaluation is that of
 -- one node over the evaluations of its parts.
 use Rattle.std.proofs.Common.{◌≡◌, ℕ, zero, suc, ◌≤◌, Bool, true, false, not, if◌then◌else◌, List, [], ◌∷◌, ◌++◌, slice_get, Option, Some, None, Result, Ok, Err, arith, refl, sym, ap, ◌∙◌}
-use Rattle.std.specs.FinMap as finite
-use Rattle.sn_record.specs.declared.label.Label.{Label}
 use Rattle.sn_record.specs.declared.item.FaultKind.{FaultKind}
-use Rattle.sn_record.specs.declared.item.FaultKind.TheVariants.{Kind}
 use Rattle.sn_record.specs.declared.value.Value.{Value}
 use Rattle.sn_record.specs.Record.{Entries}
-use Rattle.sn_tagexpr.specs.declared.expr.BinOp.{BinOp}
 use Rattle.sn_net.specs.declared.expr.BoxProgram.{BoxProgram}
 use Rattle.sn_net.specs.declared.expr.Fun.{Fun}
 use Rattle.sn_net.specs.declared.expr.Expr.{Expr}
 use Rattle.sn_net.specs.declared.expr.Expr.TheOpen.{Expr-F}
 use Rattle.sn_net.specs.declared.expr.Expr.TheViews.{out-Expr}
-use Rattle.sn_net.specs.BoxValues.{onward, there_or, fitting, condition, combined, truth_of, built_in, negative, opposite}
-use Rattle.sn_net.specs.BoxEvaluation.{Progress, Outcome, Outcome.{Gives, Faults}, Evaluator, followed, ended, all_values, last_value, right_part, unless_decided, after_and, after_or, after_if, called, with_values, with_emitted, emitting, node, with_unit, evaluation, evaluated}
+use Rattle.sn_net.specs.BoxValues.{condition, combined, truth_of, negative, opposite}
+use Rattle.sn_net.specs.BoxEvaluation.{Progress, Outcome, Outcome.{Gives, Faults}, Evaluator, followed, ended, all_values, last_value, unless_decided, called, with_emitted, node, with_unit, evaluation, evaluated}
 
 -- no more fuel than so much is left
 abbrev Within : {A : Type 0} → ℕ → Outcome A → Type 0

@@ -1,9 +1,11 @@
 pub mod Closed
-pub mod Meanings
 pub mod Orders
 pub mod Ascending
 pub mod Variants
 pub mod Sound
 pub mod Forms
-pub mod Chained
 pub mod Evaluation
+pub mod Deterministic
+pub mod BestBranches
+pub mod MatchedTags
+pub mod Routed

@@ -1,10 +1,9 @@
 -- What a box does: how its expressions are evaluated with fuel, and what a call of it answers.
-use Rattle.std.specs.Prelude.{ℕ, zero, suc, ℤ, pos, Bool, true, false, ◌&&◌, not, if◌then◌else◌, List, [], ◌∷◌, ◌++◌, map, slice_get, Option, None, Some, Result, Ok, Err}
+use Rattle.std.specs.Prelude.{ℕ, zero, suc, pos, Bool, true, false, not, if◌then◌else◌, List, [], ◌∷◌, ◌++◌, map, slice_get, Option, None, Some, Result, Ok, Err}
 use Rattle.std.specs.FinMap as finite
 use Rattle.sn_record.specs.declared.label.Label.{Label}
 use Rattle.sn_record.specs.declared.label.Kind.{Kind as LabelKind}
 use Rattle.sn_record.specs.declared.label.Kind.TheVariants.{Field, Tag}
-use Rattle.sn_record.specs.declared.item.Fault.{Fault as FaultAt}
 use Rattle.sn_record.specs.declared.item.FaultKind.{FaultKind}
 use Rattle.sn_record.specs.declared.item.FaultKind.TheVariants.{Fuel, Kind}
 use Rattle.sn_record.specs.declared.value.Value.{Value}

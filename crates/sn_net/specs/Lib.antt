@@ -2,10 +2,14 @@ pub mod Filter
 pub mod Item
 pub mod Answer
 pub mod Net
-pub mod Meaning
 pub mod Face
 pub mod Faced
 pub mod Boxes
 pub mod BoxValues
 pub mod BoxEvaluation
 pub mod WellFormed
+pub mod Cell
+pub mod Route
+pub mod Best
+pub mod Routable
+pub mod Dispatchers

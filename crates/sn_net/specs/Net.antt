@@ -1,28 +1,10 @@
--- Networks, by the filters in them and by their nodes.
-use Rattle.std.specs.Prelude.{ℕ, ◌+◌, Bool, true, false, ◌&&◌, IsTrue, List, [], ◌∷◌, ◌++◌, All, sum}
-use Rattle.std.specs.List.{flat_map}
-use Rattle.sn_net.specs.declared.filter.Filter.{Filter}
+-- Networks, by their nodes and by their merges.
+use Rattle.std.specs.Prelude.{ℕ, ◌+◌, Bool, true, false, ◌&&◌, sum}
+use Rattle.std.specs.List.{list_all}
+use Rattle.sn_net.specs.declared.net.Merge.{Merge}
+use Rattle.sn_net.specs.declared.net.Merge.TheVariants.{Free, Det}
 use Rattle.sn_net.specs.declared.net.Net.{Net, fold-Net}
 use Rattle.sn_net.specs.declared.net.Net.TheOpen.{Net-F}
-use Rattle.sn_net.specs.Filter.{IsClosed}
-
--- those of one level, with those of each part in its place
-abbrev pub filters_step : Net-F (List Filter) → List Filter
-filters_step (Net-F.Box place number) = []
-filters_step (Net-F.Filter filter) = filter ∷ []
-filters_step (Net-F.Sync place patterns) = []
-filters_step (Net-F.Serial left right) = left ++ right
-filters_step (Net-F.Choice place merge branches faces) = flat_map (λ branch. branch) branches
-filters_step (Net-F.Star place merge body exit guard) = body
-filters_step (Net-F.Split place merge body tag) = body
-
--- the filters of a network, from left to right
-abbrev pub filters : Net → List Filter
-filters = fold-Net (List Filter) filters_step
-
--- each filter in it is closed
-abbrev pub AllClosed : Net → Type 0
-AllClosed net = All IsClosed (filters net)
 
 -- how many one level has, with those of each part in its place
 abbrev pub nodes_step : Net-F ℕ → ℕ
@@ -38,21 +20,21 @@ nodes_step (Net-F.Split place merge body tag) = 1 + body
 abbrev pub nodes : Net → ℕ
 nodes = fold-Net ℕ nodes_step
 
--- one level, with whether each part is a chain in its place
-abbrev pub chain_step : Net-F Bool → Bool
-chain_step (Net-F.Box place number) = false
-chain_step (Net-F.Filter filter) = true
-chain_step (Net-F.Sync place patterns) = false
-chain_step (Net-F.Serial left right) = left && right
-chain_step (Net-F.Choice place merge branches faces) = false
-chain_step (Net-F.Star place merge body exit guard) = false
-chain_step (Net-F.Split place merge body tag) = false
+-- the merge takes answers in the order of the records that caused them
+abbrev pub is_in_order : Merge → Bool
+is_in_order Free = false
+is_in_order Det = true
 
--- it is made of filters in series
-abbrev pub is_chain : Net → Bool
-is_chain = fold-Net Bool chain_step
+-- one level, with whether all of each part are deterministic in its place
+abbrev pub deterministic_step : Net-F Bool → Bool
+deterministic_step (Net-F.Box place number) = true
+deterministic_step (Net-F.Filter filter) = true
+deterministic_step (Net-F.Sync place patterns) = true
+deterministic_step (Net-F.Serial left right) = left && right
+deterministic_step (Net-F.Choice place merge branches faces) = is_in_order merge && list_all (λ branch. branch) branches
+deterministic_step (Net-F.Star place merge body exit guard) = is_in_order merge && body
+deterministic_step (Net-F.Split place merge body tag) = is_in_order merge && body
 
--- it is made of closed filters in series
-pub record IsClosedChain (net : Net) : Type 0 where
-  pub chain : IsTrue (is_chain net)
-  pub closed : AllClosed net
+-- each choice, star and split in it merges in order
+abbrev pub all_deterministic : Net → Bool
+all_deterministic = fold-Net Bool deterministic_step

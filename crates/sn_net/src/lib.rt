@@ -1,4 +1,4 @@
-//! Networks: what they are made of, when they are closed, and what a chain of them means on one thread.
+//! Networks: what they are made of, when they are closed, what their components answer, and where their dispatchers send items.
 #![tactic(auto)]
 
 mod expr;
@@ -8,13 +8,15 @@ mod filter;
 mod laws;
 mod list;
 mod net;
+mod routing;
 mod tags;
 
 pub use expr::{BoxProgram, Boxes, BuiltinKind, Expr, Fun};
 pub use faced::Faced;
 pub use faces::{copy_sets, face};
 pub use filter::{Filter, Part, Template, is_over};
-pub use net::{Claim, Merge, Net};
+pub use net::{Claim, Merge, Net, all_det};
+pub use routing::{Key, route};
 pub use sn_tagexpr::{BinOp, TagExpr};
 pub use tags::RecordTags;
 

@@ -1,5 +1,5 @@
 ghost use Rattle.std.specs.Prelude.{◌≡◌};
-ghost use Rattle.sn_net.specs.Net.{is_chain};
+ghost use Rattle.sn_net.specs.Net.{all_deterministic, is_in_order};
 
 use crate::filter::Filter;
 use sn_list::{Boxed, Seq};
@@ -13,6 +13,18 @@ pub enum Merge {
     Free,
     /// In the order of the records that caused them.
     Det,
+}
+
+impl Merge {
+    /// Whether answers come in the order of the records that caused them.
+    fn is_in_order(self) -> bool
+        ensures { result ≡ is_in_order self }
+    {
+        match self {
+            Merge::Free => false,
+            Merge::Det => true,
+        }
+    }
 }
 
 /// A network of components. A place is a byte offset in the source.
@@ -69,19 +81,26 @@ pub struct Claim {
     pub output: Seq<LabelSet>,
 }
 
-impl Net {
-    /// Whether it is made of filters in series.
-    pub fn is_chain(&self) -> bool
-        ensures { result ≡ is_chain self.now }
-    {
-        match self {
-            Net::Filter(_) => true,
-            Net::Serial { left, right } => left.get().is_chain() && right.get().is_chain(),
-            Net::Box { .. }
-            | Net::Sync { .. }
-            | Net::Choice { .. }
-            | Net::Star { .. }
-            | Net::Split { .. } => false,
+/// Whether each choice, star and split in the network merges in order.
+pub fn all_det(net: &Net) -> bool
+    ensures { result ≡ all_deterministic net.now }
+{
+    match net {
+        Net::Box { .. } | Net::Filter(_) | Net::Sync { .. } => true,
+        Net::Serial { left, right } => all_det(left.get()) && all_det(right.get()),
+        Net::Choice {
+            merge,
+            branches,
+            ..
+        } => {
+            for branch in branches.as_slice() {
+                if !all_det(branch) {
+                    return false;
+                }
+            }
+            merge.is_in_order()
         }
+        Net::Star { merge, body, .. } => merge.is_in_order() && all_det(body.get()),
+        Net::Split { merge, body, .. } => merge.is_in_order() && all_det(body.get()),
     }
 }

@@ -1,9 +1,11 @@
 ghost use Rattle.std.specs.Prelude.{[], IfOk, IsTrue};
+ghost use Rattle.sn_net.specs.declared.net.Net.TheViews.{out-Net};
 ghost use Rattle.sn_net.specs.Face.{is_numbered};
+ghost use Rattle.sn_net.specs.Routable.{IsDispatcher};
 
-use crate::{Faced, Filter, Merge, Net, Part, TagExpr, Template, face};
+use crate::{Faced, Filter, Key, Merge, Net, Part, TagExpr, Template, all_det, face, route};
 use sn_list::{Boxed, Memory, Seq};
-use sn_record::{Kind, Label, LabelSet};
+use sn_record::{Fault, FaultKind, Item, Kind, Label, LabelSet, Record, Value};
 use std::alloc::Global;
 use std::test::Fail;
 
@@ -47,9 +49,6 @@ fn filters_are_closed(rt: HostRuntime) -> Result<(), Fail> {
     let twice = filter_of(rt.alloc(), Part::Copy(A), Part::Rename(1, 1))?;
     let missing = filter_of(rt.alloc(), Part::Copy(T), Part::Compute(2, TagExpr::Tag(2)))?;
     assert!(rt; closed.is_closed() && !twice.is_closed() && !missing.is_closed());
-    let left = Boxed::new(rt.alloc(), Net::Filter(closed))?;
-    let right = Boxed::new(rt.alloc(), Net::Filter(missing))?;
-    assert!(rt; Net::Serial { left, right }.is_chain());
     Ok(())
 }
 
@@ -66,7 +65,8 @@ fn sink(alloc: Global, label: Label) -> Result<Filter, Memory> {
 
 /// A choice of a sink for each label, in a split, with no faces yet.
 fn split_of(alloc: Global, labels: &[Label]) -> Result<Net, Memory>
-    ensures { IfOk result (λ net. IsTrue (is_numbered [] net)) }
+    ensures numbered { IfOk result (λ net. IsTrue (is_numbered [] net)) }
+    ensures routes { IfOk result (λ net. IsDispatcher (out-Net net)) }
 {
     let mut branches = Seq::new(alloc);
     for label in labels {
@@ -116,5 +116,29 @@ fn a_net_is_made_beside_its_face(rt: HostRuntime) -> Result<(), Fail> {
     let Faced { face, .. } = Faced::split(rt.alloc(), 0, Merge::Free, choice, 1)?;
     assert_eq!(rt; face.len(), 2);
     assert!(rt; face.at(0).contains(A) && face.at(0).contains(T) && !face.at(1).contains(A));
+    Ok(())
+}
+
+/// A record with the tag that the split of `split_of` asks for.
+fn tagged(alloc: Global, n: i64) -> Result<Item, Memory> {
+    let mut record = Record::new(alloc);
+    match record.set(T, Value::Int(n)) {
+        Ok(_) => Ok(Item::Rec(record)),
+        Err(_) => Err(Memory),
+    }
+}
+
+#[test]
+fn a_split_routes_by_its_tag(rt: HostRuntime) -> Result<(), Fail> {
+    let net = split_of(rt.alloc(), &[])?;
+    let missing = Item::Rec(Record::new(rt.alloc()));
+    let fault = Item::Fault(Fault {
+        kind: FaultKind::Overflow,
+        place: 3,
+    });
+    assert_eq!(rt; route(&net, &tagged(rt.alloc(), 7)?), Key::Value(7));
+    assert_eq!(rt; route(&net, &missing), Key::Stuck);
+    assert_eq!(rt; route(&net, &fault), Key::Bypass);
+    assert!(rt; !all_det(&net));
     Ok(())
 }

@@ -3,7 +3,7 @@ use Rattle.std.proofs.Common.{◌≡◌, ℕ, Bool, true, false, IsTrue, List, [
 use Rattle.std.specs.List.{flat_map, list_all}
 use Rattle.sn_record.specs.Record.{Entries}
 use Rattle.sn_record.specs.declared.item.Fault.{Fault as FaultAt}
-use Rattle.sn_net.specs.Meaning.{ModelItem, Rec, Fault, Stuck}
+use Rattle.sn_net.specs.Item.{ModelItem, Rec, Fault, Stuck}
 use Rattle.sn_output.specs.Line.{line}
 use Rattle.sn_output.specs.Printed.{printed, ending}
 

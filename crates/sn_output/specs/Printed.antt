@@ -4,7 +4,7 @@
 -- one does not matter: printing stops there, and no fault ends such a stream.
 use Rattle.std.specs.Prelude.{ℕ, List, [], ◌∷◌, ◌++◌, Option, None, Some}
 use Rattle.sn_record.specs.declared.item.Fault.{Fault as FaultAt}
-use Rattle.sn_net.specs.Meaning.{ModelItem, Rec, Fault, Stuck}
+use Rattle.sn_net.specs.Item.{ModelItem, Rec, Fault, Stuck}
 use Rattle.sn_output.specs.Line.{line}
 
 -- the lines of the records, up to the first item that is none, be it a fault or stuck

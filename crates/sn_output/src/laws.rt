@@ -1,7 +1,7 @@
 //! Laws of what is printed of a stream, each as the contract of a function that does nothing.
 ghost use Rattle.std.specs.Prelude.{◌≡◌, ◌++◌, ℕ, List, map, None, Some};
 ghost use Rattle.std.specs.List.{flat_map};
-ghost use Rattle.sn_net.specs.Meaning.{ModelItem, Rec};
+ghost use Rattle.sn_net.specs.Item.{ModelItem, Rec};
 ghost use Rattle.sn_record.specs.Record.{Entries};
 ghost use Rattle.sn_record.specs.declared.item.Fault.{Fault as SomeFault};
 ghost use Rattle.sn_output.specs.Line.{line as line_text};

@@ -1,6 +1,6 @@
 use Rattle.std.proofs.Common.{subst, IsTrue}
 use Rattle.sn_net.specs.Filter.{is_from}
-use Rattle.sn_filter.proofs.Tags.{tags_there}
+use Rattle.sn_net.proofs.MatchedTags.{tags_there}
 use Rattle.sn_filter.proofs.template.value_of.Goals as goal
 
 -- src/template.rt:44:54

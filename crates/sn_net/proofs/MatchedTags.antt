@@ -1,5 +1,5 @@
 -- The tags that an expression over a matched pattern names are there.
-use Rattle.std.proofs.Common.{◌≡◌, ℕ, Bool, IsTrue}
+use Rattle.std.proofs.Common.{IsTrue}
 use Rattle.std.specs.FinMap.{contains_key}
 use Rattle.sn_record.specs.LabelSet.{Labels}
 use Rattle.sn_record.specs.Record.{Entries, Matches}
