@@ -1,0 +1,4 @@
+pub mod Synchrocell
+pub mod Coding
+pub mod Slotted
+pub mod Outcome
