@@ -1,0 +1,4 @@
+pub mod Forms
+pub mod Ordered
+pub mod Lists
+pub mod Neighbours
