@@ -1,0 +1,16 @@
+-- A network of one filter.
+use Rattle.std.proofs.Common.{[], refl, subst}
+use Rattle.std.proofs.lemmas.List.Elements.{All-nil}
+use Rattle.sn_net.specs.declared.filter.Filter.{Filter}
+use Rattle.sn_net.specs.declared.net.Net.TheOpen.{Net-F}
+use Rattle.sn_net.specs.declared.net.Net.TheFolds.{every_made-Net}
+use Rattle.sn_net.specs.declared.net.Net.TheVariants.{Filter as FilterLeaf, rolls-Filter}
+use Rattle.sn_net.specs.Boxes.{IsClosedBox}
+use Rattle.sn_net.specs.Filter.{IsClosed}
+use Rattle.sn_net.specs.WellFormed.{IsSound, IsWellFormed}
+
+-- it is well formed where the filter is closed
+pub single_formed : (f : Filter) → IsClosed f → IsWellFormed [] (FilterLeaf f)
+single_formed f closed =
+    subst (IsWellFormed []) (rolls-Filter f)
+    (record { closed = All-nil IsClosedBox; sound = every_made-Net (IsSound []) (Net-F.Filter f) (Net-F.Filter f) refl closed })

@@ -1,0 +1,4 @@
+pub mod Answer
+pub mod Rest
+pub mod Straight
+pub mod Stuck

@@ -1,0 +1,24 @@
+-- The first record of a stream without a route.
+use Rattle.std.specs.Prelude.{◌≡◌, ℕ, List, [], ◌∷◌, Option, None, Some}
+use Rattle.sn_net.specs.Item.{ModelItem, Rec, Fault, Stuck}
+use Rattle.sn_once.specs.declared.fault.FeedFault.{FeedFault}
+use Rattle.sn_once.specs.declared.fault.FeedFault.TheVariants.{NoRoute, Memory}
+
+-- the place of the first item that is stuck
+abbrev pub first_stuck : List ModelItem → Option ℕ
+first_stuck [] = None
+first_stuck (Rec r ∷ xs) = first_stuck xs
+first_stuck (Fault fault ∷ xs) = first_stuck xs
+first_stuck (Stuck place ∷ xs) = Some place
+
+-- the items before it, or all of them where none is stuck
+abbrev pub before_stuck : List ModelItem → List ModelItem
+before_stuck [] = []
+before_stuck (Rec r ∷ xs) = Rec r ∷ before_stuck xs
+before_stuck (Fault fault ∷ xs) = Fault fault ∷ before_stuck xs
+before_stuck (Stuck place ∷ xs) = []
+
+-- the fault tells the place of the first item of the stream that is stuck; want of memory tells nothing
+abbrev pub TellsFirst : List ModelItem → FeedFault → Type 0
+TellsFirst xs (NoRoute place) = first_stuck xs ≡ Some place
+TellsFirst xs Memory = Unit {0}

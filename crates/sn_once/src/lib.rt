@@ -1,0 +1,14 @@
+//! The engine on one thread: it runs a network item by item, and gives what the one-thread meaning says.
+#![tactic(auto)]
+
+mod fault;
+mod once;
+mod pass;
+mod straight;
+
+pub use fault::FeedFault;
+pub use once::{Once, run_once};
+pub use straight::is_straight;
+
+#[cfg(test)]
+mod tests;
