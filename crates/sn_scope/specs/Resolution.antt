@@ -1,9 +1,5 @@
 -- What a program is resolved to, or which refusal comes.
 use Rattle.std.specs.Prelude.{ℕ, Bool, true, false, nat_le, nat_lt, if◌then◌else◌, List, length, map, Option, Some, None, Result, Ok, Err}
-use Rattle.std.specs.List.{list_any}
-use Rattle.sn_ast.specs.declared.declaration.Decl.{Decl, fold-Decl}
-use Rattle.sn_ast.specs.declared.declaration.Decl.TheOpen.{Decl-F}
-use Rattle.sn_ast.specs.declared.declaration.NetDecl.{NetDecl, NetDecl-F, fold-NetDecl}
 use Rattle.sn_ast.specs.declared.declaration.Program.{Program}
 use Rattle.sn_net.specs.declared.expr.BoxProgram.{BoxProgram}
 use Rattle.sn_net.specs.declared.net.Claim.{Claim}
@@ -50,23 +46,3 @@ resolution_under names program = unless_refused names (declarations_of names pro
 -- the program with the names of its labels: refusals at a place come first, then that there is no main net, that there are too many names, and that a tree is too large
 abbrev pub resolution : Program → Result Resolved ScopeFault
 resolution program = resolution_under (names_of program) program
-
--- one level, with whether each part holds a box in its place
-abbrev pub box_step : Decl-F Bool Bool → Bool
-box_step (Decl-F.BoxDecl b) = true
-box_step (Decl-F.NetDecl net) = net
-box_step (Decl-F.TypeDecl name parts) = false
-box_step (Decl-F.SigDecl name sig) = false
-
-abbrev pub net_box_step : NetDecl-F Bool Bool → Bool
-net_box_step net = list_any (λ held. held) net.decls
-
--- a box is declared somewhere in the declaration
-abbrev pub holds_box : Decl → Bool
-holds_box = fold-Decl Bool Bool box_step net_box_step
-
-abbrev pub net_holds_box : NetDecl → Bool
-net_holds_box = fold-NetDecl Bool Bool box_step net_box_step
-
-abbrev pub has_box : Program → Bool
-has_box program = list_any (λ held. held) (map holds_box program.decls)

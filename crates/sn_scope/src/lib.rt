@@ -1,7 +1,6 @@
 //! Scope: from a source's tree to its boxes and to the networks that its claims are about, in which each name is resolved.
 #![tactic(auto)]
 
-mod boxes;
 mod declarations;
 mod filters;
 mod network;
@@ -13,7 +12,6 @@ mod trees;
 mod types;
 mod variants;
 
-pub use boxes::has_box;
 pub use resolution::{Resolved, ScopeFault, resolve};
 
 #[cfg(test)]

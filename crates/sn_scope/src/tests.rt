@@ -1,4 +1,4 @@
-use crate::{ScopeFault, has_box, resolve};
+use crate::{ScopeFault, resolve};
 use sn_ast::{BExpr, BForm, BoxDecl, Decl, Ident, NetDecl, NetExpr, NetForm, Program, Sig, Tuple};
 use sn_list::{Memory, Seq};
 use sn_net::Net;
@@ -75,7 +75,6 @@ fn a_program_has_a_main_net(rt: HostRuntime) -> Result<(), Fail> {
 #[test]
 fn a_main_net_may_be_a_box(rt: HostRuntime) -> Result<(), Fail> {
     let program = main_box(rt.alloc())?;
-    assert!(rt; has_box(&program));
     match resolve(rt.alloc(), &program) {
         Ok(resolved) => {
             let call = Net::Box {

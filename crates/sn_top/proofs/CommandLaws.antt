@@ -1,129 +1,139 @@
 -- What the words of the command line give.
-use Rattle.std.proofs.Common.{◌≡◌, ◌≢◌, ℕ, suc, ◌+◌, ◌-◌, ◌<◌, ◌≤◌, Bool, true, false, not, cond, ltb, ◌||◌, List, [], ◌∷◌, ◌++◌, length, take, drop, map, codes, refl, sym, ap, ◌∙◌, subst, arith, Bor}
-use Rattle.std.specs.Prelude.{Option, Some, None, option_map, option_and_then, MatchOption}
-use Rattle.std.proofs.Common.{inl, inr}
-use Rattle.std.specs.List.{list_any, position_or_len}
+use Rattle.std.proofs.Common.{◌≡◌, ◌≢◌, ℕ, suc, ◌<◌, ◌≤◌, ◌^◌, Bool, true, false, cond, List, [], ◌∷◌, codes, length, map, take, drop, get_or, ◌-◌, refl, sym, ap, subst, ◌||◌, arith}
+use Rattle.std.specs.Prelude.{Option, Some, None, Result, Ok, Err, IfOk, IfSome, option_map, option_and_then, unwrap_or}
+use Rattle.std.specs.List.{position_or_len, after_first}
+use Rattle.std.specs.Result.{OkIff, result_ok}
+use Rattle.std.specs.Str.{all_ascii_digits}
+use Rattle.std.specs.Str.Parse.{digits_value, ParsesUnsigned}
 use Rattle.std.proofs.lemmas.Bool.Decides.{nat_tests}
-use Rattle.std.proofs.lemmas.Option.{cond_some}
-use Rattle.std.proofs.lemmas.Slice.Eq.{bytes_eq-Decides}
-use Rattle.std.proofs.lemmas.List.{append-nil, map-append, take_all, length-map, length-drop}
-use Rattle.sn_top.specs.Words.{asked_of, is_word, is_option, positional_words, IsCut, once_of, print_of}
+use Rattle.std.proofs.lemmas.Str.Parse.{IsNumeralModel, numerals_by_value, tells_all_ascii_digits, parse_plain, digits_value_short}
+use Rattle.std.proofs.lemmas.List.{take_all}
+use Rattle.std.proofs.lemmas.Result.{IfOk-weaker}
 use Rattle.sn_top.specs.declared.words.Command.{Command}
+use Rattle.sn_top.specs.declared.words.Setting.{Setting}
+use Rattle.sn_top.specs.declared.words.Setting.TheVariants.{Fuel}
+use Rattle.sn_top.specs.declared.words.WordsFault.{WordsFault}
+use Rattle.sn_top.specs.declared.words.Verb.{Verb}
+use Rattle.sn_top.specs.declared.words.Verb.TheVariants.{Once, Print}
+use Rattle.sn_top.specs.Words.{Given, IsInRange, behind, first_given, is_equals, is_nothing, is_option, is_word, made_of, named, nothing, number_of, once_of, option_name, option_value, print_of, read_on, set, setting_of, within}
 
-abbrev pub is_dashes : List ℕ → Bool
-is_dashes word = is_word (codes "--") word
+-- a `=` stands in the word
+pub value_found : (word value : List ℕ) → position_or_len is_equals word < length word → value ≡ after_first is_equals word → Some value ≡ option_value word
+value_found word value h e = grind (arith, nat_tests)
 
-none_from_cond : (b : Bool) (p : ℕ) → None ≡ cond b (Some p) None → b ≡ false
-none_from_cond true p e = cc
-none_from_cond false p e = refl
+-- none does
+pub value_missing : (word : List ℕ) → position_or_len is_equals word ≡ length word → None ≡ option_value word
+value_missing word e = grind (arith, nat_tests)
 
-module _ {X : Type 0} (bytes : X → List ℕ) where
-  abbrev place : List X → ℕ
-  place ws = position_or_len (λ w. is_dashes (bytes w)) ws
+numerals : IsNumeralModel (λ ds. all_ascii_digits ds ≡ true) (digits_value 10)
+numerals = numerals_by_value _ tells_all_ascii_digits
 
-  -- a word in front of words that are cut
-  cut_more : (w : X) (ws front back : List X) → is_dashes (bytes w) ≡ false → IsCut (map bytes ws) (map bytes front) (map bytes back) → IsCut (map bytes (w ∷ ws)) (map bytes (w ∷ front)) (map bytes back)
-  cut_more w ws front back other c = record {
-    before = rw other c.before;
-    parts = elim c.parts [
-      | inl p ↦ inl (ap (λ l. bytes w ∷ l) p.0, p.1)
-      | inr e ↦ inr (ap (λ l. bytes w ∷ l) e)
-    ];
-  }
+abbrev IsRead : {E : Type 0} → List ℕ → Result ℕ E → Type 0
+IsRead word r = OkIff r ((all_ascii_digits word ≡ true) × (0 < length word) × (digits_value 10 word < 2 ^ 64)) (digits_value 10 word)
 
-  abbrev IsCutAt : List X → ℕ → Type 0
-  IsCutAt ws i = IsCut (map bytes ws) (map bytes (take i ws)) (map bytes (drop (suc i) ws))
+unread : (word : List ℕ) (b : Bool) → all_ascii_digits word ≡ b → length word ≤ 10 → ¬ ((all_ascii_digits word ≡ true) × (0 < length word) × (digits_value 10 word < 2 ^ 64)) → None ≡ number_of word
+unread word false e short h = rw e refl
+unread [] true e short h = refl
+unread (c ∷ cs) true e short h = absurd (h (e, omega arith, omega (arith, digits_value_short numerals (c ∷ cs) 10 e short)))
 
-  cut_head : (w : X) (ws : List X) (b : Bool) → is_dashes (bytes w) ≡ b → (place ws < length ws → IsCutAt ws (place ws)) → cond (not b) (1 + place ws) 0 < length (w ∷ ws) → IsCutAt (w ∷ ws) (cond (not b) (1 + place ws) 0)
-  cut_head w ws true e more h = record { before = refl; parts = inr (ap (λ l. l ∷ map bytes ws) ((bytes_eq-Decides (bytes w) (codes "--")).0 e)) }
-  cut_head w ws false e more h =
-      let next : suc (place ws) ≡ 1 + place ws = omega arith in
-      subst (IsCutAt (w ∷ ws)) next (cut_more w ws _ _ e (more (omega arith)))
+read : {E : Type 0} (word : List ℕ) (r : Result ℕ E) → length word ≤ 10 → IsRead word r → result_ok r ≡ number_of word
+read word (Ok n) short h = grind (arith, nat_tests)
+read word (Err e) short h = unread word _ refl short h
 
-  cut_found : (ws : List X) → place ws < length ws → IsCutAt ws (place ws)
-  cut_found [] h = absurd (omega arith)
-  cut_found (w ∷ ws) h = cut_head w ws (is_dashes (bytes w)) refl (cut_found ws) h
+-- what `parse` makes of a short word without a plus
+pub number_read : {E : Type 0} (word : List ℕ) (r : Result ℕ E) → length word ≤ 10 → get_or word 0 0 ≢ 43 → ParsesUnsigned 64 10 word r → result_ok r ≡ number_of word
+number_read word r short plain h = read word r short (parse_plain numerals 64 word r h plain)
 
-  -- the words before and after the first `--`
-  pub cut_at : (ws : List X) (i : ℕ) → Some i ≡ cond (ltb (place ws) (length ws)) (Some (place ws)) None → IsCut (map bytes ws) (map bytes (take i ws)) (map bytes (take (length ws - (i + 1)) (drop (i + 1) ws)))
-  cut_at ws i e =
-      let found = cond_some (ltb (place ws) (length ws)) (place ws) i (sym e) in
-      let same : place ws ≡ i = found.1 in
-      let within : place ws < length ws = grind (arith, nat_tests) in
-      let next : suc i ≡ i + 1 = omega arith in
-      let all : take (length ws - (i + 1)) (drop (i + 1) ws) ≡ drop (suc i) ws = take_all _ _ (omega (arith, length-drop (i + 1) ws)) ∙ ap (λ n. drop n ws) (sym next) in
-      subst (λ back. IsCut (map bytes ws) (map bytes (take i ws)) (map bytes back)) (sym all) (subst (IsCutAt ws) same (cut_found ws within))
+abbrev fault_in : {A : Type 0} → WordsFault → Result A WordsFault → WordsFault
+fault_in other (Ok x) = other
+fault_in other (Err fault) = fault
 
-  uncut_head : (w : X) (ws : List X) (b : Bool) → is_dashes (bytes w) ≡ b → (length ws ≤ place ws → IsCut (map bytes ws) (map bytes ws) []) → length (w ∷ ws) ≤ cond (not b) (1 + place ws) 0 → IsCut (map bytes (w ∷ ws)) (map bytes (w ∷ ws)) []
-  uncut_head w ws true e more h = absurd (omega arith)
-  uncut_head w ws false e more h = cut_more w ws ws [] e (more (omega arith))
+-- a fault at two types of results
+pub same_fault : (A B : Type 0) (fault other : WordsFault) → ◌≡◌ {A = Result A WordsFault} (Err fault) (Err other) → ◌≡◌ {A = Result B WordsFault} (Err fault) (Err other)
+same_fault A B fault other e = ap Err (ap (fault_in fault) e)
 
-  uncut_found : (ws : List X) → length ws ≤ place ws → IsCut (map bytes ws) (map bytes ws) []
-  uncut_found [] h = record { before = refl; parts = inl (refl, refl) }
-  uncut_found (w ∷ ws) h = uncut_head w ws (is_dashes (bytes w)) refl (uncut_found ws) h
+-- the first word, and the rest as the code sees it
+pub first_word : {X : Type 0} (bytes : X → List ℕ) (words : List X) (word : X) → word ≡ get_or words 0 word → 1 ≤ length words → map bytes words ≡ bytes word ∷ map bytes (take (length words - 1) (drop 1 words))
+first_word bytes [] word e h = absurd (omega arith)
+first_word bytes (first ∷ words) word e h =
+    rw e (ap (λ rest. bytes first ∷ map bytes rest) (sym (take_all (suc (length words) - 1) words (omega arith))))
 
-  -- no word is `--`
-  pub uncut : (ws : List X) → None ≡ cond (ltb (place ws) (length ws)) (Some (place ws)) None → IsCut (map bytes ws) (map bytes ws) (map bytes (take (length ws - length ws) (drop (length ws) ws)))
-  uncut ws e =
-      let none : ltb (place ws) (length ws) ≡ false = none_from_cond _ (place ws) e in
-      let past : length ws ≤ place ws = grind (arith, nat_tests) in
-      let rest : take (length ws - length ws) (drop (length ws) ws) ≡ [] = grind (arith, nat_tests) in
-      subst (λ back. IsCut (map bytes ws) (map bytes ws) (map bytes back)) (sym rest) (uncut_found ws past)
+-- what is read of the fuel is in its range
+abbrev IsFuel : ℕ → Type 0
+IsFuel n = (1 ≤ n) × (n ≤ 1_000_000_000)
 
-  any_mapped : (test : List ℕ → Bool) (ws : List X) → list_any test (map bytes ws) ≡ list_any (λ w. test (bytes w)) ws
-  any_mapped test [] = refl
-  any_mapped test (w ∷ ws) = ap (λ b. test (bytes w) || b) (any_mapped test ws)
+abbrev IsSound : Option Given → Type 0
+IsSound o = IfSome o (λ given. IfSome given.fuel IsFuel)
 
--- one word more in front, by whether it is an option, and whether one follows
-positional_more : (word : List ℕ) (words : List (List ℕ)) (b c : Bool) → cond b None (option_map (λ more. word ∷ more) (cond c None (Some words))) ≡ cond (b || c) None (Some (word ∷ words))
-positional_more word words true c = refl
-positional_more word words false true = refl
-positional_more word words false false = refl
+sound_if : (b : Bool) (x y : Option Given) → IsSound x → IsSound y → IsSound (cond b x y)
+sound_if true x y h k = h
+sound_if false x y h k = k
 
-none_of : (b c : Bool) → (b || c) ≡ false → (b ≡ false) × (c ≡ false)
-none_of true c e = cc
-none_of false c e = (refl, e)
+sound_then : (o : Option Given) (go : Given → Option Given) → IsSound o → ((given : Given) → IfSome given.fuel IsFuel → IsSound (go given)) → IsSound (option_and_then go o)
+sound_then None go h more = tt
+sound_then (Some given) go h more = more given h
 
-positional_before : (front tail back : List (List ℕ)) → list_any is_dashes front ≡ false → positional_words tail ≡ Some back → positional_words (front ++ tail) ≡ cond (list_any is_option front) None (Some (front ++ back))
-positional_before [] tail back h e = e
-positional_before (word ∷ front) tail back h e =
-    let other = none_of (is_dashes word) (list_any is_dashes front) h in
-    rw other.0 (ap (λ (o : Option (List (List ℕ))). cond (is_option word) None (option_map (λ more. word ∷ more) o)) (positional_before front tail back other.1 e) ∙ positional_more word (front ++ back) (is_option word) (list_any is_option front))
+fuel_within : (n : ℕ) → IfSome (within 1_000_000_000 n) IsFuel
+fuel_within n = grind (arith, nat_tests)
 
--- what words that are cut at the first `--` name
-pub positional_cut : (words front back : List (List ℕ)) → IsCut words front back → positional_words words ≡ cond (list_any is_option front) None (Some (front ++ back))
-positional_cut words front back c =
-    elim c.parts [
-      | inl p ↦ ap positional_words (p.0 ∙ sym (append-nil front)) ∙ positional_before front [] back c.before (ap Some (sym p.1))
-      | inr e ↦ ap positional_words e ∙ positional_before front (codes "--" ∷ back) back c.before refl
-    ]
+fuel_read : (o : Option ℕ) → IfSome (option_and_then (within 1_000_000_000) o) IsFuel
+fuel_read None = tt
+fuel_read (Some n) = fuel_within n
 
--- a run takes two words
-once_of_two : (words : List (List ℕ)) → length words ≢ 2 → once_of words ≡ None
-once_of_two [] h = refl
-once_of_two (a ∷ []) h = refl
-once_of_two (a ∷ (b ∷ [])) h = absurd (h refl)
-once_of_two (a ∷ (b ∷ (c ∷ words))) h = refl
+fuel_set : (names : List (List ℕ)) (o : Option ℕ) → IfSome o IsFuel → IsSound (option_map (λ n. record { names = names; fuel = Some n }) o)
+fuel_set names None h = tt
+fuel_set names (Some n) h = h
 
--- a source is one word
-print_of_one : (words : List (List ℕ)) → length words ≢ 1 → print_of words ≡ None
-print_of_one [] h = refl
-print_of_one (a ∷ []) h = absurd (h refl)
-print_of_one (a ∷ (b ∷ words)) h = refl
+fuel_given : (before : Option ℕ) (word : List ℕ) → IfSome (first_given before 1_000_000_000 word) IsFuel
+fuel_given (Some n) word = tt
+fuel_given None word = fuel_read (number_of word)
 
-module _ {X : Type 0} (bytes : X → List ℕ) (ws front back : List X) (c : IsCut (map bytes ws) (map bytes front) (map bytes back)) where
-  -- an option
-  pub refused : (made : List (List ℕ) → Option Command) → true ≡ list_any (λ w. is_option (bytes w)) front → asked_of made (map bytes ws) ≡ None
-  refused made e = ap (option_and_then made) (positional_cut _ _ _ c ∙ ap (λ b. cond b None (Some (map bytes front ++ map bytes back))) (any_mapped bytes is_option front ∙ sym e))
+sound_set : (given : Given) (setting : Setting) (value : List ℕ) → IsSound (set given setting value)
+sound_set given Fuel value = fuel_set given.names _ (fuel_given given.fuel value)
 
-  named : false ≡ list_any (λ w. is_option (bytes w)) front → positional_words (map bytes ws) ≡ Some (map bytes (front ++ back))
-  named e = positional_cut _ _ _ c ∙ ap (λ b. cond b None (Some (map bytes front ++ map bytes back))) (any_mapped bytes is_option front ∙ sym e) ∙ ap Some (sym (map-append bytes front back))
+sound_behind : (go : Option Setting → Given → Option Given) (given : Given) (setting : Option Setting) (value : Option (List ℕ)) → ((due : Option Setting) (more : Given) → IfSome more.fuel IsFuel → IsSound (go due more)) → IfSome given.fuel IsFuel → IsSound (behind go given setting value)
+sound_behind go given None value more h = tt
+sound_behind go given (Some setting) None more h = more (Some setting) given h
+sound_behind go given (Some setting) (Some value) more h = sound_then (set given setting value) (go None) (sound_set given setting value) (more None)
 
-  -- no option
-  pub two_named : false ≡ list_any (λ w. is_option (bytes w)) front → (r : Option (Bor X × Bor X)) → MatchOption r (length (front ++ back) ≢ 2) (λ p. front ++ back ≡ p.0.now ∷ p.1.now ∷ []) → MatchOption r (asked_of once_of (map bytes ws) ≡ None) (λ p. positional_words (map bytes ws) ≡ Some (bytes p.0.now ∷ bytes p.1.now ∷ []))
-  two_named e None h = ap (option_and_then once_of) (named e) ∙ once_of_two (map bytes (front ++ back)) (λ two. h (sym (length-map (front ++ back) bytes) ∙ two))
-  two_named e (Some p) h = named e ∙ ap (λ l. Some (map bytes l)) h
+sound_read : (verb : Verb) (due : Option Setting) (given : Given) (words : List (List ℕ)) → IfSome given.fuel IsFuel → IsSound (read_on verb due given words)
+sound_read verb None given [] h = h
+sound_read verb (Some setting) given [] h = tt
+sound_read verb (Some setting) given (value ∷ words) h = sound_then (set given setting value) _ (sound_set given setting value) (λ more k. sound_read verb None more words k)
+sound_read verb None given (word ∷ words) h =
+    let go : Option Setting → Given → Option Given = λ due more. read_on verb due more words in
+    let setting = setting_of verb (option_name word) in
+    let behind_word = sound_behind go given setting (option_value word) (λ due more k. sound_read verb due more words k) h in
+    let next = named given (word ∷ []) in
+    sound_if (is_word (codes "--") word) (Some (named given words)) (cond (is_option word) (behind go given setting (option_value word)) (go None next)) h
+    (sound_if (is_option word) (behind go given setting (option_value word)) (go None next) behind_word (sound_read verb None next words h))
 
-  pub one_named : false ≡ list_any (λ w. is_option (bytes w)) front → (r : Option (Bor X)) → MatchOption r (length (front ++ back) ≢ 1) (λ w. front ++ back ≡ w.now ∷ []) → MatchOption r (asked_of print_of (map bytes ws) ≡ None) (λ w. positional_words (map bytes ws) ≡ Some (bytes w.now ∷ []))
-  one_named e None h = ap (option_and_then print_of) (named e) ∙ print_of_one (map bytes (front ++ back)) (λ one. h (sym (length-map (front ++ back) bytes) ∙ one))
-  one_named e (Some w) h = named e ∙ ap (λ l. Some (map bytes l)) h
+made_if : (b : Bool) (command : Command) → IsInRange command → IfSome (cond b None (Some command)) IsInRange
+made_if true command h = tt
+made_if false command h = h
+
+made_once : (fuel : ℕ) (names : List (List ℕ)) → IsFuel fuel → IfSome (once_of fuel names) IsInRange
+made_once fuel [] h = tt
+made_once fuel (source ∷ []) h = tt
+made_once fuel (source ∷ (input ∷ [])) h = made_if (is_nothing source || is_nothing input) _ (h.0, h.1, omega arith, omega arith)
+made_once fuel (source ∷ (input ∷ (more ∷ names))) h = tt
+
+made_print : (names : List (List ℕ)) → IfSome (print_of names) IsInRange
+made_print [] = tt
+made_print (source ∷ []) = made_if (is_nothing source) _ tt
+made_print (source ∷ (input ∷ names)) = tt
+
+fuel_or : (fuel : Option ℕ) → IfSome fuel IsFuel → IsFuel (unwrap_or fuel 1_000_000)
+fuel_or None h = (omega arith, omega arith)
+fuel_or (Some n) h = h
+
+made : (verb : Verb) (o : Option Given) → IsSound o → IfSome (option_and_then (made_of verb) o) IsInRange
+made verb None h = tt
+made Once (Some given) h = made_once _ given.names (fuel_or given.fuel h)
+made Print (Some given) h = made_print given.names
+
+-- a command has its numbers in their ranges
+pub made_in_range : {E : Type 0} (verb other : Verb) (words : List (List ℕ)) (given : Given) (r : Result Command E) → read_on verb None nothing words ≡ Some given → IfOk r (λ command. made_of other given ≡ Some command) → IfOk r IsInRange
+made_in_range verb other words given r e h =
+    let sound : IsSound (Some given) = subst IsSound e (sound_read verb None nothing words tt) in
+    IfOk-weaker r _ _ (λ command k. subst (λ o. IfSome o IsInRange) k (made other (Some given) sound)) h

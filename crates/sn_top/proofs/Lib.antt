@@ -3,6 +3,5 @@ pub mod Printing
 pub mod Serving
 pub mod Served
 pub mod CommandLaws
-pub mod Chains
 pub mod Printed
 pub mod Told

@@ -1,6 +1,6 @@
 -- From what was read, resolved, entered and built to what is loaded.
-use Rattle.std.proofs.Common.{true, false, ◌≡◌, ℕ, List, [], ◌∷◌, map, refl, sym, ap, ◌∙◌, subst, inl, inr}
-use Rattle.std.specs.Prelude.{Ok, Err, ◌⊎◌}
+use Rattle.std.proofs.Common.{◌≡◌, ℕ, List, map, refl, sym, ap, ◌∙◌, subst, inl, inr}
+use Rattle.std.specs.Prelude.{None, Ok, Err, ◌⊎◌}
 use Rattle.sn_ast.specs.declared.declaration.Program.{Program as Tree}
 use Rattle.sn_lexer.specs.Answer.{LexesAs, IsFault}
 use Rattle.sn_lexer.specs.declared.token.LexFault.{LexFault}
@@ -10,26 +10,26 @@ use Rattle.sn_parser.specs.Answer.{Faults}
 use Rattle.sn_parser.specs.declared.parsing.ParseFault.{ParseFault}
 use Rattle.sn_parser.specs.declared.parsing.ParseFault.TheVariants as parse_fault
 use Rattle.sn_record.specs.declared.item.Item.{Item}
-use Rattle.sn_record.specs.declared.item.Item.TheVariants as item
-use Rattle.sn_net.specs.Item.{Rec, holds_stuck, modelled}
-use Rattle.sn_net.specs.Meaning.{one}
+use Rattle.sn_net.specs.Item.{Rec, modelled}
+use Rattle.sn_model.specs.Meaning.{one_list}
+use Rattle.sn_model.specs.Run.{given}
+use Rattle.sn_model.specs.declared.run.Run.{Run}
+use Rattle.sn_once.specs.Stuck.{TellsFirst, first_stuck}
+use Rattle.sn_once.specs.declared.fault.FeedFault.{FeedFault}
+use Rattle.sn_once.specs.declared.fault.FeedFault.TheVariants as feed_fault
 use Rattle.sn_input.specs.Reading.{ReadsFile}
 use Rattle.sn_input.specs.declared.input.Input.{Input}
 use Rattle.sn_input.specs.declared.input.InputFault.{InputFault}
 use Rattle.sn_input.specs.declared.input.InputFault.TheVariants as input_fault
-use Rattle.sn_scope.specs.Resolution.{has_box, resolution}
+use Rattle.sn_scope.specs.Resolution.{resolution}
 use Rattle.sn_scope.specs.declared.resolution.Resolved.{Resolved}
 use Rattle.sn_scope.specs.declared.resolution.ScopeFault.{ScopeFault}
 use Rattle.sn_scope.specs.declared.resolution.ScopeFault.TheVariants as scope
-use Rattle.sn_top.specs.declared.chain.ChainFault.{ChainFault}
-use Rattle.sn_top.specs.declared.chain.ChainFault.TheVariants as chain_fault
 use Rattle.sn_top.specs.declared.load.Program.{Program}
-use Rattle.sn_top.specs.declared.status.Refusal.TheVariants as refusal
 use Rattle.sn_top.specs.declared.status.Stop.{Stop}
-use Rattle.sn_top.specs.declared.status.Stop.TheVariants as stop
 use Rattle.sn_top.specs.Source.{IsSource, lex_stop, parse_stop}
 use Rattle.sn_top.specs.Scope.{scope_stop, WhyUnloaded}
-use Rattle.sn_top.specs.Load.{input_stop, chain_stop, IsAnswer, IsLoaded, IsMainChain, stream_of, WhyNoAnswer, WhyNoMainChain}
+use Rattle.sn_top.specs.Load.{input_stop, feed_stop, setting, Limits, IsAnswer, IsLoaded, IsMain, stream_of, WhyNoAnswer, WhyNoMain}
 
 module _ (bytes : List ℕ) where
   -- the lexer refuses
@@ -47,54 +47,44 @@ module _ (bytes : List ℕ) where
   not_parsed tokens lexed parse_fault.Memory is = tt
 
   module _ (tree : Tree) (read : IsSource bytes tree) where
-    -- there is a box
-    pub boxed : has_box tree ≡ true → WhyUnloaded bytes (stop.Refused refusal.NotBuilt)
-    boxed is = inl (record { tree = tree; read = read; boxed = is })
+    -- a name is not resolved
+    pub not_resolved : (fault : ScopeFault) → (fault ≡ scope.Memory) ⊎ (resolution tree ≡ Err fault) → WhyUnloaded bytes (scope_stop fault)
+    not_resolved fault (inl is) = subst (λ f. WhyUnloaded bytes (scope_stop f)) (sym is) tt
+    not_resolved (scope.Unknown at) (inr is) = record { tree = tree; read = read; refused = is }
+    not_resolved (scope.Twice at) (inr is) = record { tree = tree; read = read; refused = is }
+    not_resolved (scope.Arity at) (inr is) = record { tree = tree; read = read; refused = is }
+    not_resolved (scope.GuardTag at) (inr is) = record { tree = tree; read = read; refused = is }
+    not_resolved scope.NoMain (inr is) = record { tree = tree; read = read; refused = is }
+    not_resolved (scope.TooLarge at) (inr is) = record { tree = tree; read = read; refused = is }
+    not_resolved scope.TooManyNames (inr is) = record { tree = tree; read = read; refused = is }
+    not_resolved scope.Memory (inr is) = tt
 
-    module _ (boxless : has_box tree ≡ false) where
-      -- a name is not resolved
-      pub not_resolved : (fault : ScopeFault) → (fault ≡ scope.Memory) ⊎ (resolution tree ≡ Err fault) → WhyUnloaded bytes (scope_stop fault)
-      not_resolved fault (inl is) = subst (λ f. WhyUnloaded bytes (scope_stop f)) (sym is) tt
-      not_resolved (scope.Unknown at) (inr is) = record { tree = tree; read = read; boxless = boxless; refused = is }
-      not_resolved (scope.Twice at) (inr is) = record { tree = tree; read = read; boxless = boxless; refused = is }
-      not_resolved (scope.Arity at) (inr is) = record { tree = tree; read = read; boxless = boxless; refused = is }
-      not_resolved (scope.GuardTag at) (inr is) = record { tree = tree; read = read; boxless = boxless; refused = is }
-      not_resolved scope.NoMain (inr is) = record { tree = tree; read = read; boxless = boxless; refused = is }
-      not_resolved (scope.TooLarge at) (inr is) = record { tree = tree; read = read; boxless = boxless; refused = is }
-      not_resolved scope.TooManyNames (inr is) = record { tree = tree; read = read; boxless = boxless; refused = is }
-      not_resolved scope.Memory (inr is) = tt
+    module _ (resolved : Resolved) (is : resolution tree ≡ Ok resolved) where
+      -- the main network is made of boxes and filters in series, or is another
+      pub loaded : (program : Program) → IsMain resolved program → IsLoaded bytes program
+      loaded program main = record {
+        main = record {
+          claim = main.claim;
+          resolved = record { tree = tree; read = read; resolved = resolved; is = is; names_are = main.names_are; boxes_are = main.boxes_are; main = main.main };
+          net_is = main.net_is;
+          straight = main.runnable.straight;
+        };
+        runnable = main.runnable;
+      }
 
-      module _ (resolved : Resolved) (is : resolution tree ≡ Ok resolved) where
-        -- the main network is a chain, or another
-        pub loaded : (program : Program) → IsMainChain resolved program → IsLoaded bytes program
-        loaded program chain = record {
-          chain = record {
-            claim = chain.claim;
-            resolved = record { tree = tree; read = read; boxless = boxless; resolved = resolved; is = is; names_are = chain.names_are; main = chain.main };
-            net_is = chain.net_is;
-            chained = chain.chained;
-          };
-          closed = chain.closed;
-        }
+      pub other_main : (why : Stop) → WhyNoMain resolved why → WhyUnloaded bytes why
+      other_main why not = subst (WhyUnloaded bytes) (sym not.0) (record {
+        names = resolved.names;
+        boxes = resolved.boxes;
+        claim = not.1.claim;
+        resolved = record { tree = tree; read = read; resolved = resolved; is = is; names_are = refl; boxes_are = refl; main = not.1.main };
+        other = not.1.other;
+      })
 
-        pub other_main : (why : Stop) → WhyNoMainChain resolved why → WhyUnloaded bytes why
-        other_main why not = subst (WhyUnloaded bytes) (sym not.0) (inr (record {
-          names = resolved.names;
-          claim = not.1.claim;
-          resolved = record { tree = tree; read = read; boxless = boxless; resolved = resolved; is = is; names_are = refl; main = not.1.main };
-          other = not.1.other;
-        }))
-
--- an item that is made of a run is never stuck
-modelled_free : (items : List Item) → holds_stuck (map modelled items) ≡ false
-modelled_free [] = refl
-modelled_free (item.Rec r ∷ items) = modelled_free items
-modelled_free (item.Fault fault ∷ items) = modelled_free items
-
-module _ (program : Program) (bytes : List ℕ) where
+module _ (limits : Limits) (program : Program) (bytes : List ℕ) where
   -- the reader of record files refuses
-  pub not_read : (fault : InputFault) → (fault ≡ input_fault.Memory) ⊎ ReadsFile program.names bytes (Err fault) → WhyNoAnswer program bytes (input_stop fault)
-  not_read fault (inl is) = subst (λ f. WhyNoAnswer program bytes (input_stop f)) (sym is) tt
+  pub not_read : (fault : InputFault) → (fault ≡ input_fault.Memory) ⊎ ReadsFile program.names bytes (Err fault) → WhyNoAnswer limits program bytes (input_stop fault)
+  not_read fault (inl is) = subst (λ f. WhyNoAnswer limits program bytes (input_stop f)) (sym is) tt
   not_read (input_fault.BadLine n) (inr is) = is
   not_read (input_fault.Twice n kind name) (inr is) = is
   not_read (input_fault.TooMany n) (inr is) = is
@@ -102,14 +92,20 @@ module _ (program : Program) (bytes : List ℕ) where
   not_read input_fault.Memory (inr is) = tt
 
   module _ (input : Input) (read : ReadsFile program.names bytes (Ok input)) (items : List Item) (made : map modelled items ≡ map Rec input.records) where
-    items_are : one program.net (map modelled items) ≡ stream_of program input
-    items_are = ap (one program.net) made
+    stream_is : one_list (setting program limits) program.net (map modelled items) ≡ stream_of limits program input
+    stream_is = ap (one_list (setting program limits) program.net) made
 
-    pub not_answered : (fault : ChainFault) → (fault ≡ chain_fault.Stuck → holds_stuck (one program.net (map modelled items)) ≡ true) → WhyNoAnswer program bytes (chain_stop fault)
-    not_answered chain_fault.Stuck stuck = record { input = input; read = read; stuck = ap holds_stuck (sym items_are) ∙ stuck refl }
-    not_answered chain_fault.Memory stuck = tt
+    pub not_answered : (fault : FeedFault) → TellsFirst (one_list (setting program limits) program.net (map modelled items)) fault → WhyNoAnswer limits program bytes (feed_stop fault)
+    not_answered (feed_fault.NoRoute place) tells = record { input = input; read = read; place = place; stuck = ap first_stuck (sym stream_is) ∙ tells }
+    not_answered feed_fault.Memory tells = tt
 
-    pub answered : (out : List Item) → one program.net (map modelled items) ≡ map modelled out → IsAnswer program bytes (record { names = input.names; items = out })
-    answered out is =
-        let stream : stream_of program input ≡ map modelled out = sym items_are ∙ is in
-        record { input = input; routed = record { read = read; routed = ap holds_stuck stream ∙ modelled_free out }; names = refl; stream = stream }
+    pub answered : (out : List Item) → map modelled out ≡ one_list (setting program limits) program.net (map modelled items)
+        → first_stuck (one_list (setting program limits) program.net (map modelled items)) ≡ None → IsAnswer limits program bytes (record { names = input.names; items = out })
+    answered out is free =
+        record { input = input; routed = record { read = read; routed = ap first_stuck (sym stream_is) ∙ free }; names = refl; stream = sym (is ∙ stream_is) }
+
+-- what a run gives whose parts are those of a program
+pub given_is : (run : Run) (program : Program) (limits : Limits) (items : List Item) → run.net ≡ program.net → run.boxes ≡ program.boxes → run.fuel ≡ limits.fuel → run.depth ≡ limits.depth → run.items ≡ items
+    → given run ≡ one_list (setting program limits) program.net (map modelled items)
+given_is run program limits items net boxes fuel depth same =
+    λ i. one_list (record { boxes = boxes i; fuel = fuel i; depth = depth i }) (net i) (map modelled (same i))

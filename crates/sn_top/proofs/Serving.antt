@@ -17,7 +17,7 @@ use Rattle.sn_top.specs.Seen.{Sink, File, SinkFailed, WhyUnread}
 use Rattle.sn_record.specs.declared.item.Fault.{Fault}
 use Rattle.sn_net.specs.Item.{modelled}
 use Rattle.sn_output.specs.Printed.{printed, ending}
-use Rattle.sn_top.specs.Load.{HasManyNames, HasNoRoute, HasWrongLine, IsAnswer, IsLoaded, WhyNoAnswer}
+use Rattle.sn_top.specs.Load.{Limits, HasManyNames, HasNoRoute, HasWrongLine, IsAnswer, IsLoaded, WhyNoAnswer}
 use Rattle.sn_top.specs.Scope.{WhyUnloaded, WhyNoProgram}
 use Rattle.sn_top.specs.Answer.{IsAccepted, IsRefusedInput, IsRefusedSource, Printout, Prints, Finds, WhyStopped, print_stop}
 
@@ -32,10 +32,10 @@ pub record HasBytes (file : File) (limit : ℕ) (bytes : List ℕ) : Type 0 wher
   pub within : length bytes ≤ limit
 
 pub accepted : (bytes : List ℕ) (program : Program) → IsLoaded bytes program → length bytes ≤ SOURCE_LIMIT → IsAccepted bytes program
-accepted bytes program is within = record { within = within; chain = is.chain }
+accepted bytes program is within = record { within = within; main = is.main }
 
-module _ (source input : File) (out : Sink) (same : out.now ≡ out.before) where
-  pub source_unread : (why : Stop) → WhyUnread Source SOURCE_LIMIT source why → WhyStopped source input out why
+module _ (limits : Limits) (source input : File) (out : Sink) (same : out.now ≡ out.before) where
+  pub source_unread : (why : Stop) → WhyUnread Source SOURCE_LIMIT source why → WhyStopped limits source input out why
   source_unread (Refused (TooLarge Source)) why = (why.1, same)
   source_unread (Refused (TooLarge Input)) why = cc
   source_unread (Refused (SourceAt fault at)) why = absurd why
@@ -58,7 +58,7 @@ module _ (source input : File) (out : Sink) (same : out.now ≡ out.before) wher
     refused_source : (refusal : Refusal) → WhyNoProgram bytes refusal → IfSome source.told (IsRefusedSource refusal)
     refused_source refusal why = told_source (IsRefusedSource refusal) (read.within, why)
 
-    pub not_loaded : (why : Stop) → WhyUnloaded bytes why → WhyStopped source input out why
+    pub not_loaded : (why : Stop) → WhyUnloaded bytes why → WhyStopped limits source input out why
     not_loaded (Refused (TooLarge which)) why = absurd why
     not_loaded (Refused (SourceAt fault at)) why = (refused_source (SourceAt fault at) why, same)
     not_loaded (Refused NoMain) why = (refused_source NoMain why, same)
@@ -68,7 +68,7 @@ module _ (source input : File) (out : Sink) (same : out.now ≡ out.before) wher
         (told_source (λ t. IsRefusedSource TooManyNames t ⊎ IsRefusedInput input.told HasManyNames t) (inl (read.within, why)), same)
     not_loaded (Refused (Line fault)) why = absurd why
     not_loaded (Faulted fault) why = absurd why
-    not_loaded (Refused NotBuilt) why = (told_source (λ t. IsRefusedSource NotBuilt t ⊎ IsRefusedInput input.told HasNoRoute t) (inl (read.within, why)), same)
+    not_loaded (Refused NotBuilt) why = (told_source (λ t. IsRefusedSource NotBuilt t ⊎ IsRefusedInput input.told (HasNoRoute limits) t) (inl (read.within, why)), same)
     not_loaded (Unread which) why = absurd why
     not_loaded Memory why = inl same
     not_loaded Write why = absurd why
@@ -76,7 +76,7 @@ module _ (source input : File) (out : Sink) (same : out.now ≡ out.before) wher
     module _ (program : Program) (is : IsLoaded bytes program) where
       -- `between` is the input's file as its read found it
       pub input_unread : (between : File) → between.told ≡ input.told → input.faults_before ≤ between.faults_before → between.faults_now ≡ input.faults_now
-          → (why : Stop) → WhyUnread Input INPUT_LIMIT between why → WhyStopped source input out why
+          → (why : Stop) → WhyUnread Input INPUT_LIMIT between why → WhyStopped limits source input out why
       input_unread between told later now (Refused (TooLarge Source)) why = cc
       input_unread between told later now (Refused (TooLarge Input)) why = (
         told_source (λ t. (p : Program) × IsAccepted t p × IfSome input.told (λ more. INPUT_LIMIT < length more))
@@ -103,7 +103,7 @@ module _ (source input : File) (out : Sink) (same : out.now ≡ out.before) wher
         refused_input Why why =
             (program, accepted bytes program is read.within, of_told input.told more (λ m. (length m ≤ INPUT_LIMIT) × Why program m) has.told (has.within, why))
 
-        pub no_answer : (why : Stop) → WhyNoAnswer program more why → WhyStopped source input out why
+        pub no_answer : (why : Stop) → WhyNoAnswer limits program more why → WhyStopped limits source input out why
         no_answer (Refused (TooLarge which)) why = absurd why
         no_answer (Refused (SourceAt fault at)) why = absurd why
         no_answer (Refused NoMain) why = absurd why
@@ -115,18 +115,18 @@ module _ (source input : File) (out : Sink) (same : out.now ≡ out.before) wher
         )
         no_answer (Refused (Line fault)) why = (told_source (IsRefusedInput input.told (HasWrongLine fault)) (refused_input (HasWrongLine fault) why), same)
         no_answer (Faulted fault) why = absurd why
-        no_answer (Refused NotBuilt) why = (told_source (λ t. IsRefusedSource NotBuilt t ⊎ IsRefusedInput input.told HasNoRoute t) (inr (refused_input HasNoRoute why)), same)
+        no_answer (Refused NotBuilt) why = (told_source (λ t. IsRefusedSource NotBuilt t ⊎ IsRefusedInput input.told (HasNoRoute limits) t) (inr (refused_input (HasNoRoute limits) why)), same)
         no_answer (Unread which) why = absurd why
         no_answer Memory why = inl same
         no_answer Write why = absurd why
 
-module _ (source input : File) (bytes : List ℕ) (read : HasBytes source SOURCE_LIMIT bytes) (program : Program) (is : IsLoaded bytes program) (more : List ℕ) (has : HasBytes input INPUT_LIMIT more)
-    (answered : Answered) (answer : IsAnswer program more answered) where
+module _ (limits : Limits) (source input : File) (bytes : List ℕ) (read : HasBytes source SOURCE_LIMIT bytes) (program : Program) (is : IsLoaded bytes program) (more : List ℕ) (has : HasBytes input INPUT_LIMIT more)
+    (answered : Answered) (answer : IsAnswer limits program more answered) where
   -- what is printed of the items
   abbrev pub shown : Printout
   shown = record { bytes = printed answered.names (map modelled answered.items); ending = ending (map modelled answered.items) }
 
-  prints : Prints program more shown
+  prints : Prints limits program more shown
   prints = record {
     within = has.within;
     input = answer.input;
@@ -135,15 +135,15 @@ module _ (source input : File) (bytes : List ℕ) (read : HasBytes source SOURCE
     ending_is = ap ending (sym answer.stream);
   }
 
-  pub finds_shown : Finds source.told input.told (Ok shown)
+  pub finds_shown : Finds limits source.told input.told (Ok shown)
   finds_shown =
-      of_told source.told bytes (λ t. (p : Program) × IsAccepted t p × IfSome input.told (λ m. Prints p m shown)) read.told
-      (program, accepted bytes program is read.within, of_told input.told more (λ m. Prints program m shown) has.told prints)
+      of_told source.told bytes (λ t. (p : Program) × IsAccepted t p × IfSome input.told (λ m. Prints limits p m shown)) read.told
+      (program, accepted bytes program is read.within, of_told input.told more (λ m. Prints limits program m shown) has.told prints)
 
   -- what is found, by how it ends
-  pub finds_ending : (fault : Option Fault) → fault ≡ ending (map modelled answered.items) → Finds source.told input.told (Ok (record { bytes = printed answered.names (map modelled answered.items); ending = fault }))
-  finds_ending fault same = subst (λ e. Finds source.told input.told (Ok (record { bytes = printed answered.names (map modelled answered.items); ending = e }))) (sym same) finds_shown
+  pub finds_ending : (fault : Option Fault) → fault ≡ ending (map modelled answered.items) → Finds limits source.told input.told (Ok (record { bytes = printed answered.names (map modelled answered.items); ending = fault }))
+  finds_ending fault same = subst (λ e. Finds limits source.told input.told (Ok (record { bytes = printed answered.names (map modelled answered.items); ending = e }))) (sym same) finds_shown
 
-  pub not_printed : (out : Sink) (fault : PrintFault) → AppendsPrefix out.before out.now (printed answered.names (map modelled answered.items)) → (fault ≡ print_fault.Write → SinkFailed out) → WhyStopped source input out (print_stop fault)
+  pub not_printed : (out : Sink) (fault : PrintFault) → AppendsPrefix out.before out.now (printed answered.names (map modelled answered.items)) → (fault ≡ print_fault.Write → SinkFailed out) → WhyStopped limits source input out (print_stop fault)
   not_printed out print_fault.Memory part failed = inr (shown, finds_shown, part)
   not_printed out print_fault.Write part failed = (failed refl, (shown, finds_shown, part))

@@ -21,14 +21,14 @@ use Rattle.sn_top.specs.Seen.{Sink, File, seen_sink, seen_file, SinkFailed, File
 use Rattle.sn_record.specs.declared.item.Fault.{Fault}
 use Rattle.sn_input.specs.declared.input.Input.{Input as RecordFile}
 use Rattle.sn_output.specs.Printed.{printed, ending}
-use Rattle.sn_top.specs.Load.{HasManyNames, HasNoRoute, HasWrongLine, stream_of, IsRouted}
-use Rattle.sn_top.specs.Scope.{IsChain, WhyNoProgram}
+use Rattle.sn_top.specs.Load.{Limits, limits_of, HasManyNames, HasNoRoute, HasWrongLine, stream_of, IsRouted}
+use Rattle.sn_top.specs.Scope.{IsStraight, WhyNoProgram}
 use Rattle.sn_top.specs.declared.load.Program.{Program}
 
--- the source is within the limit, and its main network is a chain of filters
+-- the source is within the limit, and its main network is made of boxes and filters in series
 pub record IsAccepted (bytes : List ℕ) (program : Program) : Type 0 where
   pub within : length bytes ≤ SOURCE_LIMIT
-  pub chain : IsChain bytes program
+  pub main : IsStraight bytes program
 
 -- what a command prints, and the fault that ends it, if there is one
 pub record Printout : Type 0 where
@@ -40,12 +40,12 @@ abbrev pub whole : List ℕ → Printout
 whole bytes = record { bytes = bytes; ending = None }
 
 -- what the program prints for an input of these bytes, which is within the limit and a record file
-pub record Prints (program : Program) (bytes : List ℕ) (p : Printout) : Type 0 where
+pub record Prints (limits : Limits) (program : Program) (bytes : List ℕ) (p : Printout) : Type 0 where
   pub within : length bytes ≤ INPUT_LIMIT
   pub input : RecordFile
-  pub routed : IsRouted program bytes input
-  pub bytes_are : p.bytes ≡ printed input.names (stream_of program input)
-  pub ending_is : p.ending ≡ ending (stream_of program input)
+  pub routed : IsRouted limits program bytes input
+  pub bytes_are : p.bytes ≡ printed input.names (stream_of limits program input)
+  pub ending_is : p.ending ≡ ending (stream_of limits program input)
 
 -- the source is within the limit, and refused
 abbrev pub IsRefusedSource : Refusal → List ℕ → Type 0
@@ -57,17 +57,17 @@ IsRefusedInput input Why bytes = (program : Program) × IsAccepted bytes program
 
 -- what the checks and the run find of a source and an input, where their bytes are told; the checks come in the order:
 -- the source's file, the source, the input's file, the input, the run
-abbrev pub Finds : Option (List ℕ) → Option (List ℕ) → Result Printout Refusal → Type 0
-Finds source input (Err (TooLarge Source)) = IfSome source (λ bytes. SOURCE_LIMIT < length bytes)
-Finds source input (Err (SourceAt fault at)) = IfSome source (IsRefusedSource (SourceAt fault at))
-Finds source input (Err NoMain) = IfSome source (IsRefusedSource NoMain)
-Finds source input (Err (TooDeep at)) = IfSome source (IsRefusedSource (TooDeep at))
-Finds source input (Err (LargeTree at)) = IfSome source (IsRefusedSource (LargeTree at))
-Finds source input (Err TooManyNames) = IfSome source (λ bytes. IsRefusedSource TooManyNames bytes ⊎ IsRefusedInput input HasManyNames bytes)
-Finds source input (Err (Line fault)) = IfSome source (IsRefusedInput input (HasWrongLine fault))
-Finds source input (Err NotBuilt) = IfSome source (λ bytes. IsRefusedSource NotBuilt bytes ⊎ IsRefusedInput input HasNoRoute bytes)
-Finds source input (Err (TooLarge Input)) = IfSome source (λ bytes. (program : Program) × IsAccepted bytes program × IfSome input (λ more. INPUT_LIMIT < length more))
-Finds source input (Ok p) = IfSome source (λ bytes. (program : Program) × IsAccepted bytes program × IfSome input (λ more. Prints program more p))
+abbrev pub Finds : Limits → Option (List ℕ) → Option (List ℕ) → Result Printout Refusal → Type 0
+Finds limits source input (Err (TooLarge Source)) = IfSome source (λ bytes. SOURCE_LIMIT < length bytes)
+Finds limits source input (Err (SourceAt fault at)) = IfSome source (IsRefusedSource (SourceAt fault at))
+Finds limits source input (Err NoMain) = IfSome source (IsRefusedSource NoMain)
+Finds limits source input (Err (TooDeep at)) = IfSome source (IsRefusedSource (TooDeep at))
+Finds limits source input (Err (LargeTree at)) = IfSome source (IsRefusedSource (LargeTree at))
+Finds limits source input (Err TooManyNames) = IfSome source (λ bytes. IsRefusedSource TooManyNames bytes ⊎ IsRefusedInput input HasManyNames bytes)
+Finds limits source input (Err (Line fault)) = IfSome source (IsRefusedInput input (HasWrongLine fault))
+Finds limits source input (Err NotBuilt) = IfSome source (λ bytes. IsRefusedSource NotBuilt bytes ⊎ IsRefusedInput input (HasNoRoute limits) bytes)
+Finds limits source input (Err (TooLarge Input)) = IfSome source (λ bytes. (program : Program) × IsAccepted bytes program × IfSome input (λ more. INPUT_LIMIT < length more))
+Finds limits source input (Ok p) = IfSome source (λ bytes. (program : Program) × IsAccepted bytes program × IfSome input (λ more. Prints limits program more p))
 
 -- the same of a source alone, which is within the limit where more than its size is found
 abbrev pub FindsText : Option (List ℕ) → Result Printout Refusal → Type 0
@@ -118,7 +118,7 @@ seen bytes_of file_faults out_held out_faults err_held err_faults files new_file
 
 -- what is found of a command's files
 abbrev pub FindsFor : Command → (List ℕ → File) → Result Printout Refusal → Type 0
-FindsFor (Once source input fuel depth) file found = Finds (file source).told (file input).told found
+FindsFor (Once source input fuel depth) file found = Finds (limits_of fuel depth) (file source).told (file input).told found
 FindsFor (Print source) file found = FindsText (file source).told found
 
 -- the whole answer: what is found decides the bytes, the status and the line
@@ -174,8 +174,8 @@ StoppedFor finds unread out stop.Memory = GotPart finds out
 StoppedFor finds unread out stop.Write = HasFailed finds out
 
 -- a run on a source and an input
-abbrev pub WhyStopped : File → File → Sink → Stop → Type 0
-WhyStopped source input out why = StoppedFor (Finds source.told input.told) (λ which. IsUnread which source input) out why
+abbrev pub WhyStopped : Limits → File → File → Sink → Stop → Type 0
+WhyStopped limits source input out why = StoppedFor (Finds limits source.told input.told) (λ which. IsUnread which source input) out why
 
 -- the printing of a source
 abbrev pub WhyUnprinted : File → Sink → Stop → Type 0

@@ -1,9 +1,10 @@
 -- What a source of the whole language is resolved to, or why it is not.
-use Rattle.std.specs.Prelude.{◌≡◌, ◌⊎◌, ℕ, true, false, IsTrue, List, slice_get, Some, Ok, Err}
+use Rattle.std.specs.Prelude.{◌≡◌, ℕ, false, IsTrue, List, slice_get, Some, Ok, Err}
 use Rattle.sn_ast.specs.declared.declaration.Program.{Program as Tree}
-use Rattle.sn_net.specs.Net.{is_chain}
+use Rattle.sn_net.specs.declared.expr.BoxProgram.{BoxProgram}
 use Rattle.sn_net.specs.declared.net.Claim.{Claim}
-use Rattle.sn_scope.specs.Resolution.{has_box, resolution}
+use Rattle.sn_once.specs.Straight.{is_straight}
+use Rattle.sn_scope.specs.Resolution.{resolution}
 use Rattle.sn_scope.specs.declared.resolution.Resolved.{Resolved}
 use Rattle.sn_scope.specs.declared.resolution.ScopeFault.{ScopeFault}
 use Rattle.sn_scope.specs.declared.resolution.ScopeFault.TheVariants as scope
@@ -27,42 +28,36 @@ scope_stop (scope.TooLarge at) = stop.Refused (LargeTree at)
 scope_stop scope.TooManyNames = stop.Refused TooManyNames
 scope_stop scope.Memory = stop.Memory
 
--- the bytes spell a program without boxes, whose names are not resolved
+-- the bytes spell a program whose names are not resolved
 pub record IsUnresolved (bytes : List ℕ) (fault : ScopeFault) : Type 0 where
   pub tree : Tree
   pub read : IsSource bytes tree
-  pub boxless : has_box tree ≡ false
   pub refused : resolution tree ≡ Err fault
 
--- the bytes spell a program with a box
-pub record HasBox (bytes : List ℕ) : Type 0 where
+-- the bytes spell a program with these boxes, and with this claim for its main net
+pub record IsResolved (bytes : List ℕ) (names : List (List ℕ)) (boxes : List BoxProgram) (claim : Claim) : Type 0 where
   pub tree : Tree
   pub read : IsSource bytes tree
-  pub boxed : has_box tree ≡ true
-
--- the bytes spell a program without boxes, with this claim for its main net
-pub record IsResolved (bytes : List ℕ) (names : List (List ℕ)) (claim : Claim) : Type 0 where
-  pub tree : Tree
-  pub read : IsSource bytes tree
-  pub boxless : has_box tree ≡ false
   pub resolved : Resolved
   pub is : resolution tree ≡ Ok resolved
   pub names_are : names ≡ resolved.names
+  pub boxes_are : boxes ≡ resolved.boxes
   pub main : slice_get resolved.claims resolved.main ≡ Some claim
 
--- a program whose main net is no chain of filters
-pub record IsNoChain (bytes : List ℕ) : Type 0 where
+-- a program whose main net has a synchrocell, a choice, a star or a split
+pub record IsUnbuilt (bytes : List ℕ) : Type 0 where
   pub names : List (List ℕ)
+  pub boxes : List BoxProgram
   pub claim : Claim
-  pub resolved : IsResolved bytes names claim
-  pub other : is_chain claim.net ≡ false
+  pub resolved : IsResolved bytes names boxes claim
+  pub other : is_straight claim.net ≡ false
 
--- the names and the main net of a program, which is a chain of filters
-pub record IsChain (bytes : List ℕ) (program : Program) : Type 0 where
+-- the names, the boxes and the main net of a program, which is made of boxes and filters in series
+pub record IsStraight (bytes : List ℕ) (program : Program) : Type 0 where
   pub claim : Claim
-  pub resolved : IsResolved bytes program.names claim
+  pub resolved : IsResolved bytes program.names program.boxes claim
   pub net_is : program.net ≡ claim.net
-  pub chained : IsTrue (is_chain program.net)
+  pub straight : IsTrue (is_straight program.net)
 
 -- what is wrong in the source, as it is read or as its names are resolved, and where
 abbrev pub IsWrongAt : List ℕ → SourceFault → ℕ → Type 0
@@ -85,7 +80,7 @@ WhyNoProgram bytes (TooDeep at) = IsRefused bytes (parse_fault.TooDeep at)
 WhyNoProgram bytes (LargeTree at) = IsUnresolved bytes (scope.TooLarge at)
 WhyNoProgram bytes TooManyNames = IsUnresolved bytes scope.TooManyNames
 WhyNoProgram bytes (Line fault) = ⊥
-WhyNoProgram bytes NotBuilt = HasBox bytes ⊎ IsNoChain bytes
+WhyNoProgram bytes NotBuilt = IsUnbuilt bytes
 
 -- why loading a source stopped
 abbrev pub WhyUnloaded : List ℕ → Stop → Type 0

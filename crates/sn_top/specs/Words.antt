@@ -1,10 +1,17 @@
 -- The words of the command line, after the program's name, as bytes.
-use Rattle.std.specs.Prelude.{◌≡◌, ◌≤◌, ◌⊎◌, ◌++◌, false, ℕ, Bool, ◌&&◌, ◌||◌, List, [], ◌∷◌, codes, length, nat_lt, nat_eq, get_or, Option, Some, None, option_map, option_and_then, if◌then◌else◌}
-use Rattle.std.specs.List.{list_any}
-use Rattle.std.specs.Str.{bytes_eq}
+use Rattle.std.specs.Prelude.{◌≤◌, ◌++◌, ℕ, ◌+◌, Bool, ◌==◌, ◌&&◌, ◌||◌, List, [], ◌∷◌, codes, length, map, drop, nat_lt, nat_le, nat_eq, get_or, Option, Some, None, unwrap_or, option_map, option_and_then, if◌then◌else◌}
+use Rattle.std.specs.List.{position, before_first}
+use Rattle.std.specs.Str.{bytes_eq, all_ascii_digits}
+use Rattle.std.specs.Str.Parse.{digits_value}
+use Rattle.std.specs.String.{string_bytes}
 use Rattle.sn_top.specs.declared.words.Command.{Command}
 use Rattle.sn_top.specs.declared.words.Command.TheVariants.{Once, Print}
-use Rattle.sn_top.specs.declared.words.TheConstants.{DEFAULT_FUEL, DEFAULT_DEPTH}
+use Rattle.sn_top.specs.declared.words.Reading.{Reading}
+use Rattle.sn_top.specs.declared.words.Verb.{Verb}
+use Rattle.sn_top.specs.declared.words.Verb.TheVariants as verbs
+use Rattle.sn_top.specs.declared.words.Setting.{Setting}
+use Rattle.sn_top.specs.declared.words.Setting.TheVariants.{Fuel}
+use Rattle.sn_top.specs.declared.words.TheConstants.{DEFAULT_FUEL, DEFAULT_DEPTH, MOST_FUEL}
 
 abbrev pub usage_text : List ℕ
 usage_text = codes "usage: snet run SOURCE INPUT [--workers N] [--fuel N] [--depth N] [--queue N] | once SOURCE INPUT [--fuel N] [--depth N] | check SOURCE | print SOURCE | sample SEED COUNT\n"
@@ -12,42 +19,105 @@ usage_text = codes "usage: snet run SOURCE INPUT [--workers N] [--fuel N] [--dep
 abbrev pub is_word : List ℕ → List ℕ → Bool
 is_word text word = bytes_eq word text
 
+-- the command that a word names
+abbrev pub verb_of : List ℕ → Option Verb
+verb_of word = if is_word (codes "once") word then Some verbs.Once else (if is_word (codes "print") word then Some verbs.Print else None)
+
 -- a minus, and more
 abbrev pub is_option : List ℕ → Bool
 is_option word = nat_lt 1 (length word) && nat_eq (get_or word 0 0) 45
 
--- the words that name something: all that follow the first `--`, and before it those that are no option, of which there are none yet
-abbrev pub positional_words : List (List ℕ) → Option (List (List ℕ))
-positional_words [] = Some []
-positional_words (word ∷ words) =
-    if is_word (codes "--") word then Some words else (if is_option word then None else option_map (λ more. word ∷ more) (positional_words words))
+abbrev pub is_equals : ℕ → Bool
+is_equals byte = byte == 61
 
--- the words before the first `--`, and those after it
-pub record IsCut (words front back : List (List ℕ)) : Type 0 where
-  pub before : list_any (is_word (codes "--")) front ≡ false
-  pub parts : ((words ≡ front) × (back ≡ [])) ⊎ (words ≡ front ++ codes "--" ∷ back)
+-- what stands before the first `=` of an option's word
+abbrev pub option_name : List ℕ → List ℕ
+option_name word = before_first is_equals word
+
+-- what stands behind that `=`, where there is one
+abbrev pub option_value : List ℕ → Option (List ℕ)
+option_value word = option_map (λ place. drop (place + 1) word) (position is_equals word)
+
+-- the option of a command that has this name
+abbrev pub setting_of : Verb → List ℕ → Option Setting
+setting_of verbs.Once name = if is_word (codes "--fuel") name then Some Fuel else None
+setting_of verbs.Print name = None
+
+-- the number that one to ten digits write
+abbrev pub number_of : List ℕ → Option ℕ
+number_of word = if all_ascii_digits word && nat_le 1 (length word) && nat_le (length word) 10 then Some (digits_value 10 word) else None
+
+-- a number from 1 to `most`
+abbrev pub within : ℕ → ℕ → Option ℕ
+within most n = if nat_le 1 n && nat_le n most then Some n else None
+
+-- the number of a word, for an option that has none yet
+abbrev pub first_given : Option ℕ → ℕ → List ℕ → Option ℕ
+first_given (Some n) most word = None
+first_given None most word = option_and_then (within most) (number_of word)
+
+-- what was read so far: the positional words, and the fuel where it was given
+pub record Given : Type 0 where
+  pub names : List (List ℕ)
+  pub fuel : Option ℕ
+
+-- what the code has read
+abbrev pub so_far : Reading → Given
+so_far reading = record { names = map (λ word. string_bytes word.now) reading.names; fuel = reading.fuel }
+
+abbrev pub nothing : Given
+nothing = record { names = []; fuel = None }
+
+-- with more positional words
+abbrev pub named : Given → List (List ℕ) → Given
+named given words = record given { names = given.names ++ words }
+
+-- with the value of an option, which may be given once
+abbrev pub set : Given → Setting → List ℕ → Option Given
+set given Fuel value = option_map (λ n. record given { fuel = Some n }) (first_given given.fuel MOST_FUEL value)
+
+-- goes on behind the word of an option: its value stands in that word, or is still due
+abbrev pub behind : (Option Setting → Given → Option Given) → Given → Option Setting → Option (List ℕ) → Option Given
+behind go given None value = None
+behind go given (Some setting) None = go (Some setting) given
+behind go given (Some setting) (Some value) = option_and_then (go None) (set given setting value)
+
+-- reads the words of a command from the left; where the value of an option is due, the first is that
+abbrev pub read_on : Verb → Option Setting → Given → List (List ℕ) → Option Given
+read_on verb None given [] = Some given
+read_on verb (Some setting) given [] = None
+read_on verb (Some setting) given (value ∷ words) = option_and_then (λ more. read_on verb None more words) (set given setting value)
+read_on verb None given (word ∷ words) =
+    if is_word (codes "--") word then Some (named given words)
+    else (if is_option word then behind (λ due more. read_on verb due more words) given (setting_of verb (option_name word)) (option_value word)
+    else read_on verb None (named given (word ∷ [])) words)
 
 abbrev pub is_nothing : List ℕ → Bool
 is_nothing word = nat_eq (length word) 0
 
 -- a source and an input, neither of them an empty word
-abbrev pub once_of : List (List ℕ) → Option Command
-once_of (source ∷ input ∷ []) = if is_nothing source || is_nothing input then None else Some (Once source input DEFAULT_FUEL DEFAULT_DEPTH)
-once_of _ = None
+abbrev pub once_of : ℕ → List (List ℕ) → Option Command
+once_of fuel (source ∷ input ∷ []) = if is_nothing source || is_nothing input then None else Some (Once source input fuel DEFAULT_DEPTH)
+once_of fuel _ = None
 
 -- a source alone
 abbrev pub print_of : List (List ℕ) → Option Command
 print_of (source ∷ []) = if is_nothing source then None else Some (Print source)
 print_of _ = None
 
+-- the command that was given
+abbrev pub made_of : Verb → Given → Option Command
+made_of verbs.Once given = once_of (unwrap_or given.fuel DEFAULT_FUEL) given.names
+made_of verbs.Print given = print_of given.names
+
 -- what the words after a command's name ask for
-abbrev pub asked_of : (List (List ℕ) → Option Command) → List (List ℕ) → Option Command
-asked_of made words = option_and_then made (positional_words words)
+abbrev pub asked_of : Verb → List (List ℕ) → Option Command
+asked_of verb words = option_and_then (made_of verb) (read_on verb None nothing words)
 
 -- what the words ask for
 abbrev pub command_of : List (List ℕ) → Option Command
 command_of [] = None
-command_of (word ∷ words) = if is_word (codes "once") word then asked_of once_of words else (if is_word (codes "print") word then asked_of print_of words else None)
+command_of (word ∷ words) = option_and_then (λ verb. asked_of verb words) (verb_of word)
 
 -- the numbers that a run may be given
 abbrev pub IsInRange : Command → Type 0

@@ -3,7 +3,6 @@
 #![tactic(auto)]
 
 mod canonical;
-mod chain;
 mod load;
 mod outside;
 mod print;

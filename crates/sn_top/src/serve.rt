@@ -2,6 +2,7 @@
 ghost use Rattle.std.specs.Prelude.{◌≡◌, ◌≢◌, ◌≤◌, ℕ, List, Ok, IfErr, OnOk, map};
 ghost use Rattle.std.specs.String.{string_bytes};
 ghost use Rattle.sn_io.specs.Told.{appended};
+ghost use Rattle.sn_top.specs.Load.{AreLimits, limits_of};
 ghost use Rattle.sn_top.specs.Seen.{GotLine, seen_file, seen_sink};
 ghost use Rattle.sn_top.specs.Status.{stop_line};
 ghost use Rattle.sn_top.specs.Words.{command_of, input_of, IsInRange, source_of};
@@ -30,13 +31,16 @@ fn run_once<F: Files, O: Sink>(
     alloc: Global,
     source_name: &[u8],
     input_name: &[u8],
+    fuel: u64,
+    depth: u32,
     files: &mut F,
     out: &mut O,
 ) -> Result<(), Stop>
+    requires { AreLimits (limits_of fuel depth) }
     ensures done { OnOk result ((p : List ℕ)
-        × Finds (F.bytes_of files.old source_name.now) (F.bytes_of files.old input_name.now) (Ok (whole p))
+        × Finds (limits_of fuel depth) (F.bytes_of files.old source_name.now) (F.bytes_of files.old input_name.now) (Ok (whole p))
         × (O.held out.new ≡ appended (O.held out.old) p)) }
-    ensures stopped { IfErr result (WhyStopped
+    ensures stopped { IfErr result (WhyStopped (limits_of fuel depth)
         (seen_file F.bytes_of F.faults files.old files.new source_name.now)
         (seen_file F.bytes_of F.faults files.old files.new input_name.now)
         (seen_sink O.held O.faults out.old out.new)) }
@@ -47,7 +51,7 @@ fn run_once<F: Files, O: Sink>(
     let source = read_file(alloc, files, Which::Source, source_name, SOURCE_LIMIT)?;
     let program = load_source(alloc, source.as_slice())?;
     let input = read_file(alloc, files, Which::Input, input_name, INPUT_LIMIT)?;
-    let answered = answer_input(alloc, program, input.as_slice())?;
+    let answered = answer_input(alloc, program, fuel, depth, input.as_slice())?;
     match print_items(alloc, &answered.names, answered.items.as_slice(), out)? {
         None => Ok(()),
         Some(fault) => Err(Stop::Faulted(fault)),
@@ -83,6 +87,7 @@ fn run<F: Files, O: Sink>(
     files: &mut F,
     out: &mut O,
 ) -> Result<(), Stop>
+    requires { IsInRange command.now }
     ensures done { OnOk result ((p : List ℕ)
         × FindsFor command.now (seen_file F.bytes_of F.faults files.old files.new) (Ok (whole p))
         × (O.held out.new ≡ appended (O.held out.old) p)) }
@@ -94,9 +99,20 @@ fn run<F: Files, O: Sink>(
     ensures out_later { O.faults out.old ≤ O.faults out.new }
 {
     match command {
-        Command::Once { source, input, .. } => {
-            run_once(alloc, source.as_slice(), input.as_slice(), files, out)
-        }
+        Command::Once {
+            source,
+            input,
+            fuel,
+            depth,
+        } => run_once(
+            alloc,
+            source.as_slice(),
+            input.as_slice(),
+            *fuel,
+            *depth,
+            files,
+            out,
+        ),
         Command::Print { source } => run_print(alloc, source.as_slice(), files, out),
     }
 }

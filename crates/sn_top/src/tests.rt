@@ -64,12 +64,21 @@ fn serve(alloc: Global, mut files: MemFiles, mut out: MemSink) -> Result<Served,
     Ok(Served { status, out, err })
 }
 
+const BOX: &[u8] =
+    b"box g ((a) -> (b)) { out 1(at(a, 0)); out 1(at(a, 1)) } net main ({a} -> {b}) connect g;";
+
 #[test]
-fn chains_answer_as_their_filters(rt: HostRuntime) -> Result<(), Fail> {
+fn boxes_and_filters_answer_in_series(rt: HostRuntime) -> Result<(), Fail> {
     let alloc = rt.alloc();
     let table: [(&[u8], &[u8], Status, &[u8], &[u8]); 5] = [
         (SOURCE, INPUT, Status::Ok, OUTPUT, b""),
-        (SOURCE, b"", Status::Ok, b"", b""),
+        (
+            BOX,
+            b"{a=[4]}",
+            Status::Fault,
+            b"{b=4}\n",
+            b"fault: Index at 86\n",
+        ),
         (
             CHAIN,
             b"{a=1, <t>=7}",
@@ -205,7 +214,7 @@ fn the_first_refusal_of_names_comes(rt: HostRuntime) -> Result<(), Fail> {
 #[test]
 fn other_networks_are_not_built(rt: HostRuntime) -> Result<(), Fail> {
     let table: [&[u8]; 2] = [
-        b"box f ((a) -> (b)) { out 1(a) } net main ({a} -> {b}) connect f;",
+        b"net main ({a} -> {a}) connect [|{a},{b}|];",
         b"net main ({a} -> {a}) connect [] || [];",
     ];
     for source in table {

@@ -1,10 +1,12 @@
 //! The words of the command line, after the program's name.
-ghost use Rattle.std.specs.Prelude.{◌≡◌, ◌≢◌, ◌++◌, ◌∷◌, [], codes, length, map, IfOk, MatchOption};
+ghost use Rattle.std.specs.Prelude.{◌≡◌, ◌≤◌, ◌++◌, ◌∷◌, codes, false, length, map, Some, None, IfOk, IfSome, OnOk, OnErr};
+ghost use Rattle.std.specs.Option.{option_copied};
 ghost use Rattle.std.specs.String.{string_bytes};
-ghost use Rattle.sn_top.specs.Words.{asked_of, command_of, positional_words, once_of, print_of, is_word, IsCut, is_option as is_an_option, usage_text, IsInRange, source_of, input_of};
+ghost use Rattle.sn_top.specs.Words.{asked_of, behind, command_of, first_given, is_option as is_an_option, is_word, made_of, nothing, number_of, option_name, option_value, read_on, set, setting_of, so_far, usage_text, verb_of, IsInRange, source_of, input_of};
 
 use sn_list::{Memory, Seq};
 use sn_record::Text;
+use sn_stack::append;
 use std::alloc::Global;
 
 /// How many steps a run may take where no word says it.
@@ -12,6 +14,8 @@ pub const DEFAULT_FUEL: u64 = 1_000_000;
 
 /// How deep a run may nest where no word says it.
 pub const DEFAULT_DEPTH: u32 = 1_000;
+
+const MOST_FUEL: u64 = 1_000_000_000;
 
 const USAGE: &[u8] =
     b"usage: snet run SOURCE INPUT [--workers N] [--fuel N] [--depth N] [--queue N] | once SOURCE INPUT [--fuel N] [--depth N] | check SOURCE | print SOURCE | sample SEED COUNT\n";
@@ -92,76 +96,192 @@ fn is_option(word: &String) -> bool
     word.len() > 1 && word.as_bytes()[0] == b'-'
 }
 
-/// The words before the first `--`, and those after it.
-fn cut_at_dashes(words: &[String]) -> (&[String], &[String])
-    ensures { IsCut (map string_bytes words.now) (map string_bytes result.0.now) (map string_bytes result.1.now) }
-{
-    match words.iter().position(is_dashes) {
-        Some(i) => (&words[..i], &words[i + 1..]),
-        None => (words, &words[words.len()..]),
-    }
+/// A command by its name alone.
+#[derive(Clone, Copy)]
+enum Verb {
+    Once,
+    Print,
 }
 
-/// The only two of the words that lie in two parts.
-fn only_two<'a>(front: &'a [String], back: &'a [String]) -> Option<(&'a String, &'a String)>
-    ensures { MatchOption result
-        (length (front.now ++ back.now) ≢ 2)
-        (λ p. front.now ++ back.now ≡ p.0.now ∷ p.1.now ∷ []) }
+/// An option of a command.
+#[derive(Clone, Copy)]
+enum Setting {
+    Fuel,
+}
+
+/// The command that a word names.
+fn find_verb(word: &str) -> Option<Verb>
+    ensures { result ≡ verb_of word.now }
 {
-    match (front, back) {
-        ([source, input], []) => Some((source, input)),
-        ([source], [input]) => Some((source, input)),
-        ([], [source, input]) => Some((source, input)),
+    match word {
+        "once" => Some(Verb::Once),
+        "print" => Some(Verb::Print),
         _ => None,
     }
 }
 
-/// The only one of the words that lie in two parts.
-fn only_one<'a>(front: &'a [String], back: &'a [String]) -> Option<&'a String>
-    ensures { MatchOption result
-        (length (front.now ++ back.now) ≢ 1)
-        (λ w. front.now ++ back.now ≡ w.now ∷ []) }
+/// The option of a command that has this name.
+fn find_setting(verb: Verb, name: &str) -> Option<Setting>
+    ensures { result ≡ setting_of verb name.now }
 {
-    match (front, back) {
-        ([word], []) => Some(word),
-        ([], [word]) => Some(word),
+    match (verb, name) {
+        (Verb::Once, "--fuel") => Some(Setting::Fuel),
         _ => None,
     }
 }
 
-/// The two positional words, where there are two, and no option among the words.
-fn two_positional(words: &[String]) -> Option<(&String, &String)>
-    ensures { MatchOption result
-        (asked_of once_of (map string_bytes words.now) ≡ None)
-        (λ p. positional_words (map string_bytes words.now) ≡ Some (string_bytes p.0.now ∷ string_bytes p.1.now ∷ [])) }
+/// The name in an option's word, and the value behind its first `=`, where there is one.
+fn cut_at_equals(word: &str) -> (&str, Option<&str>)
+    ensures name { result.0.now ≡ option_name word.now }
+    ensures value { option_copied result.1 ≡ option_value word.now }
 {
-    let (checked, free) = cut_at_dashes(words);
-    if checked.iter().any(is_option) {
-        return None;
+    match word.split_once('=') {
+        Some((name, value)) => (name, Some(value)),
+        None => (word, None),
     }
-    only_two(checked, free)
 }
 
-/// The only positional word, where there is one, and no option among the words.
-fn one_positional(words: &[String]) -> Option<&String>
-    ensures { MatchOption result
-        (asked_of print_of (map string_bytes words.now) ≡ None)
-        (λ w. positional_words (map string_bytes words.now) ≡ Some (string_bytes w.now ∷ [])) }
+/// The number that one to ten digits write. A plus, which `parse` takes, is refused.
+fn read_number(word: &str) -> Option<u64>
+    ensures { result ≡ number_of word.now }
 {
-    let (before, after) = cut_at_dashes(words);
-    if before.iter().any(is_option) {
+    if word.len() > 10 || word.starts_with('+') {
         return None;
     }
-    only_one(before, after)
+    word.parse().ok()
 }
 
-/// Reads the words after `once`.
-fn read_once(alloc: Global, words: &[String]) -> Result<Command, WordsFault>
-    ensures ok { IfOk result (λ command. asked_of once_of (map string_bytes words.now) ≡ Some command) }
-    ensures usage { result ≡ Err WordsFault.Usage → asked_of once_of (map string_bytes words.now) ≡ None }
-    ensures in_range { IfOk result IsInRange }
+/// A number from 1 to `most`, for an option that has none yet.
+fn read_first(before: Option<u64>, most: u64, word: &str) -> Option<u64>
+    ensures { result ≡ first_given before most word.now }
 {
-    let Some((source, input)) = two_positional(words) else {
+    if before.is_some() {
+        return None;
+    }
+    let n = read_number(word)?;
+    if n < 1 || n > most {
+        return None;
+    }
+    Some(n)
+}
+
+/// Appends references to all of the words.
+fn refer_to<'a>(names: &mut Seq<&'a String>, words: &'a [String]) -> Result<(), Memory>
+    ensures { OnOk result (map (λ word. string_bytes word.now) names.new ≡ map (λ word. string_bytes word.now) names.old ++ map string_bytes words.now) }
+{
+    for word in words {
+        append(names, word)?;
+    }
+    Ok(())
+}
+
+/// What was read so far of the words after a command's name.
+#[derive(Drop)]
+struct Reading<'a> {
+    /// The positional words.
+    names: Seq<&'a String>,
+    fuel: Option<u64>,
+}
+
+impl<'a> Reading<'a> {
+    fn new(alloc: Global) -> Reading<'a>
+        ensures { so_far result ≡ nothing }
+    {
+        Reading {
+            names: Seq::new(alloc),
+            fuel: None,
+        }
+    }
+
+    /// Gives an option its value.
+    fn set(&mut self, setting: Setting, value: &str) -> Result<(), WordsFault>
+        ensures ok { OnOk result (set (so_far self.old) setting value.now ≡ Some (so_far self.new)) }
+        ensures err { OnErr result (set (so_far self.old) setting value.now ≡ None) }
+    {
+        match setting {
+            Setting::Fuel => {
+                let Some(fuel) = read_first(self.fuel, MOST_FUEL, value) else {
+                    return Err(WordsFault::Usage);
+                };
+                self.fuel = Some(fuel);
+            }
+        }
+        Ok(())
+    }
+
+    /// Reads the word of an option, and its value, and answers the words behind them.
+    fn read_option(
+        &mut self,
+        verb: Verb,
+        word: &str,
+        more: &'a [String],
+    ) -> Result<&'a [String], WordsFault>
+        ensures ok { IfOk result (λ rest. behind (λ due given. read_on verb due given (map string_bytes more.now)) (so_far self.old) (setting_of verb (option_name word.now)) (option_value word.now)
+            ≡ read_on verb None (so_far self.new) (map string_bytes rest.now)) }
+        ensures usage { result ≡ Err WordsFault.Usage
+            → behind (λ due given. read_on verb due given (map string_bytes more.now)) (so_far self.old) (setting_of verb (option_name word.now)) (option_value word.now) ≡ None }
+        ensures shorter { IfOk result (λ rest. length rest.now ≤ length more.now) }
+    {
+        let (name, value) = cut_at_equals(word);
+        let Some(setting) = find_setting(verb, name) else {
+            return Err(WordsFault::Usage);
+        };
+        if let Some(value) = value {
+            self.set(setting, value)?;
+            return Ok(more);
+        }
+        let [value, rest @ ..] = more else {
+            return Err(WordsFault::Usage);
+        };
+        self.set(setting, value.as_str())?;
+        Ok(rest)
+    }
+
+    /// Reads the first of the words, which is not `--`, and answers those behind it and its value.
+    fn read_word(
+        &mut self,
+        verb: Verb,
+        word: &'a String,
+        more: &'a [String],
+    ) -> Result<&'a [String], WordsFault>
+        requires { is_word (codes "--") (string_bytes word.now) ≡ false }
+        ensures ok { IfOk result (λ rest. read_on verb None (so_far self.old) (string_bytes word.now ∷ map string_bytes more.now)
+            ≡ read_on verb None (so_far self.new) (map string_bytes rest.now)) }
+        ensures usage { result ≡ Err WordsFault.Usage
+            → read_on verb None (so_far self.old) (string_bytes word.now ∷ map string_bytes more.now) ≡ None }
+        ensures shorter { IfOk result (λ rest. length rest.now ≤ length more.now) }
+    {
+        if is_option(word) {
+            return self.read_option(verb, word.as_str(), more);
+        }
+        append(&mut self.names, word)?;
+        Ok(more)
+    }
+}
+
+/// Reads the words after a command's name.
+fn read_all<'a>(alloc: Global, verb: Verb, words: &'a [String]) -> Result<Reading<'a>, WordsFault>
+    ensures ok { IfOk result (λ reading. read_on verb None nothing (map string_bytes words.now) ≡ Some (so_far reading)) }
+    ensures usage { result ≡ Err WordsFault.Usage → read_on verb None nothing (map string_bytes words.now) ≡ None }
+{
+    let mut reading = Reading::new(alloc);
+    let mut rest = words;
+    while let [word, more @ ..] = rest {
+        if is_dashes(word) {
+            refer_to(&mut reading.names, more)?;
+            return Ok(reading);
+        }
+        rest = reading.read_word(verb, word, more)?;
+    }
+    Ok(reading)
+}
+
+/// The command `once` of what was read.
+fn make_once(alloc: Global, reading: &Reading) -> Result<Command, WordsFault>
+    ensures ok { IfOk result (λ command. made_of Verb.Once (so_far reading.now) ≡ Some command) }
+    ensures usage { result ≡ Err WordsFault.Usage → made_of Verb.Once (so_far reading.now) ≡ None }
+{
+    let [source, input] = reading.names.as_slice() else {
         return Err(WordsFault::Usage);
     };
     if source.is_empty() || input.is_empty() {
@@ -172,18 +292,17 @@ fn read_once(alloc: Global, words: &[String]) -> Result<Command, WordsFault>
     Ok(Command::Once {
         source,
         input,
-        fuel: DEFAULT_FUEL,
+        fuel: reading.fuel.unwrap_or(DEFAULT_FUEL),
         depth: DEFAULT_DEPTH,
     })
 }
 
-/// Reads the words after `print`.
-fn read_print(alloc: Global, words: &[String]) -> Result<Command, WordsFault>
-    ensures ok { IfOk result (λ command. asked_of print_of (map string_bytes words.now) ≡ Some command) }
-    ensures usage { result ≡ Err WordsFault.Usage → asked_of print_of (map string_bytes words.now) ≡ None }
-    ensures in_range { IfOk result IsInRange }
+/// The command `print` of what was read.
+fn make_print(alloc: Global, reading: &Reading) -> Result<Command, WordsFault>
+    ensures ok { IfOk result (λ command. made_of Verb.Print (so_far reading.now) ≡ Some command) }
+    ensures usage { result ≡ Err WordsFault.Usage → made_of Verb.Print (so_far reading.now) ≡ None }
 {
-    let Some(source) = one_positional(words) else {
+    let [source] = reading.names.as_slice() else {
         return Err(WordsFault::Usage);
     };
     if source.is_empty() {
@@ -203,16 +322,17 @@ pub fn read_words(alloc: Global, words: &[String]) -> Result<Command, WordsFault
     ensures usage { result ≡ Err WordsFault.Usage → command_of (map string_bytes words.now) ≡ None }
     ensures in_range { IfOk result IsInRange }
 {
-    let [command, rest @ ..] = words else {
+    let [first, rest @ ..] = words else {
         return Err(WordsFault::Usage);
     };
-    if command.as_str() == "once" {
-        return read_once(alloc, rest);
+    let Some(verb) = find_verb(first.as_str()) else {
+        return Err(WordsFault::Usage);
+    };
+    let reading = read_all(alloc, verb, rest)?;
+    match verb {
+        Verb::Once => make_once(alloc, &reading),
+        Verb::Print => make_print(alloc, &reading),
     }
-    if command.as_str() == "print" {
-        return read_print(alloc, rest);
-    }
-    Err(WordsFault::Usage)
 }
 
 #[cfg(test)]
@@ -231,18 +351,19 @@ mod tests {
     #[test]
     fn gives_commands(rt: HostRuntime) -> Result<(), Fail> {
         let alloc = rt.alloc();
-        let table: [(&[&str], &str); 3] = [
-            (&["once", "s", "i"], "s"),
-            (&["once", "--", "-s", "i"], "-s"),
-            (&["once", "-", "i"], "-"),
+        let table: [(&[&str], &str, u64); 4] = [
+            (&["once", "s", "i"], "s", 1_000_000),
+            (&["once", "--", "-s", "i"], "-s", 1_000_000),
+            (&["once", "-", "--fuel", "5", "i"], "-", 5),
+            (&["once", "--fuel=0000000005", "s", "--", "i"], "s", 5),
         ];
-        for (words, name) in table {
+        for (words, name, fuel) in table {
             let source = Seq::from_slice(alloc, name.as_bytes())?;
             let input = Seq::from_slice(alloc, b"i")?;
             let wanted = Command::Once {
                 source,
                 input,
-                fuel: 1_000_000,
+                fuel,
                 depth: 1_000,
             };
             assert_eq!(rt; read(alloc, words)?, Ok(wanted));
@@ -252,13 +373,19 @@ mod tests {
 
     #[test]
     fn refuses_words(rt: HostRuntime) -> Result<(), Fail> {
-        let table: [&[&str]; 6] = [
+        let table: [&[&str]; 12] = [
             &[],
             &["once", "s"],
             &["once", "s", "i", "t"],
             &["once", "--x", "s", "i"],
             &["once", "s", ""],
             &["print", "s", "t"],
+            &["print", "s", "--fuel", "5"],
+            &["once", "s", "i", "--fuel"],
+            &["once", "--fuel", "0", "s", "i"],
+            &["once", "--fuel=00000000005", "s", "i"],
+            &["once", "--fuel=+5", "s", "i"],
+            &["once", "--fuel=5", "--fuel", "5", "s", "i"],
         ];
         for words in table {
             assert_eq!(rt; read(rt.alloc(), words)?, Err(WordsFault::Usage));

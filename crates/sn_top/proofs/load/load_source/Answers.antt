@@ -1,9 +1,8 @@
-use Rattle.std.proofs.Common.{sym, ◌∙◌}
 use Rattle.std.proofs.lemmas.Result.{err_from_is_err_and, IfErr-weaker, IfOk-weaker}
-use Rattle.sn_top.specs.Load.{IsLoaded, IsMainChain, WhyNoMainChain}
+use Rattle.sn_top.specs.Load.{IsLoaded, IsMain, WhyNoMain}
 use Rattle.sn_top.specs.Scope.{WhyUnloaded}
 use Rattle.sn_top.specs.Source.{IsSource}
-use Rattle.sn_top.proofs.Loading.{boxed, loaded, not_lexed, not_parsed, not_resolved, other_main}
+use Rattle.sn_top.proofs.Loading.{loaded, not_lexed, not_parsed, not_resolved, other_main}
 use Rattle.sn_top.proofs.load.load_source.Goals as goal
 
 pub returns-in_err-tokens-clause-ended : goal.returns-in_err-tokens-clause-ended
@@ -16,25 +15,20 @@ returns-in_err-tree-clause-ended c =
     let p = err_from_is_err_and c.from_residual-in_err-tree.result c.from_residual-in_err-tree.ensures.1 in
     rw (p.1, p.2) (not_parsed c.args.bytes.now c.in_ok-tokens.tokens c.in_ok-tokens.ensures.answer c.in_err-tree.field-0.0 (rw c.as_slice.ensures at c.in_err-tree.ensures.answer))
 
-pub returns-then-has_box-clause-ended : goal.returns-then-has_box-clause-ended
-returns-then-has_box-clause-ended c =
-    let read : IsSource c.args.bytes.now c.in_ok-tree.tree = record { tokens = c.in_ok-tokens.tokens; lexed = c.in_ok-tokens.ensures.answer; spelled = rw c.as_slice.ensures at c.in_ok-tree.ensures.answer } in
-    boxed c.args.bytes.now c.in_ok-tree.tree read (sym c.has_box.ensures ∙ c.if-has_box.true)
-
 pub returns-in_err-resolved-clause-ended : goal.returns-in_err-resolved-clause-ended
 returns-in_err-resolved-clause-ended c =
     let p = err_from_is_err_and c.from_residual-in_err-resolved.result c.from_residual-in_err-resolved.ensures.1 in
     let read : IsSource c.args.bytes.now c.in_ok-tree.tree = record { tokens = c.in_ok-tokens.tokens; lexed = c.in_ok-tokens.ensures.answer; spelled = rw c.as_slice.ensures at c.in_ok-tree.ensures.answer } in
-    rw (p.1, p.2) (not_resolved c.args.bytes.now c.in_ok-tree.tree read (sym c.has_box.ensures ∙ c.if-has_box.false) c.in_err-resolved.field-0.0 c.in_err-resolved.ensures.refused)
+    rw (p.1, p.2) (not_resolved c.args.bytes.now c.in_ok-tree.tree read c.in_err-resolved.field-0.0 c.in_err-resolved.ensures.refused)
 
 pub returns-clause-loaded : goal.returns-clause-loaded
 returns-clause-loaded c =
     let read : IsSource c.args.bytes.now c.in_ok-tree.tree = record { tokens = c.in_ok-tokens.tokens; lexed = c.in_ok-tokens.ensures.answer; spelled = rw c.as_slice.ensures at c.in_ok-tree.ensures.answer } in
-    IfOk-weaker c.main_chain.result (IsMainChain c.in_ok-resolved.resolved) (IsLoaded c.args.bytes.now)
-    (λ program is. loaded c.args.bytes.now c.in_ok-tree.tree read (sym c.has_box.ensures ∙ c.if-has_box.false) c.in_ok-resolved.resolved c.in_ok-resolved.ensures.ok program is) c.main_chain.ensures.ok
+    IfOk-weaker c.main_of.result (IsMain c.in_ok-resolved.resolved) (IsLoaded c.args.bytes.now)
+    (λ program is. loaded c.args.bytes.now c.in_ok-tree.tree read c.in_ok-resolved.resolved c.in_ok-resolved.ensures.ok program is) c.main_of.ensures.ok
 
 pub returns-clause-ended : goal.returns-clause-ended
 returns-clause-ended c =
     let read : IsSource c.args.bytes.now c.in_ok-tree.tree = record { tokens = c.in_ok-tokens.tokens; lexed = c.in_ok-tokens.ensures.answer; spelled = rw c.as_slice.ensures at c.in_ok-tree.ensures.answer } in
-    IfErr-weaker c.main_chain.result (WhyNoMainChain c.in_ok-resolved.resolved) (WhyUnloaded c.args.bytes.now)
-    (λ why is. other_main c.args.bytes.now c.in_ok-tree.tree read (sym c.has_box.ensures ∙ c.if-has_box.false) c.in_ok-resolved.resolved c.in_ok-resolved.ensures.ok why is) c.main_chain.ensures.refused
+    IfErr-weaker c.main_of.result (WhyNoMain c.in_ok-resolved.resolved) (WhyUnloaded c.args.bytes.now)
+    (λ why is. other_main c.args.bytes.now c.in_ok-tree.tree read c.in_ok-resolved.resolved c.in_ok-resolved.ensures.ok why is) c.main_of.ensures.refused

@@ -6,7 +6,7 @@ use Rattle.sn_top.specs.declared.print.PrintFault.TheVariants.{Write}
 use Rattle.sn_net.specs.Item.{modelled}
 use Rattle.sn_output.specs.Printed.{printed}
 use Rattle.sn_top.specs.Seen.{File, Sink, seen_file, seen_sink, SinkFailed}
-use Rattle.sn_top.specs.Load.{IsLoaded, IsAnswer}
+use Rattle.sn_top.specs.Load.{limits_of, IsLoaded, IsAnswer}
 use Rattle.sn_top.proofs.Serving.{source_unread, not_loaded, input_unread, no_answer, finds_ending, not_printed, HasBytes}
 use Rattle.sn_top.proofs.serve.run_once.Goals as goal
 
@@ -16,7 +16,7 @@ returns-in_err-source-clause-stopped g c =
     let source : File = seen_file g.F.Files.bytes_of g.F.Files.faults c.args.files.now c.read_file.new.files c.args.source_name.now in
     let input : File = seen_file g.F.Files.bytes_of g.F.Files.faults c.args.files.now c.read_file.new.files c.args.input_name.now in
     let out : Sink = seen_sink g.O.Sink.held g.O.Sink.faults c.args.out.now c.args.out.now in
-    rw (p.1, p.2) (source_unread source input out refl c.in_err-source.field-0.0 c.in_err-source.ensures.unread)
+    rw (p.1, p.2) (source_unread (limits_of c.args.fuel c.args.depth) source input out refl c.in_err-source.field-0.0 c.in_err-source.ensures.unread)
 
 pub returns-in_err-program-clause-stopped : goal.returns-in_err-program-clause-stopped
 returns-in_err-program-clause-stopped g c =
@@ -25,7 +25,7 @@ returns-in_err-program-clause-stopped g c =
     let input : File = seen_file g.F.Files.bytes_of g.F.Files.faults c.args.files.now c.read_file.new.files c.args.input_name.now in
     let out : Sink = seen_sink g.O.Sink.held g.O.Sink.faults c.args.out.now c.args.out.now in
     let read : HasBytes source _ c.in_ok-source.source = record { told = c.in_ok-source.ensures.whole; within = c.in_ok-source.ensures.within } in
-    rw (p.1, p.2) (not_loaded source input out refl c.in_ok-source.source read c.in_err-program.field-0.0 (rw c.as_slice.ensures at c.in_err-program.ensures.ended))
+    rw (p.1, p.2) (not_loaded (limits_of c.args.fuel c.args.depth) source input out refl c.in_ok-source.source read c.in_err-program.field-0.0 (rw c.as_slice.ensures at c.in_err-program.ensures.ended))
 
 pub returns-in_err-input-clause-stopped : goal.returns-in_err-input-clause-stopped
 returns-in_err-input-clause-stopped g c =
@@ -36,7 +36,7 @@ returns-in_err-input-clause-stopped g c =
     let read : HasBytes source _ c.in_ok-source.source = record { told = c.in_ok-source.ensures.whole; within = c.in_ok-source.ensures.within } in
     let program : IsLoaded c.in_ok-source.source c.in_ok-program.program = rw c.as_slice.ensures at c.in_ok-program.ensures.loaded in
     let between : File = seen_file g.F.Files.bytes_of g.F.Files.faults c.read_file.new.files c.read_file-2.new.files c.args.input_name.now in
-    rw (p.1, p.2) (input_unread source input out refl c.in_ok-source.source read c.in_ok-program.program program between
+    rw (p.1, p.2) (input_unread (limits_of c.args.fuel c.args.depth) source input out refl c.in_ok-source.source read c.in_ok-program.program program between
     (c.read_file.ensures.same c.args.input_name.now) (c.read_file.ensures.later c.args.input_name.now) refl c.in_err-input.field-0.0 c.in_err-input.ensures.unread)
 
 pub returns-in_err-answered-clause-stopped : goal.returns-in_err-answered-clause-stopped
@@ -49,7 +49,7 @@ returns-in_err-answered-clause-stopped g c =
     let program : IsLoaded c.in_ok-source.source c.in_ok-program.program = rw c.as_slice.ensures at c.in_ok-program.ensures.loaded in
     let has : HasBytes input _ c.in_ok-input.input = record { told = subst (λ t. IfSome t (λ x. c.in_ok-input.input ≡ x)) (c.read_file.ensures.same c.args.input_name.now) c.in_ok-input.ensures.whole; within = c.in_ok-input.ensures.within } in
     let why = rw c.as_slice-2.ensures at c.in_err-answered.ensures.ended in
-    rw (p.1, p.2) (no_answer source input out refl c.in_ok-source.source read c.in_ok-program.program program c.in_ok-input.input has c.in_err-answered.field-0.0 why)
+    rw (p.1, p.2) (no_answer (limits_of c.args.fuel c.args.depth) source input out refl c.in_ok-source.source read c.in_ok-program.program program c.in_ok-input.input has c.in_err-answered.field-0.0 why)
 
 pub returns-in_err-print_items-clause-stopped : goal.returns-in_err-print_items-clause-stopped
 returns-in_err-print_items-clause-stopped g c =
@@ -60,10 +60,10 @@ returns-in_err-print_items-clause-stopped g c =
     let read : HasBytes source _ c.in_ok-source.source = record { told = c.in_ok-source.ensures.whole; within = c.in_ok-source.ensures.within } in
     let program : IsLoaded c.in_ok-source.source c.in_ok-program.program = rw c.as_slice.ensures at c.in_ok-program.ensures.loaded in
     let has : HasBytes input _ c.in_ok-input.input = record { told = subst (λ t. IfSome t (λ x. c.in_ok-input.input ≡ x)) (c.read_file.ensures.same c.args.input_name.now) c.in_ok-input.ensures.whole; within = c.in_ok-input.ensures.within } in
-    let answer : IsAnswer c.in_ok-program.program c.in_ok-input.input c.in_ok-answered.answered = rw c.as_slice-2.ensures at c.in_ok-answered.ensures.answered in
+    let answer : IsAnswer (limits_of c.args.fuel c.args.depth) c.in_ok-program.program c.in_ok-input.input c.in_ok-answered.answered = rw c.as_slice-2.ensures at c.in_ok-answered.ensures.answered in
     let part : AppendsPrefix (g.O.Sink.held c.args.out.now) (g.O.Sink.held c.print_items.new.out) (printed c.in_ok-answered.answered.names (map modelled c.in_ok-answered.answered.items)) = rw c.as_slice-3.ensures at c.in_err-print_items.ensures.part in
     let failed : c.in_err-print_items.field-0.0 ≡ Write → SinkFailed out = λ is. c.print_items.ensures.cause (c.in_err-print_items.was ∙ ap (λ e. Err e) is) in
-    rw (p.1, p.2) (not_printed source input c.in_ok-source.source read c.in_ok-program.program program c.in_ok-input.input has c.in_ok-answered.answered answer out c.in_err-print_items.field-0.0 part failed)
+    rw (p.1, p.2) (not_printed (limits_of c.args.fuel c.args.depth) source input c.in_ok-source.source read c.in_ok-program.program program c.in_ok-input.input has c.in_ok-answered.answered answer out c.in_err-print_items.field-0.0 part failed)
 
 pub returns-in-None-clause-done : goal.returns-in-None-clause-done
 returns-in-None-clause-done g c =
@@ -72,10 +72,10 @@ returns-in-None-clause-done g c =
     let read : HasBytes source _ c.in_ok-source.source = record { told = c.in_ok-source.ensures.whole; within = c.in_ok-source.ensures.within } in
     let program : IsLoaded c.in_ok-source.source c.in_ok-program.program = rw c.as_slice.ensures at c.in_ok-program.ensures.loaded in
     let has : HasBytes input _ c.in_ok-input.input = record { told = subst (λ t. IfSome t (λ x. c.in_ok-input.input ≡ x)) (c.read_file.ensures.same c.args.input_name.now) c.in_ok-input.ensures.whole; within = c.in_ok-input.ensures.within } in
-    let answer : IsAnswer c.in_ok-program.program c.in_ok-input.input c.in_ok-answered.answered = rw c.as_slice-2.ensures at c.in_ok-answered.ensures.answered in
+    let answer : IsAnswer (limits_of c.args.fuel c.args.depth) c.in_ok-program.program c.in_ok-input.input c.in_ok-answered.answered = rw c.as_slice-2.ensures at c.in_ok-answered.ensures.answered in
     let whole = rw c.as_slice-3.ensures at c.in_ok-print_items.ensures.whole in
     let end = rw c.as_slice-3.ensures at c.in_ok-print_items.ensures.end in
-    (printed c.in_ok-answered.answered.names (map modelled c.in_ok-answered.answered.items), finds_ending source input c.in_ok-source.source read c.in_ok-program.program program c.in_ok-input.input has c.in_ok-answered.answered answer None (sym c.in-None.is ∙ end), whole)
+    (printed c.in_ok-answered.answered.names (map modelled c.in_ok-answered.answered.items), finds_ending (limits_of c.args.fuel c.args.depth) source input c.in_ok-source.source read c.in_ok-program.program program c.in_ok-input.input has c.in_ok-answered.answered answer None (sym c.in-None.is ∙ end), whole)
 
 pub returns-clause-stopped : goal.returns-clause-stopped
 returns-clause-stopped g c =
@@ -84,7 +84,10 @@ returns-clause-stopped g c =
     let read : HasBytes source _ c.in_ok-source.source = record { told = c.in_ok-source.ensures.whole; within = c.in_ok-source.ensures.within } in
     let program : IsLoaded c.in_ok-source.source c.in_ok-program.program = rw c.as_slice.ensures at c.in_ok-program.ensures.loaded in
     let has : HasBytes input _ c.in_ok-input.input = record { told = subst (λ t. IfSome t (λ x. c.in_ok-input.input ≡ x)) (c.read_file.ensures.same c.args.input_name.now) c.in_ok-input.ensures.whole; within = c.in_ok-input.ensures.within } in
-    let answer : IsAnswer c.in_ok-program.program c.in_ok-input.input c.in_ok-answered.answered = rw c.as_slice-2.ensures at c.in_ok-answered.ensures.answered in
+    let answer : IsAnswer (limits_of c.args.fuel c.args.depth) c.in_ok-program.program c.in_ok-input.input c.in_ok-answered.answered = rw c.as_slice-2.ensures at c.in_ok-answered.ensures.answered in
     let whole = rw c.as_slice-3.ensures at c.in_ok-print_items.ensures.whole in
     let end = rw c.as_slice-3.ensures at c.in_ok-print_items.ensures.end in
-    (printed c.in_ok-answered.answered.names (map modelled c.in_ok-answered.answered.items), finds_ending source input c.in_ok-source.source read c.in_ok-program.program program c.in_ok-input.input has c.in_ok-answered.answered answer (Some c.in-Some.fault) (sym c.in-Some.is ∙ end), whole)
+    (printed c.in_ok-answered.answered.names (map modelled c.in_ok-answered.answered.items), finds_ending (limits_of c.args.fuel c.args.depth) source input c.in_ok-source.source read c.in_ok-program.program program c.in_ok-input.input has c.in_ok-answered.answered answer (Some c.in-Some.fault) (sym c.in-Some.is ∙ end), whole)
+
+pub answer_input-requires-clause-runnable : goal.answer_input-requires-clause-runnable
+answer_input-requires-clause-runnable g c = c.in_ok-program.ensures.loaded.runnable
