@@ -9,10 +9,10 @@ use sn_record::Text;
 use sn_stack::append;
 use std::alloc::Global;
 
-/// How many steps a run may take where no word says it.
+/// Units of fuel for each call of a box, where no word says it.
 pub const DEFAULT_FUEL: u64 = 1_000_000;
 
-/// How deep a run may nest where no word says it.
+/// How many replicas a star may have, where no word says it.
 pub const DEFAULT_DEPTH: u32 = 1_000;
 
 const MOST_FUEL: u64 = 1_000_000_000;
