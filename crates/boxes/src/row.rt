@@ -1,7 +1,7 @@
 use crate::refusal::Refusal;
 
 /// A call that is asked for.
-#[derive(Debug, Drop)]
+#[derive(Drop)]
 pub struct Row<'a> {
     pub fuel: u64,
     /// A line of a record file.

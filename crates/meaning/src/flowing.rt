@@ -5,7 +5,7 @@ use sn_stack::append;
 use std::alloc::Global;
 
 /// An item of a stream.
-#[derive(Debug, Drop)]
+#[derive(Drop)]
 pub enum Flowing {
     Rec(Record),
     Fault(Fault),

@@ -7,7 +7,7 @@ use sn_stack::append;
 use std::alloc::Global;
 
 /// An item beside its key.
-#[derive(Debug, Drop)]
+#[derive(Drop)]
 pub struct Keyed {
     pub key: Key,
     pub item: Flowing,
@@ -17,7 +17,7 @@ pub struct Keyed {
 pub type KeyedStream = Seq<Seq<Keyed>>;
 
 /// What the child of a key answers, of which the first segments were taken.
-#[derive(Debug, Drop)]
+#[derive(Drop)]
 pub struct Child {
     key: Key,
     answer: Stream,

@@ -19,7 +19,7 @@ use std::{env, fs, io};
 use verdict::Verdict;
 
 /// How many rows there were, and how many of them agreed.
-#[derive(Clone, Copy, Debug)]
+#[derive(Clone, Copy)]
 struct Tally {
     rows: u64,
     agreeing: u64,

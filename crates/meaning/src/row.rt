@@ -7,7 +7,7 @@ const DEFAULT_FUEL: u64 = 1_000_000;
 const DEFAULT_DEPTH: u32 = 1_000;
 
 /// A run that is asked for.
-#[derive(Debug, Drop)]
+#[derive(Drop)]
 pub struct Row {
     pub fuel: u64,
     pub depth: u32,

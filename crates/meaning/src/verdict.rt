@@ -7,7 +7,7 @@ use sn_record::Text;
 use std::alloc::Global;
 
 /// What is said of a row.
-#[derive(Debug, Drop)]
+#[derive(Drop)]
 pub enum Verdict {
     Agrees,
     /// The row says something else than this.

@@ -4,14 +4,14 @@ use sn_list::{Boxed, Seq};
 
 /// An expression in a box. Its place is that of its operator, or else that of its first token.
 #[cycle(box_expr)]
-#[derive(PartialEq, Eq, Debug, Drop)]
+#[derive(Drop)]
 pub struct BExpr {
     pub at: u32,
     pub form: BForm,
 }
 
 #[cycle(box_expr)]
-#[derive(PartialEq, Eq, Debug, Drop)]
+#[derive(Drop)]
 pub enum BForm {
     Number(i64),
     TextLit(Text),

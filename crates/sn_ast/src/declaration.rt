@@ -4,13 +4,13 @@ use crate::network::NetExpr;
 use sn_list::Seq;
 
 /// A source.
-#[derive(PartialEq, Eq, Debug, Drop)]
+#[derive(Drop)]
 pub struct Program {
     pub decls: Seq<Decl>,
 }
 
 #[cycle(declaration)]
-#[derive(PartialEq, Eq, Debug, Drop)]
+#[derive(Drop)]
 pub enum Decl {
     BoxDecl(BoxDecl),
     NetDecl(NetDecl),
@@ -18,7 +18,7 @@ pub enum Decl {
     SigDecl { name: Ident, sig: Sig },
 }
 
-#[derive(PartialEq, Eq, Debug, Drop)]
+#[derive(Drop)]
 pub struct BoxDecl {
     pub name: Ident,
     pub input: Tuple,
@@ -27,7 +27,7 @@ pub struct BoxDecl {
     pub body: BExpr,
 }
 
-#[derive(PartialEq, Eq, Debug, Drop)]
+#[derive(Drop)]
 pub struct FunDecl {
     pub name: Ident,
     pub params: Seq<Ident>,
@@ -35,7 +35,7 @@ pub struct FunDecl {
 }
 
 #[cycle(declaration)]
-#[derive(PartialEq, Eq, Debug, Drop)]
+#[derive(Drop)]
 pub struct NetDecl {
     pub name: Ident,
     pub sig: Option<Sig>,

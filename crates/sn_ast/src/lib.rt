@@ -20,6 +20,3 @@ pub use network::{ItemAt, ItemSource, NetExpr, NetForm, TemplateAt};
 pub use sn_list::{Boxed, Seq};
 pub use tag_expr::{Operator, TExpr, TForm};
 pub use terminal::{Bracket, Infix, Keyword, Link, Sign, Symbol, Terminal};
-
-#[cfg(test)]
-mod tests;

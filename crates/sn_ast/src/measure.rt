@@ -11,7 +11,7 @@ const MOST_OPEN: u32 = 128;
 
 /// A part of a source with what the limits are on: its height, and how many counted parentheses are open at once
 /// within it at most.
-#[derive(PartialEq, Eq, Debug, Drop)]
+#[derive(Drop)]
 pub struct Measured<T> {
     pub value: T,
     pub height: u32,

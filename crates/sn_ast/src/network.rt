@@ -5,14 +5,14 @@ use sn_list::{Boxed, Seq};
 /// A network. Its place is that of the name where it is one, of its opening bracket, of its first `..` or choice
 /// operator, or of the operator of a star or split.
 #[cycle(network)]
-#[derive(PartialEq, Eq, Debug, Drop)]
+#[derive(Drop)]
 pub struct NetExpr {
     pub at: u32,
     pub form: NetForm,
 }
 
 #[cycle(network)]
-#[derive(PartialEq, Eq, Debug, Drop)]
+#[derive(Drop)]
 pub enum NetForm {
     Name(Ident),
     Identity,
@@ -44,20 +44,20 @@ pub enum NetForm {
 }
 
 /// What a filter emits, and the place of its `{`.
-#[derive(PartialEq, Eq, Debug, Drop)]
+#[derive(Drop)]
 pub struct TemplateAt {
     pub items: Seq<ItemAt>,
     pub at: u32,
 }
 
 /// A label of a template, and where its value comes from.
-#[derive(PartialEq, Eq, Debug, Drop)]
+#[derive(Drop)]
 pub struct ItemAt {
     pub target: LabelAt,
     pub source: ItemSource,
 }
 
-#[derive(PartialEq, Eq, Debug, Drop)]
+#[derive(Drop)]
 pub enum ItemSource {
     /// The label of the same name.
     Same,

@@ -2,7 +2,7 @@ use crate::label::Ident;
 use sn_list::Boxed;
 
 /// The binary operators that compute and compare numbers.
-#[derive(Clone, Copy, PartialEq, Eq, Debug)]
+#[derive(Clone, Copy, PartialEq, Eq)]
 pub enum Operator {
     Add,
     Sub,
@@ -19,14 +19,14 @@ pub enum Operator {
 
 /// An expression over tags. Its place is that of its operator, of `?:` that of the `?`, or else that of its first token.
 #[cycle(tag_expr)]
-#[derive(PartialEq, Eq, Debug, Drop)]
+#[derive(Drop)]
 pub struct TExpr {
     pub at: u32,
     pub form: TForm,
 }
 
 #[cycle(tag_expr)]
-#[derive(PartialEq, Eq, Debug, Drop)]
+#[derive(Drop)]
 pub enum TForm {
     Number(i64),
     Tag(Ident),

@@ -5,7 +5,7 @@ ghost use Rattle.sn_ast.specs.declared.terminal.Terminal.TheVariants as some_ter
 use crate::label::{Ident, LabelAt, Text};
 use crate::tag_expr::Operator;
 
-#[derive(Clone, Copy, PartialEq, Eq, Debug)]
+#[derive(Clone, Copy, PartialEq, Eq)]
 pub enum Keyword {
     Box,
     Net,
@@ -21,7 +21,7 @@ pub enum Keyword {
     Fun,
 }
 
-#[derive(Clone, Copy, PartialEq, Eq, Debug)]
+#[derive(Clone, Copy, PartialEq, Eq)]
 pub enum Symbol {
     OpenParen,
     CloseParen,
@@ -58,7 +58,7 @@ pub enum Symbol {
 }
 
 /// The brackets that labels and arguments stand in.
-#[derive(Clone, Copy, PartialEq, Eq, Debug)]
+#[derive(Clone, Copy, PartialEq, Eq)]
 pub enum Bracket {
     Paren,
     Brace,
@@ -66,7 +66,7 @@ pub enum Bracket {
 }
 
 /// What stands between two operands, from the tightest to the loosest.
-#[derive(Clone, Copy, PartialEq, Eq, Debug)]
+#[derive(Clone, Copy, PartialEq, Eq)]
 pub enum Infix {
     Product(Operator),
     Sum(Operator),
@@ -76,7 +76,7 @@ pub enum Infix {
 }
 
 /// What stands before an operand.
-#[derive(Clone, Copy, PartialEq, Eq, Debug)]
+#[derive(Clone, Copy, PartialEq, Eq)]
 pub enum Sign {
     Minus,
     Not,
@@ -84,7 +84,7 @@ pub enum Sign {
 
 /// What stands between the branches of a choice, or after a part of a network that is repeated. `det` tells the
 /// deterministic form, which is written with the doubled symbol.
-#[derive(Clone, Copy, PartialEq, Eq, Debug)]
+#[derive(Clone, Copy, PartialEq, Eq)]
 pub enum Link {
     Branch { det: bool },
     Star { det: bool },
@@ -155,7 +155,7 @@ impl Symbol {
 }
 
 /// A token as the grammar sees it: with what it says, and its place.
-#[derive(PartialEq, Eq, Debug, Drop)]
+#[derive(Drop)]
 pub enum Terminal {
     Name(Ident),
     Tag(Ident),

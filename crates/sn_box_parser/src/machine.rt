@@ -13,7 +13,7 @@ use sn_type_parser::LabelParser;
 use std::alloc::Global;
 
 /// Why a box is not read on.
-#[derive(Debug, Drop)]
+#[derive(Drop)]
 pub enum BoxDeclStop {
     Memory,
     /// No box goes on with the token.

@@ -8,6 +8,3 @@ mod scope;
 mod variables;
 
 pub use boxes::box_at;
-
-#[cfg(test)]
-mod tests;

@@ -11,14 +11,14 @@ use std::alloc::Global;
 use std::marker::Model;
 
 /// A variable: a field or a tag, and its name. A field and a tag of one name are two variables.
-#[derive(Debug, Drop)]
+#[derive(Drop)]
 pub(crate) struct Variable {
     pub(crate) tag: bool,
     pub(crate) name: Seq<u8>,
 }
 
 /// The variables that stand at a place, seen as the list of them, outermost first.
-#[derive(Debug, Drop)]
+#[derive(Drop)]
 pub(crate) struct Variables {
     standing: Vec<Variable>,
 }

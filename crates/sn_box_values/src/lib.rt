@@ -19,6 +19,3 @@ pub use emission::{inputs, record_of};
 pub use functions::built_in;
 pub use operators::{combined, condition, list, negative, opposite, text, truth_of};
 pub use outcome::Stop;
-
-#[cfg(test)]
-mod tests;

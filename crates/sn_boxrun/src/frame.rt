@@ -2,7 +2,7 @@ use sn_box_values::Datum;
 use sn_net::{BinOp, BuiltinKind, Expr};
 
 /// What the values of all parts of a node are for.
-#[derive(Clone, Copy, Debug)]
+#[derive(Clone, Copy)]
 pub enum Purpose {
     List,
     /// The arguments of the function with the number.

@@ -6,6 +6,3 @@ mod outcome;
 mod template;
 
 pub use answer::apply;
-
-#[cfg(test)]
-mod tests;

@@ -17,7 +17,7 @@ use sn_type_parser::{LabelParser, LabelStep, LabelStop};
 use std::alloc::Global;
 
 /// Why a filter is not read on.
-#[derive(Debug, Drop)]
+#[derive(Drop)]
 pub enum FilterStop {
     Memory,
     Refused,

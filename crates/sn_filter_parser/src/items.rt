@@ -16,7 +16,7 @@ use sn_list::{Memory, Seq};
 use std::alloc::Global;
 
 /// Why items are not read on.
-#[derive(Debug, Drop)]
+#[derive(Drop)]
 pub enum ItemStop {
     Memory,
     Refused,

@@ -3,7 +3,7 @@ use sn_names::Names;
 use sn_record::{Kind, Record, Text};
 
 /// The records of a file in order, the number of the line of each, counted from 1, and all names of labels.
-#[derive(Debug, Drop)]
+#[derive(Drop)]
 pub struct Input {
     pub records: Seq<Record>,
     pub lines: Seq<u32>,

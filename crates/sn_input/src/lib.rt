@@ -9,6 +9,3 @@ mod repeats;
 
 pub use input::{Input, InputFault};
 pub use reading::read_records;
-
-#[cfg(test)]
-mod tests;

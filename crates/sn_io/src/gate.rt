@@ -10,7 +10,7 @@ pub trait Gate: Sync {
 }
 
 /// Lets each call pass.
-#[derive(Clone, Copy, PartialEq, Eq, Debug)]
+#[derive(Clone, Copy, PartialEq, Eq)]
 pub struct OpenGate;
 
 impl Gate for OpenGate {

@@ -14,8 +14,6 @@ mod plan;
 mod sink;
 mod std_files;
 mod std_sink;
-#[cfg(test)]
-mod tests;
 
 pub use files::{Bytes, Files, FilesFault};
 pub use gate::{Gate, OpenGate};

@@ -8,7 +8,7 @@ use crate::plan::Plan;
 use sn_list::{Memory, Seq};
 use std::alloc::Global;
 
-#[derive(Debug, Drop)]
+#[derive(Drop)]
 struct StoredFile {
     name: Bytes,
     bytes: Bytes,
@@ -19,7 +19,7 @@ struct StoredFile {
 ///
 /// Each name that was added has a count of faults of its own, and all other names share one. A read of a
 /// name that was not added is a fault.
-#[derive(Debug, Drop)]
+#[derive(Drop)]
 pub struct MemFiles {
     alloc: Global,
     stored: Vec<StoredFile>,

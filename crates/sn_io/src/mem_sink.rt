@@ -8,7 +8,7 @@ use std::alloc::Global;
 /// A sink in memory, with planned faults.
 ///
 /// A write takes no memory: it takes what fits into what was reserved, and fails where nothing is left.
-#[derive(Debug, Drop)]
+#[derive(Drop)]
 pub struct MemSink {
     held: Vec<u8>,
     piece: usize,

@@ -3,7 +3,7 @@ ghost use Rattle.std.specs.Prelude.{None};
 use crate::sink::{Failed, Sink};
 
 /// Takes every piece whole, and tells nothing of what it got. It has no faults.
-#[derive(Clone, Copy, PartialEq, Eq, Debug)]
+#[derive(Clone, Copy, PartialEq, Eq)]
 pub struct NullSink;
 
 impl Sink for NullSink {

@@ -4,7 +4,7 @@ use sn_list::{Memory, Seq};
 use std::alloc::Global;
 
 /// Which calls of a fake are to fail. Calls are counted from 1; the count stays at its last value.
-#[derive(Debug, Drop)]
+#[derive(Drop)]
 pub struct Plan {
     calls: u64,
     planned: Seq<u64>,

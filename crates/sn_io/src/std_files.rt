@@ -14,7 +14,7 @@ const CHUNK: usize = 64 * 1024;
 ///
 /// Each `Err` of std is a fault, of whatever kind: a missing file, a name that is not UTF-8, an
 /// interrupted read, want of memory in the system. One count of faults serves all names.
-#[derive(Debug, Drop)]
+#[derive(Drop)]
 pub struct StdFiles<R> {
     runtime: R,
     faults: u64,

@@ -12,7 +12,7 @@ use std::io::Write;
 /// Each write is one call of the writer's `write` and one of its `flush`, so nothing is kept back. An
 /// error of either, an interrupted call among them, is a fault, and so is a piece of which nothing was
 /// taken. After a fault of `flush` it isn't known what of that piece came through.
-#[derive(Debug, Drop)]
+#[derive(Drop)]
 pub struct StdSink<W> {
     writer: W,
     faults: u64,

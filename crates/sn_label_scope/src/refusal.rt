@@ -25,7 +25,7 @@ pub struct Refusal {
 }
 
 /// What was refused so far, of which the refusal that comes is kept: the one at the least place.
-#[derive(Debug, Drop)]
+#[derive(Drop)]
 pub struct Refusals {
     least: Option<Refusal>,
 }

@@ -23,6 +23,3 @@ pub use name::read_name;
 pub use number::read_digits;
 pub use text::{after, split_first};
 pub use token::{LexFault, Token, TokenKind};
-
-#[cfg(test)]
-mod tests;

@@ -1,6 +1,6 @@
 use sn_list::Memory as WantedMemory;
 
-#[derive(Clone, Copy, Debug, PartialEq, Eq)]
+#[derive(Clone, Copy, PartialEq, Eq)]
 pub enum TokenKind {
     Ident,
     Keyword,
@@ -12,7 +12,7 @@ pub enum TokenKind {
 }
 
 /// A word of a source: its bytes from `start` up to before `end`.
-#[derive(Clone, Copy, Debug, PartialEq, Eq)]
+#[derive(Clone, Copy, PartialEq, Eq)]
 pub struct Token {
     pub kind: TokenKind,
     pub start: u32,

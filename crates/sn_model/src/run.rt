@@ -15,7 +15,7 @@ pub const MOST_REPLICAS: u32 = 2_000;
 pub const LONGEST_QUEUE: u32 = 1_024;
 
 /// A network with all that it needs to run.
-#[derive(Debug, Drop)]
+#[derive(Drop)]
 pub struct Run {
     pub net: Net,
     /// The boxes that the network calls, by their numbers.

@@ -7,7 +7,7 @@ use std::alloc::Global;
 use std::marker::Model;
 
 /// Different names, numbered from 0 in the order in which they were entered, and seen as the list of them.
-#[derive(Debug, Drop)]
+#[derive(Drop)]
 pub struct NameTable {
     names: IndexSet<Vec<u8>>,
 }

@@ -3,7 +3,7 @@ use sn_record::{Label, Text};
 use sn_tagexpr::BinOp;
 
 /// The functions that every box has.
-#[derive(Clone, Copy, PartialEq, Eq, Debug)]
+#[derive(Clone, Copy, PartialEq, Eq)]
 pub enum BuiltinKind {
     Len,
     At,
@@ -15,7 +15,7 @@ pub enum BuiltinKind {
 }
 
 /// An expression of a box, in which each name is a number.
-#[derive(PartialEq, Eq, Debug, Drop)]
+#[derive(Drop)]
 pub enum Expr {
     Int(i64),
     TextLit(Text),
@@ -39,7 +39,7 @@ pub enum Expr {
 }
 
 /// A function of a box.
-#[derive(PartialEq, Eq, Debug, Drop)]
+#[derive(Drop)]
 pub struct Fun {
     /// How many parameters it has.
     pub params: u32,
@@ -47,7 +47,7 @@ pub struct Fun {
 }
 
 /// What a box takes, what it may emit, and what it does.
-#[derive(PartialEq, Eq, Debug, Drop)]
+#[derive(Drop)]
 pub struct BoxProgram {
     pub input: Seq<Label>,
     pub outputs: Seq<Seq<Label>>,

@@ -19,7 +19,7 @@ use sn_tagexpr::TagExpr;
 use std::alloc::Global;
 
 /// A net and its face.
-#[derive(PartialEq, Eq, Debug, Drop)]
+#[derive(Drop)]
 pub struct Faced {
     pub net: Net,
     pub face: Seq<LabelSet>,

@@ -8,7 +8,7 @@ use sn_tagexpr::TagExpr;
 use std::alloc::Global;
 
 /// What gives one label of a template its value.
-#[derive(PartialEq, Eq, Debug, Drop)]
+#[derive(Drop)]
 pub enum Part {
     /// The label at its value in the record that was taken.
     Copy(Label),
@@ -19,13 +19,13 @@ pub enum Part {
 }
 
 /// How a filter makes one record of the record that it takes.
-#[derive(PartialEq, Eq, Debug, Drop)]
+#[derive(Drop)]
 pub struct Template {
     pub parts: Seq<Part>,
 }
 
 /// Takes a record that has each label of the pattern, and answers one record for each template.
-#[derive(PartialEq, Eq, Debug, Drop)]
+#[derive(Drop)]
 pub struct Filter {
     /// The byte offset of its opening bracket in the source.
     pub place: u32,

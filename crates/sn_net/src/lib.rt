@@ -19,6 +19,3 @@ pub use net::{Claim, Merge, Net, all_det};
 pub use routing::{Key, route};
 pub use sn_tagexpr::{BinOp, TagExpr};
 pub use tags::RecordTags;
-
-#[cfg(test)]
-mod tests;

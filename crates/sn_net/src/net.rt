@@ -7,7 +7,7 @@ use sn_record::LabelSet;
 use sn_tagexpr::TagExpr;
 
 /// How the streams of replicas and branches are put together again.
-#[derive(Clone, Copy, PartialEq, Eq, Debug)]
+#[derive(Clone, Copy, PartialEq, Eq)]
 pub enum Merge {
     /// In any order, but that of each.
     Free,
@@ -28,7 +28,7 @@ impl Merge {
 }
 
 /// A network of components. A place is a byte offset in the source.
-#[derive(PartialEq, Eq, Debug, Drop)]
+#[derive(Drop)]
 pub enum Net {
     /// A call of the box of that number for each record.
     Box {
@@ -72,7 +72,7 @@ pub enum Net {
 }
 
 /// What a net with a signature is said to do.
-#[derive(PartialEq, Eq, Debug, Drop)]
+#[derive(Drop)]
 pub struct Claim {
     /// That of the net's name in its declaration.
     pub place: u32,

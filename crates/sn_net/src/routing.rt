@@ -20,7 +20,7 @@ use sn_record::{Fault, FaultKind, Item, LabelSet, Record, Value, score};
 use sn_tagexpr::{ExprFault, TagExpr, eval};
 
 /// Where an item goes.
-#[derive(Clone, Copy, PartialEq, Eq, Debug)]
+#[derive(Clone, Copy, PartialEq, Eq)]
 pub enum Key {
     /// Past the children, as it is.
     Bypass,
@@ -37,7 +37,7 @@ pub enum Key {
 }
 
 /// The branch that a record matches best among those seen so far, and its score.
-#[derive(Clone, Copy, PartialEq, Eq, Debug)]
+#[derive(Clone, Copy, PartialEq, Eq)]
 struct Best {
     branch: u32,
     size: u64,

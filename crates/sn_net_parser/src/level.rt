@@ -13,7 +13,7 @@ type Row = Kept<Seq<NetExpr>>;
 
 /// An open level of parentheses: the finished parts of its serial list and the finished branches of its choice, each
 /// with the place of the first operator.
-#[derive(Debug, Drop)]
+#[derive(Drop)]
 pub struct Level {
     pub chain: Option<(u32, Row)>,
     pub choice: Option<(bool, u32, Row)>,

@@ -10,6 +10,3 @@ mod straight;
 pub use fault::FeedFault;
 pub use once::{Once, run_once};
 pub use straight::is_straight;
-
-#[cfg(test)]
-mod tests;

@@ -15,6 +15,3 @@ mod type_decl;
 pub use parsing::{ParseFault, parse};
 pub use sn_ast::Program;
 pub use sn_lexer::Token;
-
-#[cfg(test)]
-mod tests;

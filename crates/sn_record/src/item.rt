@@ -23,7 +23,7 @@ pub struct Fault {
 }
 
 /// What flows through a network.
-#[derive(PartialEq, Eq, Debug, Drop)]
+#[derive(PartialEq, Eq, Drop)]
 pub enum Item {
     Rec(Record),
     Fault(Fault),

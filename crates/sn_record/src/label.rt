@@ -16,7 +16,7 @@ pub enum Kind {
 }
 
 /// A name in a record, given by its number. A field and a tag of one number are two labels.
-#[derive(Clone, Copy, PartialEq, Eq, Debug)]
+#[derive(Clone, Copy, PartialEq, Eq)]
 pub struct Label {
     pub kind: Kind,
     pub id: u32,
@@ -49,7 +49,7 @@ impl PartialOrd for Label {
 }
 
 /// The order of labels: fields before tags, and then by number.
-#[derive(Clone, Copy, Debug)]
+#[derive(Clone, Copy)]
 pub struct ByLabel;
 
 impl KeyOrder<Label> for ByLabel {

@@ -12,7 +12,7 @@ use std::marker::Model;
 /// Entries in strictly rising order of their labels, seen as the map from labels to values.
 ///
 /// Label sets and records are such maps. They have a handful of entries, so a look-up walks along them.
-#[derive(Debug, Drop)]
+#[derive(Drop)]
 pub struct LabelMap<V> {
     entries: Vec<(Label, V)>,
 }

@@ -18,6 +18,3 @@ pub use label_set::LabelSet;
 pub use record::Record;
 pub use sn_list::Memory;
 pub use value::{Text, Value, Values};
-
-#[cfg(test)]
-mod tests;

@@ -13,7 +13,7 @@ use std::alloc::Global;
 use std::marker::Model;
 
 /// A finite map from labels to values. Each value is sound, and a tag has an Int.
-#[derive(PartialEq, Eq, Debug, Drop)]
+#[derive(PartialEq, Eq, Drop)]
 pub struct Record {
     values: LabelMap<Value>,
 }

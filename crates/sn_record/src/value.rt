@@ -10,7 +10,7 @@ pub type Text = Seq<u8>;
 pub type Values = Seq<Value>;
 
 /// What stands at a label of a record.
-#[derive(PartialEq, Eq, Debug, Drop)]
+#[derive(PartialEq, Eq, Drop)]
 pub enum Value {
     Int(i64),
     Text(Text),

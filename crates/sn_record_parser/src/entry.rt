@@ -2,14 +2,14 @@ use sn_list::Memory as WantedMemory;
 use sn_record::{Kind, Text, Value};
 
 /// A label as it is written: a field or a tag, by its name.
-#[derive(PartialEq, Eq, Debug, Drop)]
+#[derive(PartialEq, Eq, Drop)]
 pub struct WrittenLabel {
     pub kind: Kind,
     pub name: Text,
 }
 
 /// A label, and a value that a record may hold at it.
-#[derive(PartialEq, Eq, Debug, Drop)]
+#[derive(PartialEq, Eq, Drop)]
 pub struct Entry {
     pub label: WrittenLabel,
     pub value: Value,

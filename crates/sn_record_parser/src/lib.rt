@@ -9,6 +9,3 @@ mod value;
 
 pub use entry::{Entry, EntryFault, WrittenLabel};
 pub use parsing::entries_of;
-
-#[cfg(test)]
-mod tests;

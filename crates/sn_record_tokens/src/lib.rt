@@ -12,6 +12,3 @@ mod token;
 
 pub use scan::tokens_of;
 pub use token::{Mark, Token, TokenFault};
-
-#[cfg(test)]
-mod tests;

@@ -1,7 +1,7 @@
 use sn_list::{Memory as WantedMemory, Seq};
 
 /// The signs that give a record and a list their form.
-#[derive(Clone, Copy, PartialEq, Eq, Debug)]
+#[derive(Clone, Copy, PartialEq, Eq)]
 pub enum Mark {
     OpenRecord,
     CloseRecord,
@@ -12,7 +12,7 @@ pub enum Mark {
 }
 
 /// A word of a line.
-#[derive(PartialEq, Eq, Debug, Drop)]
+#[derive(PartialEq, Eq, Drop)]
 pub enum Token {
     Mark(Mark),
     /// The bytes of a name. A keyword of the language is one too.

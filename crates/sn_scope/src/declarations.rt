@@ -16,14 +16,14 @@ use std::alloc::Global;
 use std::mem::replace;
 
 /// An input and an output type, each as its different variants.
-#[derive(PartialEq, Eq, Debug, Drop)]
+#[derive(Drop)]
 pub struct Signature {
     pub input: Seq<LabelSet>,
     pub output: Seq<LabelSet>,
 }
 
 /// A net with a signature, by their numbers. Its place is that of its name in its declaration.
-#[derive(Clone, Copy, PartialEq, Eq, Debug)]
+#[derive(Clone, Copy, PartialEq, Eq)]
 pub struct Pending {
     pub place: u32,
     pub net: usize,
@@ -32,7 +32,7 @@ pub struct Pending {
 
 /// What was declared so far. Types, signatures, nets and boxes are each numbered from 0 in the order in which their
 /// declarations end.
-#[derive(Debug, Drop)]
+#[derive(Drop)]
 pub struct Declarations {
     pub types: Seq<Seq<LabelSet>>,
     pub signatures: Seq<Signature>,

@@ -13,6 +13,3 @@ mod types;
 mod variants;
 
 pub use resolution::{Resolved, ScopeFault, resolve};
-
-#[cfg(test)]
-mod tests;

@@ -18,7 +18,7 @@ use std::alloc::Global;
 
 /// A part of a network: a net that was declared before, by its number, or a component of its own.
 #[cycle(network)]
-#[derive(PartialEq, Eq, Debug, Drop)]
+#[derive(Drop)]
 pub enum Network {
     Named(usize),
     Made(Component),
@@ -26,7 +26,7 @@ pub enum Network {
 
 /// A component. A place is a byte offset in the source.
 #[cycle(network)]
-#[derive(PartialEq, Eq, Debug, Drop)]
+#[derive(Drop)]
 pub enum Component {
     /// A call of the box of that number.
     Box {

@@ -57,7 +57,7 @@ impl From<Memory> for ScopeFault {
 }
 
 /// A program in which each name is resolved.
-#[derive(Debug, Drop)]
+#[derive(Drop)]
 pub struct Resolved {
     /// The names of the labels, numbered in the order of their first places.
     pub names: Names,

@@ -10,7 +10,7 @@ use std::mem::replace;
 
 /// What a name was declared as: the number of a type, a signature, a net or a box, from 0 in the order of their
 /// declarations.
-#[derive(Clone, Copy, PartialEq, Eq, Debug)]
+#[derive(Clone, Copy, PartialEq, Eq)]
 pub enum Meaning {
     Type(usize),
     Signature(usize),
@@ -19,14 +19,14 @@ pub enum Meaning {
 }
 
 /// The names that were declared in one scope, each beside its meaning.
-#[derive(Debug, Drop)]
+#[derive(Drop)]
 pub struct Scope {
     names: NameTable,
     meanings: Seq<Meaning>,
 }
 
 /// A scope, and those around it from the outermost on.
-#[derive(Debug, Drop)]
+#[derive(Drop)]
 pub struct Scopes {
     outer: Seq<Scope>,
     current: Scope,

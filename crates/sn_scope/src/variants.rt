@@ -9,7 +9,7 @@ use std::hash::{Hash, Hasher};
 use std::marker::Model;
 
 /// A variant as it is looked up: by a hash of its labels.
-#[derive(PartialEq, Eq, Debug, Drop)]
+#[derive(PartialEq, Eq, Drop)]
 struct Key {
     set: LabelSet,
 }
@@ -31,7 +31,7 @@ impl Hash for Key {
 }
 
 /// Different variants in the order in which they were first added, seen as the list of them.
-#[derive(Debug, Drop)]
+#[derive(Drop)]
 pub struct Variants {
     sets: Vec<LabelSet>,
     // The same sets again, so that none is looked for by a walk.
@@ -98,35 +98,5 @@ impl Variants {
         ensures { result ≡ self }
     {
         Seq::from_vec(self.sets)
-    }
-}
-
-#[cfg(test)]
-mod tests {
-    use crate::variants::Variants;
-    use sn_list::Memory;
-    use sn_record::{Kind, Label, LabelSet};
-    use std::alloc::Global;
-    use std::test::Fail;
-
-    fn set_of(alloc: Global, kind: Kind) -> Result<LabelSet, Memory> {
-        let mut set = LabelSet::new(alloc);
-        set.insert(Label { kind, id: 1 })?;
-        Ok(set)
-    }
-
-    #[test]
-    fn variants_stand_once(rt: HostRuntime) -> Result<(), Fail> {
-        let sets = [
-            set_of(rt.alloc(), Kind::Field)?,
-            set_of(rt.alloc(), Kind::Tag)?,
-        ];
-        let mut variants = Variants::new(rt.alloc());
-        variants.add(set_of(rt.alloc(), Kind::Tag)?)?;
-        variants.add_all(&sets)?;
-        let kept = variants.into_sets();
-        assert_eq!(rt; kept.len(), 2);
-        assert!(rt; *kept.at(0) == sets[1] && *kept.at(1) == sets[0]);
-        Ok(())
     }
 }

@@ -7,6 +7,3 @@ mod cell;
 mod slots;
 
 pub use cell::{Cell, CellOut};
-
-#[cfg(test)]
-mod tests;

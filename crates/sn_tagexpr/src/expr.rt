@@ -4,7 +4,7 @@ use sn_list::{Boxed, Memory};
 use std::alloc::Global;
 
 /// The binary operators that compute and compare numbers.
-#[derive(Clone, Copy, PartialEq, Eq, Debug)]
+#[derive(Clone, Copy, PartialEq, Eq)]
 pub enum BinOp {
     Add,
     Sub,
@@ -20,7 +20,7 @@ pub enum BinOp {
 }
 
 /// An expression over the tags of a record, each by the number of its name.
-#[derive(PartialEq, Eq, Debug, Drop)]
+#[derive(Drop)]
 pub enum TagExpr {
     Number(i64),
     Tag(u32),

@@ -10,6 +10,3 @@ pub use evaluation::{Tags, eval};
 pub use expr::{BinOp, TagExpr};
 pub use fault::ExprFault;
 pub use operators::{negate, operate, truth};
-
-#[cfg(test)]
-mod tests;

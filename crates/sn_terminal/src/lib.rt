@@ -11,6 +11,3 @@ pub use sn_ast::Terminal;
 pub use sn_lexer::Token;
 pub use sn_list::Memory;
 pub use token::terminal;
-
-#[cfg(test)]
-mod tests;

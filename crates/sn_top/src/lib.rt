@@ -8,10 +8,8 @@ mod outside;
 mod print;
 mod serve;
 mod status;
-#[cfg(test)]
-mod tests;
 mod words;
 
 pub use serve::{INPUT_LIMIT, SOURCE_LIMIT, serve_plain, serve_words};
 pub use status::Status;
-pub use words::Command;
+pub use words::{Command, DEFAULT_DEPTH, DEFAULT_FUEL, WordsFault, read_words};

@@ -60,7 +60,7 @@ impl Status {
 }
 
 /// Which of a command's files.
-#[derive(Clone, Copy, PartialEq, Eq, Debug)]
+#[derive(Clone, Copy, PartialEq, Eq)]
 pub enum Which {
     Source,
     Input,
@@ -100,7 +100,7 @@ impl SourceFault {
 }
 
 /// What is wrong in a line of an input. Lines are counted from 1.
-#[derive(PartialEq, Eq, Debug, Drop)]
+#[derive(PartialEq, Eq, Drop)]
 pub enum LineFault {
     /// It is no record.
     BadLine(u32),
@@ -156,7 +156,7 @@ fn ending_label(kind: FaultKind) -> &'static [u8]
 }
 
 /// What the checks of a command refuse. A place is an offset in the source's bytes.
-#[derive(PartialEq, Eq, Debug, Drop)]
+#[derive(PartialEq, Eq, Drop)]
 pub enum Refusal {
     TooLarge(Which),
     Source(SourceFault, u32),
@@ -173,7 +173,7 @@ pub enum Refusal {
 }
 
 /// Why a command ends otherwise than with its whole output.
-#[derive(PartialEq, Eq, Debug, Drop)]
+#[derive(PartialEq, Eq, Drop)]
 pub enum Stop {
     Refused(Refusal),
     /// What was printed ends at a fault.

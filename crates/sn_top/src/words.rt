@@ -21,7 +21,7 @@ const USAGE: &[u8] =
     b"usage: snet run SOURCE INPUT [--workers N] [--fuel N] [--depth N] [--queue N] | once SOURCE INPUT [--fuel N] [--depth N] | check SOURCE | print SOURCE | sample SEED COUNT\n";
 
 /// What the words ask for.
-#[derive(PartialEq, Eq, Debug, Drop)]
+#[derive(PartialEq, Eq, Drop)]
 pub enum Command {
     /// Run the net of a source once over the records of an input, in one thread.
     Once {
@@ -332,64 +332,5 @@ pub fn read_words(alloc: Global, words: &[String]) -> Result<Command, WordsFault
     match verb {
         Verb::Once => make_once(alloc, &reading),
         Verb::Print => make_print(alloc, &reading),
-    }
-}
-
-#[cfg(test)]
-mod tests {
-    use super::*;
-    use std::test::Fail;
-
-    fn read(alloc: Global, words: &[&str]) -> Result<Result<Command, WordsFault>, Fail> {
-        let mut owned = Vec::new(alloc);
-        for word in words {
-            owned.push(String::from_str(alloc, word)?)?;
-        }
-        Ok(read_words(alloc, &owned))
-    }
-
-    #[test]
-    fn gives_commands(rt: HostRuntime) -> Result<(), Fail> {
-        let alloc = rt.alloc();
-        let table: [(&[&str], &str, u64); 4] = [
-            (&["once", "s", "i"], "s", 1_000_000),
-            (&["once", "--", "-s", "i"], "-s", 1_000_000),
-            (&["once", "-", "--fuel", "5", "i"], "-", 5),
-            (&["once", "--fuel=0000000005", "s", "--", "i"], "s", 5),
-        ];
-        for (words, name, fuel) in table {
-            let source = Seq::from_slice(alloc, name.as_bytes())?;
-            let input = Seq::from_slice(alloc, b"i")?;
-            let wanted = Command::Once {
-                source,
-                input,
-                fuel,
-                depth: 1_000,
-            };
-            assert_eq!(rt; read(alloc, words)?, Ok(wanted));
-        }
-        Ok(())
-    }
-
-    #[test]
-    fn refuses_words(rt: HostRuntime) -> Result<(), Fail> {
-        let table: [&[&str]; 12] = [
-            &[],
-            &["once", "s"],
-            &["once", "s", "i", "t"],
-            &["once", "--x", "s", "i"],
-            &["once", "s", ""],
-            &["print", "s", "t"],
-            &["print", "s", "--fuel", "5"],
-            &["once", "s", "i", "--fuel"],
-            &["once", "--fuel", "0", "s", "i"],
-            &["once", "--fuel=00000000005", "s", "i"],
-            &["once", "--fuel=+5", "s", "i"],
-            &["once", "--fuel=5", "--fuel", "5", "s", "i"],
-        ];
-        for words in table {
-            assert_eq!(rt; read(rt.alloc(), words)?, Err(WordsFault::Usage));
-        }
-        Ok(())
     }
 }

@@ -11,7 +11,7 @@ use sn_list::{Memory, Seq};
 use std::alloc::Global;
 
 /// Why labels are not read on.
-#[derive(Debug, Drop)]
+#[derive(Drop)]
 pub enum LabelStop {
     Memory,
     Refused,
@@ -29,7 +29,7 @@ impl From<Memory> for LabelStop {
 }
 
 /// What comes next.
-#[derive(Clone, Copy, Debug)]
+#[derive(Clone, Copy)]
 enum Mode {
     /// A label, or the closing bracket.
     First,
@@ -39,7 +39,7 @@ enum Mode {
 }
 
 /// Reads `label, label, ..` and the closing bracket, after the opening one.
-#[derive(Debug, Drop)]
+#[derive(Drop)]
 pub struct LabelParser {
     bracket: Bracket,
     labels: Seq<LabelAt>,
@@ -47,7 +47,7 @@ pub struct LabelParser {
 }
 
 /// What a token led to.
-#[derive(Debug, Drop)]
+#[derive(Drop)]
 pub enum LabelStep {
     More(LabelParser),
     /// The token was the closing bracket.

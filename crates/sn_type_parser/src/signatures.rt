@@ -13,7 +13,7 @@ use sn_list::{Memory, Seq};
 use std::alloc::Global;
 
 /// Why a signature is not read on.
-#[derive(Debug, Drop)]
+#[derive(Drop)]
 pub enum SigStop {
     Memory,
     Refused,
@@ -33,7 +33,7 @@ impl From<Memory> for SigStop {
 }
 
 /// Reads `type -> type`, or the name of a signature, and ends at the `;` or `)` that follows.
-#[derive(Debug, Drop)]
+#[derive(Drop)]
 pub struct SigParser {
     /// The input type, once its arrow was read.
     input: Option<Seq<TypePart>>,

@@ -14,7 +14,7 @@ use sn_list::{Memory, Seq};
 use std::alloc::Global;
 
 /// Why a type is not read on.
-#[derive(Debug, Drop)]
+#[derive(Drop)]
 pub enum TypeStop {
     Memory,
     Refused,
@@ -38,7 +38,7 @@ impl From<Memory> for TypeStop {
 }
 
 /// What comes next.
-#[derive(Debug, Drop)]
+#[derive(Drop)]
 enum Mode {
     Part,
     /// What is in a variant, whose opening bracket is at the place.
@@ -48,7 +48,7 @@ enum Mode {
 }
 
 /// Reads `part | part | ..`, and ends at the `;`, `)` or `->` that follows.
-#[derive(Debug, Drop)]
+#[derive(Drop)]
 pub struct TypeParser {
     parts: Seq<TypePart>,
     mode: Mode,
