@@ -1,33 +1,20 @@
-ghost use Rattle.std.specs.Prelude.{◌≤◌, length};
-
-use sn_input::{Input, InputFault, read_records};
-use sn_names::Names;
+use crate::text::records;
+use sn_input::{Input, InputFault};
 use sn_record::{Kind, Label, Value};
 use std::alloc::Global;
 use std::test::Fail;
 
-fn read(alloc: Global, text: &str) -> Result<Input, InputFault>
-    requires { length text.now ≤ 16777216 }
-{
-    let names = Names::new(alloc)?;
-    read_records(alloc, text.as_bytes(), names)
-}
-
 /// Whether the records stand on these lines.
-fn has_lines(alloc: Global, text: &str, lines: &[u32]) -> bool
-    requires { length text.now ≤ 16777216 }
-{
-    match read(alloc, text) {
+fn has_lines(alloc: Global, text: &str, lines: &[u32]) -> bool {
+    match records(alloc, text) {
         Ok(input) => input.lines.as_slice() == lines,
         Err(_) => false,
     }
 }
 
 /// Whether a label of this kind, named `a`, repeats on this line.
-fn repeats_a(alloc: Global, text: &str, line: u32, kind: Kind) -> bool
-    requires { length text.now ≤ 16777216 }
-{
-    match read(alloc, text) {
+fn repeats_a(alloc: Global, text: &str, line: u32, kind: Kind) -> bool {
+    match records(alloc, text) {
         Err(InputFault::Twice(number, of, name)) => {
             number == line && of == kind && name.as_slice() == b"a".as_slice()
         }
@@ -71,14 +58,14 @@ fn repeated_labels_are_refused(rt: HostRuntime) -> Result<(), Fail> {
 
 #[test]
 fn wrong_lines_are_refused(rt: HostRuntime) -> Result<(), Fail> {
-    let result = read(rt.alloc(), "{}\n\n{<a>=\"1\"}\n");
+    let result = records(rt.alloc(), "{}\n\n{<a>=\"1\"}\n");
     assert!(rt; matches!(result, Err(InputFault::BadLine(3))));
     Ok(())
 }
 
 #[test]
 fn names_keep_their_numbers(rt: HostRuntime) -> Result<(), Fail> {
-    let input = read(rt.alloc(), "{b=1,<a>=2}\n{<a>=3,<b>=4}")?;
+    let input = records(rt.alloc(), "{b=1,<a>=2}\n{<a>=3,<b>=4}")?;
     assert_eq!(rt; input.names.count(), 2);
     assert!(rt; tag_at(&input, 0, 1) == Some(2));
     assert!(rt; tag_at(&input, 1, 1) == Some(3) && tag_at(&input, 1, 0) == Some(4));

@@ -46,6 +46,8 @@ mod tagexpr;
 #[cfg(test)]
 mod terminal;
 #[cfg(test)]
+mod text;
+#[cfg(test)]
 mod top;
 #[cfg(test)]
 mod type_parser;

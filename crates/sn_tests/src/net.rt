@@ -3,8 +3,8 @@ ghost use Rattle.sn_net.specs.declared.net.Net.TheViews.{out-Net};
 ghost use Rattle.sn_net.specs.Face.{is_numbered};
 ghost use Rattle.sn_net.specs.Routable.{IsDispatcher};
 
-use sn_net::{Faced, Filter, Key, Merge, Net, Part, TagExpr, Template, all_det, face, route};
 use sn_list::{Boxed, Memory, Seq};
+use sn_net::{Faced, Filter, Key, Merge, Net, Part, TagExpr, Template, all_det, face, route};
 use sn_record::{Fault, FaultKind, Item, Kind, Label, LabelSet, Record, Value};
 use std::alloc::Global;
 use std::test::Fail;

@@ -1,10 +1,10 @@
 ghost use Rattle.sn_net.specs.Filter.{IsClosed};
 ghost use Rattle.sn_model.specs.Run.{IsRun};
 
-use sn_once::{FeedFault, is_straight, run_once};
 use sn_list::{Memory, Seq};
 use sn_model::Run;
 use sn_net::{Filter, Net};
+use sn_once::{FeedFault, is_straight, run_once};
 use sn_record::{Item, Items, Kind, Label, LabelSet, Record};
 use std::alloc::Global;
 use std::test::Fail;

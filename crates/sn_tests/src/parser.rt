@@ -1,23 +1,12 @@
-use sn_parser::{ParseFault, parse};
+use crate::text::program;
 use sn_ast::{Decl, ItemSource, NetForm, Program, TypePart};
-use sn_lexer::lex;
+use sn_parser::ParseFault;
 use std::alloc::Global;
 use std::test::Fail;
 
-fn program_of(alloc: Global, source: &str) -> Result<Program, ParseFault> {
-    if source.len() > 1048576 {
-        return Err(ParseFault::Memory);
-    }
-    let source = source.as_bytes();
-    let Ok(tokens) = lex(alloc, source) else {
-        return Err(ParseFault::Memory);
-    };
-    parse(alloc, source, tokens.as_slice())
-}
-
 /// How many declarations stand in the outermost scope of the source, or its refusal.
 fn count_of(alloc: Global, source: &str) -> Result<usize, ParseFault> {
-    let Program { decls } = program_of(alloc, source)?;
+    let Program { decls } = program(alloc, source)?;
     Ok(decls.len())
 }
 
@@ -35,7 +24,7 @@ fn place_in(decl: &Decl) -> Option<u32> {
 }
 
 fn place_of(alloc: Global, source: &str) -> Option<u32> {
-    let program = program_of(alloc, source).ok()?;
+    let program = program(alloc, source).ok()?;
     place_in(program.decls.as_slice().get(0)?)
 }
 
@@ -55,7 +44,7 @@ fn value_place_in(decl: &Decl) -> Option<u32> {
 }
 
 fn value_place_of(alloc: Global, source: &str) -> Option<u32> {
-    let program = program_of(alloc, source).ok()?;
+    let program = program(alloc, source).ok()?;
     value_place_in(program.decls.as_slice().get(0)?)
 }
 

@@ -1,18 +1,14 @@
+use crate::text::{labels_of, records};
+use sn_list::Seq;
 use sn_record::{
     Fault, FaultKind, Item, Items, Kind, Label, LabelSet, Memory, Record, Value, Values, score,
 };
-use sn_list::Seq;
 use std::alloc::Global;
 use std::test::Fail;
 
 const A: Label = Label {
     kind: Kind::Field,
-    id: 1,
-};
-
-const B: Label = Label {
-    kind: Kind::Field,
-    id: 2,
+    id: 0,
 };
 
 const T: Label = Label {
@@ -20,27 +16,148 @@ const T: Label = Label {
     id: 1,
 };
 
-fn set_of(alloc: Global, first: Label, second: Label) -> Result<LabelSet, Memory> {
-    let mut set = LabelSet::new(alloc);
-    set.insert(first)?;
-    set.insert(second)?;
-    Ok(set)
+/// Whether the labels of the third record are those of the first two, and those of the fourth what the first has more.
+fn are_joined(alloc: Global, text: &str) -> Result<bool, Fail> {
+    let input = records(alloc, text)?;
+    let [first, second, both, rest] = input.records.as_slice() else {
+        return Ok(false);
+    };
+    let (first, second) = (labels_of(alloc, first)?, labels_of(alloc, second)?);
+    let joined = first.union(alloc, &second)?;
+    Ok(
+        joined == labels_of(alloc, both)?
+            && first.is_subset(&joined)
+            && first.minus(alloc, &second)? == labels_of(alloc, rest)?,
+    )
 }
 
-/// Sets an Int, and answers the old value.
-fn set_int(record: &mut Record, label: Label, n: i64) -> Result<Option<Value>, Memory> {
-    match record.set(label, Value::Int(n)) {
-        Ok(before) => Ok(before),
-        Err(_) => Err(Memory),
+#[test]
+fn sets_are_joined(rt: HostRuntime) -> Result<(), Fail> {
+    for text in [
+        "{}\n{}\n{}\n{}",
+        "{a=1, b=1}\n{b=1, <b>=1}\n{a=1, b=1, <b>=1}\n{a=1}",
+        "{<b>=1, a=1}\n{a=1}\n{a=1, <b>=1}\n{<b>=1}",
+    ] {
+        assert!(rt; are_joined(rt.alloc(), text)?);
+    }
+    Ok(())
+}
+
+#[test]
+fn sets_hold_their_labels(rt: HostRuntime) -> Result<(), Fail> {
+    let mut set = LabelSet::new(rt.alloc());
+    assert!(rt; set.is_empty() && set.insert(T)? && set.insert(A)? && !set.insert(T)?);
+    assert!(rt; set.len() == 2 && set.at(0) == A);
+    let copy = set.copy(rt.alloc())?;
+    assert!(rt; copy == set && copy.contains(T));
+    Ok(())
+}
+
+/// Whether the third record is what comes of the second, which was emitted for the first, where the labels of the fourth
+/// were named.
+fn inherits(alloc: Global, text: &str) -> Result<bool, Fail> {
+    let input = records(alloc, text)?;
+    let [taken, emitted, whole, named] = input.records.as_slice() else {
+        return Ok(false);
+    };
+    let named = labels_of(alloc, named)?;
+    let made = Record::inherit(alloc, taken, &named, emitted)?;
+    Ok(made == *whole && emitted.copy(alloc)?.inheriting(alloc, taken, &named)? == *whole)
+}
+
+#[test]
+fn what_was_not_named_flows(rt: HostRuntime) -> Result<(), Fail> {
+    for text in [
+        "{a=1, <t>=7}\n{}\n{<t>=7}\n{a=0}",
+        "{a=1, <t>=7}\n{b=1, <t>=2}\n{a=1, b=1, <t>=2}\n{}",
+        "{a=1, <t>=7}\n{a=2}\n{a=2}\n{a=0, <t>=0}",
+    ] {
+        assert!(rt; inherits(rt.alloc(), text)?);
+    }
+    Ok(())
+}
+
+/// Whether the third record is what the first two give together, and the fourth what the first has of the second's labels.
+fn wins_left(alloc: Global, text: &str) -> Result<bool, Fail> {
+    let input = records(alloc, text)?;
+    let [left, right, both, part] = input.records.as_slice() else {
+        return Ok(false);
+    };
+    let labels = labels_of(alloc, right)?;
+    Ok(left.union_left(alloc, right)? == *both && left.restrict(alloc, &labels)? == *part)
+}
+
+#[test]
+fn the_left_record_wins(rt: HostRuntime) -> Result<(), Fail> {
+    for text in [
+        "{a=1, <t>=7}\n{a=2, b=3}\n{a=1, b=3, <t>=7}\n{a=1}",
+        "{}\n{a=2}\n{a=2}\n{}",
+    ] {
+        assert!(rt; wins_left(rt.alloc(), text)?);
+    }
+    Ok(())
+}
+
+/// The largest number of labels, of the records behind the first, that the first record has all.
+fn best(alloc: Global, text: &str) -> Result<Option<u64>, Fail> {
+    let input = records(alloc, text)?;
+    let Some((record, others)) = input.records.as_slice().split_first() else {
+        return Ok(None);
+    };
+    let mut variants = Vec::new(alloc);
+    for other in others {
+        let variant = labels_of(alloc, other)?;
+        variants.push(variant)?;
+    }
+    Ok(score(&variants, record))
+}
+
+#[test]
+fn the_largest_match_counts(rt: HostRuntime) -> Result<(), Fail> {
+    for (text, wanted) in [
+        ("{a=1, <t>=7}\n{a=0, b=0}", None),
+        ("{a=1, <t>=7}\n{a=0}\n{a=0, <t>=0}", Some(2)),
+        ("{a=1}", None),
+    ] {
+        assert!(rt; best(rt.alloc(), text)? == wanted);
+    }
+    Ok(())
+}
+
+/// A type whose values may go to another thread and be shared.
+fn is_shared<X: Send + Sync>(_x: &X) -> bool {
+    true
+}
+
+#[test]
+fn items_are_copied(rt: HostRuntime) -> Result<(), Fail> {
+    let fault = Item::Fault(Fault {
+        kind: FaultKind::Index,
+        place: 3,
+    });
+    let mut items = Items::new(rt.alloc());
+    assert!(rt; items.push(fault.copy(rt.alloc())?).is_ok() && is_shared(&items));
+    assert!(rt; Item::Rec(Record::new(rt.alloc())).copy(rt.alloc())? != fault);
+    Ok(())
+}
+
+/// Sets a tag, and answers whether it had the old value.
+fn replaces(record: &mut Record, value: i64, old: Option<i64>) -> bool {
+    match record.set(T, Value::Int(value)) {
+        Ok(Some(Value::Int(before))) => old == Some(before),
+        Ok(None) => old.is_none(),
+        _ => false,
     }
 }
 
-/// A record with two Ints.
-fn record_of(alloc: Global, first: (Label, i64), second: (Label, i64)) -> Result<Record, Memory> {
-    let mut record = Record::new(alloc);
-    set_int(&mut record, first.0, first.1)?;
-    set_int(&mut record, second.0, second.1)?;
-    Ok(record)
+#[test]
+fn records_answer_their_values(rt: HostRuntime) -> Result<(), Fail> {
+    let mut record = Record::new(rt.alloc());
+    assert!(rt; record.is_empty() && replaces(&mut record, 1, None));
+    assert!(rt; replaces(&mut record, 2, Some(1)) && record.len() == 1);
+    assert!(rt; record.get(T) == Some(&Value::Int(2)) && record.get(A).is_none());
+    assert!(rt; *record.at(0).1 == Value::Int(2));
+    Ok(())
 }
 
 fn list_of(alloc: Global, value: Value) -> Result<Value, Memory> {
@@ -51,114 +168,28 @@ fn list_of(alloc: Global, value: Value) -> Result<Value, Memory> {
     }
 }
 
-/// A type whose values may go to another thread and be shared.
-fn is_shared<X: Send + Sync>(_x: &X) -> bool {
-    true
+/// A text in so many lists.
+fn nested(alloc: Global, text: &[u8], levels: u32) -> Result<Value, Memory> {
+    let mut value = Value::Text(Seq::from_slice(alloc, text)?);
+    for _ in 0..levels {
+        value = list_of(alloc, value)?;
+    }
+    Ok(value)
 }
 
-#[test]
-fn sets_hold_their_labels(rt: HostRuntime) -> Result<(), Fail> {
-    let fields = set_of(rt.alloc(), B, A)?;
-    let named = set_of(rt.alloc(), A, T)?;
-    assert!(rt; LabelSet::new(rt.alloc()).is_empty());
-    assert_eq!(rt; fields.len(), 2);
-    assert!(rt; fields.at(0) == A);
-    let mut both = fields.union(rt.alloc(), &named)?;
-    assert_eq!(rt; both.len(), 3);
-    assert!(rt; both.contains(T) && !fields.contains(T));
-    assert!(rt; fields.is_subset(&both) && !both.is_subset(&fields));
-    assert!(rt; both.minus(rt.alloc(), &fields)? == set_of(rt.alloc(), T, T)?);
-    assert!(rt; !both.insert(B)?);
-    assert!(rt; both.copy(rt.alloc())? == both);
-    Ok(())
-}
-
-/// What {a = 1, <t> = 7} gives to `emitted` where a is named.
-fn whole_of(alloc: Global, emitted: Record) -> Result<Record, Memory> {
-    let taken = record_of(alloc, (A, 1), (T, 7))?;
-    let mut named = LabelSet::new(alloc);
-    named.insert(A)?;
-    emitted.inheriting(alloc, &taken, &named)
-}
-
-#[test]
-fn what_was_emitted_stays(rt: HostRuntime) -> Result<(), Fail> {
-    let taken = record_of(rt.alloc(), (A, 1), (T, 7))?;
-    let emitted = record_of(rt.alloc(), (B, 1), (T, 2))?;
-    let whole = Record::inherit(rt.alloc(), &taken, &LabelSet::new(rt.alloc()), &emitted)?;
-    assert_eq!(rt; whole.len(), 3);
-    assert!(rt; whole.get(T) == Some(&Value::Int(2)));
-    Ok(())
-}
-
-#[test]
-fn what_was_not_named_flows(rt: HostRuntime) -> Result<(), Fail> {
-    let whole = whole_of(rt.alloc(), Record::new(rt.alloc()))?;
-    let wanted = record_of(rt.alloc(), (T, 1), (T, 7))?;
-    assert!(rt; whole == wanted);
-    Ok(())
-}
-
-#[test]
-fn records_match(rt: HostRuntime) -> Result<(), Fail> {
-    let record = record_of(rt.alloc(), (A, 1), (T, 7))?;
-    let variant = set_of(rt.alloc(), A, B)?;
-    assert!(rt; Record::new(rt.alloc()).is_empty());
-    assert!(rt; !record.matches(&variant));
-    assert_eq!(rt; record.restrict(rt.alloc(), &variant)?.len(), 1);
-    assert!(rt; score(&[variant], &record).is_none());
-    Ok(())
-}
-
-#[test]
-fn the_largest_match_counts(rt: HostRuntime) -> Result<(), Fail> {
-    let record = record_of(rt.alloc(), (A, 1), (T, 7))?;
-    let small = set_of(rt.alloc(), A, A)?;
-    let large = set_of(rt.alloc(), A, T)?;
-    assert!(rt; score(&[small, large], &record) == Some(2));
-    Ok(())
-}
-
-#[test]
-fn the_left_record_wins(rt: HostRuntime) -> Result<(), Fail> {
-    let left = record_of(rt.alloc(), (A, 1), (T, 7))?;
-    let right = record_of(rt.alloc(), (A, 2), (B, 3))?;
-    let both = left.union_left(rt.alloc(), &right)?;
-    assert_eq!(rt; both.len(), 3);
-    assert!(rt; both.get(A) == Some(&Value::Int(1)));
-    Ok(())
-}
-
-#[test]
-fn records_answer_their_values(rt: HostRuntime) -> Result<(), Fail> {
-    let mut record = record_of(rt.alloc(), (T, 7), (A, 1))?;
-    assert!(rt; set_int(&mut record, A, 2)? == Some(Value::Int(1)));
-    assert_eq!(rt; record.len(), 2);
-    assert!(rt; *record.at(0).1 == Value::Int(2));
-    assert!(rt; record.get(T) == Some(&Value::Int(7)) && record.get(B).is_none());
-    assert_eq!(rt; record.as_slice().len(), record.len());
-    let fault = Item::Fault(Fault {
-        kind: FaultKind::Index,
-        place: 3,
-    });
-    let mut items = Items::new(rt.alloc());
-    assert!(rt; items.push(fault.copy(rt.alloc())?).is_ok() && is_shared(&items));
-    assert!(rt; Item::Rec(record).copy(rt.alloc())? != fault);
-    Ok(())
+/// Whether the value is sound, where its copy is equal to it.
+fn is_sound(alloc: Global, text: &[u8], levels: u32) -> Result<bool, Memory> {
+    let value = nested(alloc, text, levels)?;
+    if !value.is_sound() {
+        return Ok(false);
+    }
+    Ok(value.copy(alloc)? == value)
 }
 
 #[test]
 fn values_are_sound(rt: HostRuntime) -> Result<(), Fail> {
-    let text = Value::Text(Seq::from_slice(rt.alloc(), &[0x20, 0x7e])?);
-    assert!(rt; text.is_sound());
-    assert!(rt; text.copy(rt.alloc())? == text);
-    assert!(rt; !Value::Text(Seq::from_slice(rt.alloc(), &[0x1f])?).is_sound());
-    let mut nested = text;
-    for _ in 0..32 {
-        nested = list_of(rt.alloc(), nested)?;
-    }
-    assert!(rt; nested.is_sound());
-    assert!(rt; nested.copy(rt.alloc())? == nested);
-    assert!(rt; !list_of(rt.alloc(), nested)?.is_sound());
+    let alloc = rt.alloc();
+    assert!(rt; is_sound(alloc, &[0x20, 0x7e], 0)? && is_sound(alloc, b"x", 32)?);
+    assert!(rt; !is_sound(alloc, &[0x1f], 0)? && !is_sound(alloc, b"x", 33)?);
     Ok(())
 }

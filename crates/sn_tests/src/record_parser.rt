@@ -1,6 +1,6 @@
-use sn_record_parser::{Entry, EntryFault, WrittenLabel, entries_of};
 use sn_list::{Memory, Seq};
 use sn_record::{Kind, Value};
+use sn_record_parser::{Entry, EntryFault, WrittenLabel, entries_of};
 use sn_record_tokens::{Mark, Token};
 use sn_stack::append;
 use std::alloc::Global;

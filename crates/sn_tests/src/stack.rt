@@ -1,5 +1,5 @@
-use sn_stack::{Stack, append};
 use sn_list::Seq;
+use sn_stack::{Stack, append};
 use std::test::Fail;
 
 #[test]

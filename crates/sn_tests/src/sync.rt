@@ -1,6 +1,6 @@
-use sn_sync::{Cell, CellOut};
 use sn_list::Memory;
 use sn_record::{Kind, Label, LabelSet, Record, Value};
+use sn_sync::{Cell, CellOut};
 use std::alloc::Global;
 use std::test::Fail;
 

@@ -1,8 +1,8 @@
 ghost use Rattle.std.specs.Prelude.{IfOk, IsTrue, true};
 ghost use Rattle.sn_tagexpr.specs.Evaluation.{every_tag};
 
-use sn_tagexpr::{BinOp, ExprFault, TagExpr, Tags, eval, negate, operate, truth};
 use sn_list::{Boxed, Memory};
+use sn_tagexpr::{BinOp, ExprFault, TagExpr, Tags, eval, negate, operate, truth};
 use std::alloc::Global;
 use std::test::Fail;
 

@@ -1,8 +1,8 @@
 ghost use Rattle.std.specs.Prelude.{◌≤◌, length};
 
-use sn_terminal::terminal;
 use sn_ast::{Keyword, Symbol, Terminal};
 use sn_lexer::lex;
+use sn_terminal::terminal;
 use std::alloc::Global;
 use std::test::Fail;
 

@@ -1,9 +1,9 @@
 ghost use Rattle.std.specs.Prelude.{IfOk, ◌<◌};
 ghost use Rattle.sn_top.specs.Words.{IsInRange};
 
-use sn_top::{Command, DEFAULT_DEPTH, DEFAULT_FUEL, INPUT_LIMIT, Status, serve_plain, serve_words};
 use sn_io::{MemFiles, MemSink, OpenGate};
 use sn_list::{Memory, Seq};
+use sn_top::{Command, DEFAULT_DEPTH, DEFAULT_FUEL, INPUT_LIMIT, Status, serve_plain, serve_words};
 use std::alloc::Global;
 use std::test::Fail;
 

@@ -1,6 +1,6 @@
-use sn_type_parser::{SigParser, SigStop};
 use sn_ast::{Ident, Sig, Symbol, Terminal, Text};
 use sn_list::Memory;
+use sn_type_parser::{SigParser, SigStop};
 use std::alloc::Global;
 use std::test::Fail;
 
