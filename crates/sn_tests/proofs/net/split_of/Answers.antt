@@ -3,7 +3,7 @@ use Rattle.sn_net.specs.declared.net.Merge.TheVariants.{Free}
 use Rattle.sn_net.specs.Face.{is_numbered}
 use Rattle.sn_net.proofs.Routed.{split_routes}
 use Rattle.sn_net.proofs.Variants.{numbered-Choice, numbered-Split}
-use Rattle.sn_net.proofs.tests.split_of.Goals as goal
+use Rattle.sn_tests.proofs.net.split_of.Goals as goal
 
 pub returns-clause-numbered : goal.returns-clause-numbered
 returns-clause-numbered c =

@@ -1,5 +1,5 @@
 use Rattle.sn_record.proofs.Values.{FitsLabel-Int}
-use Rattle.sn_record.proofs.tests.set_int.Goals as goal
+use Rattle.sn_tests.proofs.record.replaces.Goals as goal
 
 pub set-requires : goal.set-requires
 set-requires c = FitsLabel-Int c.args.label _
