@@ -4,8 +4,8 @@ ghost use Rattle.sn_ast.specs.BoxExprs.{with_binding, with_condition, sequence_o
 ghost use Rattle.sn_ast.specs.Kept.{kept};
 ghost use Rattle.sn_expr_parser.specs.BoxNodes.{node, with_row, is_close_bracket, is_close_paren, is_closed_by};
 
-use crate::level::Expression;
-use sn_ast::measure::{append, boxed, join, no_row, raise};
+use crate::level::{Expression, all_boxed, both_boxed};
+use sn_ast::measure::{append, no_row, raise};
 use sn_ast::{BExpr, BForm, Boxed, Ident, Kept, Measured, Operator, Seq, Sign, Symbol, Terminal};
 use sn_list::Memory;
 use std::alloc::Global;
@@ -126,9 +126,7 @@ pub fn binding(
 ) -> Result<Kept<BExpr>, Memory>
     ensures { IfOk result (λ r. r ≡ with_binding kept at name bound body) }
 {
-    let bound = boxed(alloc, bound)?;
-    let body = boxed(alloc, body)?;
-    let Some(both) = join(bound, body) else {
+    let Some(both) = both_boxed(alloc, bound, body)? else {
         return Ok(None);
     };
     let (bound, body) = both.value;
@@ -150,10 +148,7 @@ pub fn conditional(
 ) -> Result<Kept<BExpr>, Memory>
     ensures { IfOk result (λ r. r ≡ with_condition kept at test first last) }
 {
-    let test = boxed(alloc, test)?;
-    let first = boxed(alloc, first)?;
-    let last = boxed(alloc, last)?;
-    let Some(all) = join(join(test, first), last) else {
+    let Some(all) = all_boxed(alloc, test, first, last)? else {
         return Ok(None);
     };
     let ((test, first), last) = all.value;

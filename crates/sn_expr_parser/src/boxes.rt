@@ -194,7 +194,10 @@ fn otherwise(at: u32, test: Kept<BExpr>, first: Kept<BExpr>, keyword: Keyword) -
 {
     match keyword {
         Keyword::Else => Some(Frame::Last(LastPart::Else { at, test, first })),
-        _ => None,
+        _ => {
+            drop((test, first));
+            None
+        }
     }
 }
 
@@ -635,7 +638,10 @@ fn in_parens(
             let so_far = next_step(alloc, so_far, part)?;
             Ok(within(frames, Frame::Parens { level, at, so_far })?)
         }
-        _ => Err(BoxStop::Refused),
+        _ => {
+            drop((so_far, part));
+            Err(BoxStop::Refused)
+        }
     }
 }
 

@@ -89,7 +89,8 @@ fn with_signs<E: Expression>(
     Ok(part)
 }
 
-fn both_boxed<E: Drop>(
+/// Two parts side by side, each on the heap.
+pub fn both_boxed<E: Drop>(
     alloc: Global,
     left: Kept<E>,
     right: Kept<E>,
@@ -99,6 +100,21 @@ fn both_boxed<E: Drop>(
     let left = boxed(alloc, left)?;
     let right = boxed(alloc, right)?;
     Ok(join(left, right))
+}
+
+/// Three parts side by side, each on the heap. Here a part that is given up is any `E`, where a caller would be proved over
+/// each form that an expression has.
+pub fn all_boxed<E: Drop>(
+    alloc: Global,
+    first: Kept<E>,
+    second: Kept<E>,
+    third: Kept<E>,
+) -> Result<Kept<((Boxed<E>, Boxed<E>), Boxed<E>)>, Memory>
+    ensures { IfOk result (λ r. r ≡ kept.join pair (kept.join pair first second) third) }
+{
+    let third = boxed(alloc, third)?;
+    let both = both_boxed(alloc, first, second)?;
+    Ok(join(both, third))
 }
 
 fn operated<E: Expression>(

@@ -12,8 +12,8 @@ ghost use Rattle.sn_expr_parser.specs.TagResidual.{Read, read, may_end, ends, Up
 ghost use Rattle.sn_expr_parser.specs.declared.tags.Frame.TheVariants.{Parens, Middle};
 ghost use Rattle.sn_expr_parser.specs.declared.tags.Mode.TheVariants.{Want, Have};
 
-use crate::level::{Expression, Level};
-use sn_ast::measure::{boxed, join, leaf, parens, raise};
+use crate::level::{Expression, Level, all_boxed};
+use sn_ast::measure::{leaf, parens, raise};
 use sn_ast::{Boxed, Infix, Kept, Measured, Operator, Sign, Symbol, TExpr, TForm, Terminal};
 use sn_list::Memory;
 use sn_stack::Stack;
@@ -129,10 +129,7 @@ fn conditional(
 ) -> Result<Kept<TExpr>, Memory>
     ensures { IfOk result (λ r. r ≡ with_condition kept at test middle right) }
 {
-    let test = boxed(alloc, test)?;
-    let middle = boxed(alloc, middle)?;
-    let right = boxed(alloc, right)?;
-    let Some(all) = join(join(test, middle), right) else {
+    let Some(all) = all_boxed(alloc, test, middle, right)? else {
         return Ok(None);
     };
     let ((test, middle), right) = all.value;
