@@ -11,11 +11,55 @@ const MOST_OPEN: u32 = 128;
 
 /// A part of a source with what the limits are on: its height, and how many counted parentheses are open at once
 /// within it at most.
-#[derive(Drop)]
 pub struct Measured<T> {
     pub value: T,
     pub height: u32,
     pub open_at_once: u32,
+}
+
+impl<T> Measured<T> {
+    /// The part, and its measure beside nothing.
+    pub fn into_parts(self) -> (T, Measured<()>)
+        ensures value { result.0 ≡ self.value }
+        ensures height { result.1.height ≡ self.height }
+        ensures open { result.1.open_at_once ≡ self.open_at_once }
+    {
+        let Measured {
+            value,
+            height,
+            open_at_once,
+        } = self;
+        let measure = Measured {
+            value: (),
+            height,
+            open_at_once,
+        };
+        (value, measure)
+    }
+}
+
+impl Measured<()> {
+    /// Something else with the same measure.
+    pub fn with<T>(self, value: T) -> Measured<T>
+        ensures { result ≡ record { value = value; height = self.height; open_at_once = self.open_at_once } }
+    {
+        Measured {
+            value,
+            height: self.height,
+            open_at_once: self.open_at_once,
+        }
+    }
+}
+
+/// Written out, so that a function that gives a part up calls this, and is not proved over each form of the part.
+impl<T: Drop> Drop for Measured<T> {
+    fn drop(self) {
+        let Measured {
+            value: _value,
+            height: _,
+            open_at_once: _,
+        } = self;
+    }
 }
 
 /// What a parser keeps of a part: nothing once it is past a limit, so no tree is ever higher than 64.
@@ -36,12 +80,12 @@ pub fn leaf<T>(value: T) -> Kept<T>
 pub fn join<A: Drop, B: Drop>(left: Kept<A>, right: Kept<B>) -> Kept<(A, B)>
     ensures { result ≡ kept.join pair left right }
 {
-    let left = left?;
-    let right = right?;
+    let (left, one) = left?.into_parts();
+    let (right, other) = right?.into_parts();
     Some(Measured {
-        value: (left.value, right.value),
-        height: left.height.max(right.height),
-        open_at_once: left.open_at_once.max(right.open_at_once),
+        value: (left, right),
+        height: one.height.max(other.height),
+        open_at_once: one.open_at_once.max(other.open_at_once),
     })
 }
 
@@ -53,10 +97,11 @@ pub fn raise<T: Drop>(part: Kept<T>) -> Kept<T>
     if part.height >= MOST_HEIGHT {
         return None;
     }
+    let (value, measure) = part.into_parts();
     Some(Measured {
-        value: part.value,
-        height: part.height + 1,
-        open_at_once: part.open_at_once,
+        value,
+        height: measure.height + 1,
+        open_at_once: measure.open_at_once,
     })
 }
 
@@ -68,10 +113,11 @@ pub fn parens<T: Drop>(part: Kept<T>) -> Kept<T>
     if part.open_at_once >= MOST_OPEN {
         return None;
     }
+    let (value, measure) = part.into_parts();
     Some(Measured {
-        value: part.value,
-        height: part.height,
-        open_at_once: part.open_at_once + 1,
+        value,
+        height: measure.height,
+        open_at_once: measure.open_at_once + 1,
     })
 }
 
@@ -82,12 +128,9 @@ pub fn boxed<T: Drop>(alloc: Global, part: Kept<T>) -> Result<Kept<Boxed<T>>, Me
     let Some(part) = part else {
         return Ok(None);
     };
-    let value = Boxed::new(alloc, part.value)?;
-    Ok(Some(Measured {
-        value,
-        height: part.height,
-        open_at_once: part.open_at_once,
-    }))
+    let (value, measure) = part.into_parts();
+    let value = Boxed::new(alloc, value)?;
+    Ok(Some(measure.with(value)))
 }
 
 /// No parts in a row.
@@ -104,12 +147,7 @@ pub fn append<T: Drop>(row: Kept<Seq<T>>, part: Kept<T>) -> Result<Kept<Seq<T>>,
     let Some(both) = join(row, part) else {
         return Ok(None);
     };
-    let (all, last) = both.value;
-    let mut all = all;
+    let ((mut all, last), measure) = both.into_parts();
     sn_stack::append(&mut all, last)?;
-    Ok(Some(Measured {
-        value: all,
-        height: both.height,
-        open_at_once: both.open_at_once,
-    }))
+    Ok(Some(measure.with(all)))
 }

@@ -5,7 +5,7 @@ ghost use Rattle.sn_ast.specs.Kept.{kept};
 
 use crate::machine::{Function, Head, Opened, Sequence};
 use sn_ast::measure::{append, join, no_row, raise};
-use sn_ast::{BExpr, BForm, BoxDecl, Decl, FunDecl, Kept, Measured};
+use sn_ast::{BExpr, BForm, BoxDecl, Decl, FunDecl, Kept};
 use sn_list::Memory;
 use std::alloc::Global;
 
@@ -13,17 +13,9 @@ impl Function {
     pub fn with_body(self, body: Kept<BExpr>) -> Kept<FunDecl>
         ensures { result ≡ kept.each (function_of self.name self.params) body }
     {
-        let body = body?;
+        let (body, measure) = body?.into_parts();
         let Function { name, params } = self;
-        Some(Measured {
-            value: FunDecl {
-                name,
-                params,
-                body: body.value,
-            },
-            height: body.height,
-            open_at_once: body.open_at_once,
-        })
+        Some(measure.with(FunDecl { name, params, body }))
     }
 }
 
@@ -38,18 +30,14 @@ impl Opened {
             input,
             outputs,
         } = head;
-        let (funs, body) = both.value;
-        raise(Some(Measured {
-            value: Decl::BoxDecl(BoxDecl {
-                name,
-                input,
-                outputs,
-                funs,
-                body,
-            }),
-            height: both.height,
-            open_at_once: both.open_at_once,
-        }))
+        let ((funs, body), measure) = both.into_parts();
+        raise(Some(measure.with(Decl::BoxDecl(BoxDecl {
+            name,
+            input,
+            outputs,
+            funs,
+            body,
+        }))))
     }
 }
 
@@ -81,13 +69,10 @@ impl Sequence {
         let Some(row) = append(so_far, part)? else {
             return Ok(None);
         };
-        Ok(raise(Some(Measured {
-            value: BExpr {
-                at,
-                form: BForm::Seq(row.value),
-            },
-            height: row.height,
-            open_at_once: row.open_at_once,
-        })))
+        let (row, measure) = row.into_parts();
+        Ok(raise(Some(measure.with(BExpr {
+            at,
+            form: BForm::Seq(row),
+        }))))
     }
 }

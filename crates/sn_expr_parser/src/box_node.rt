@@ -6,7 +6,7 @@ ghost use Rattle.sn_expr_parser.specs.BoxNodes.{node, with_row, is_close_bracket
 
 use crate::level::{Expression, all_boxed, both_boxed};
 use sn_ast::measure::{append, no_row, raise};
-use sn_ast::{BExpr, BForm, Boxed, Ident, Kept, Measured, Operator, Seq, Sign, Symbol, Terminal};
+use sn_ast::{BExpr, BForm, Boxed, Ident, Kept, Operator, Seq, Sign, Symbol, Terminal};
 use sn_list::Memory;
 use std::alloc::Global;
 
@@ -42,12 +42,8 @@ impl Head {
     pub fn with_row(self, row: Kept<Seq<BExpr>>) -> Kept<BExpr>
         ensures { result ≡ with_row self row }
     {
-        let row = row?;
-        raise(Some(Measured {
-            value: self.node(row.value),
-            height: row.height,
-            open_at_once: row.open_at_once,
-        }))
+        let (row, measure) = row?.into_parts();
+        raise(Some(measure.with(self.node(row))))
     }
 
     /// Whether the symbol closes the arguments.
@@ -129,13 +125,9 @@ pub fn binding(
     let Some(both) = both_boxed(alloc, bound, body)? else {
         return Ok(None);
     };
-    let (bound, body) = both.value;
+    let ((bound, body), measure) = both.into_parts();
     let form = BForm::Let(name, bound, body);
-    Ok(raise(Some(Measured {
-        value: BExpr { at, form },
-        height: both.height,
-        open_at_once: both.open_at_once,
-    })))
+    Ok(raise(Some(measure.with(BExpr { at, form }))))
 }
 
 /// `if test then first else last`, at its first token.
@@ -151,13 +143,9 @@ pub fn conditional(
     let Some(all) = all_boxed(alloc, test, first, last)? else {
         return Ok(None);
     };
-    let ((test, first), last) = all.value;
+    let (((test, first), last), measure) = all.into_parts();
     let form = BForm::If(test, first, last);
-    Ok(raise(Some(Measured {
-        value: BExpr { at, form },
-        height: all.height,
-        open_at_once: all.open_at_once,
-    })))
+    Ok(raise(Some(measure.with(BExpr { at, form }))))
 }
 
 /// The part alone where none stand before it, and else a sequence.
@@ -174,12 +162,9 @@ pub fn sequence(
     let Some(row) = append(so_far, part)? else {
         return Ok(None);
     };
-    let form = BForm::Seq(row.value);
-    Ok(raise(Some(Measured {
-        value: BExpr { at, form },
-        height: row.height,
-        open_at_once: row.open_at_once,
-    })))
+    let (row, measure) = row.into_parts();
+    let form = BForm::Seq(row);
+    Ok(raise(Some(measure.with(BExpr { at, form }))))
 }
 
 /// One more part of a sequence.

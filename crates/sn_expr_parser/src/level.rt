@@ -5,7 +5,7 @@ ghost use Rattle.sn_ast.specs.Operators.{Operations, with_sign, with_operator, w
 ghost use Rattle.sn_expr_parser.specs.Levels.{fresh, signed, operated, conjoined, disjoined, sum_of, or_in, with_next_sign, after_product, after_sum, after_comparison, after_and, after_or, after};
 
 use sn_ast::measure::{boxed, join, raise};
-use sn_ast::{Boxed, Infix, Kept, Measured, Operator, Sign};
+use sn_ast::{Boxed, Infix, Kept, Operator, Sign};
 use sn_list::Memory;
 use sn_stack::Stack;
 use std::alloc::Global;
@@ -66,11 +66,8 @@ fn with_sign<E: Expression>(
     let Some(part) = boxed(alloc, part)? else {
         return Ok(None);
     };
-    Ok(raise(Some(Measured {
-        value: E::sign(sign, at, part.value),
-        height: part.height,
-        open_at_once: part.open_at_once,
-    })))
+    let (part, measure) = part.into_parts();
+    Ok(raise(Some(measure.with(E::sign(sign, at, part)))))
 }
 
 /// The operand with the signs.
@@ -130,12 +127,8 @@ fn operated<E: Expression>(
     let Some(both) = both_boxed(alloc, left, right)? else {
         return Ok(None);
     };
-    let (left, right) = both.value;
-    Ok(raise(Some(Measured {
-        value: E::operator(operator, at, left, right),
-        height: both.height,
-        open_at_once: both.open_at_once,
-    })))
+    let ((left, right), measure) = both.into_parts();
+    Ok(raise(Some(measure.with(E::operator(operator, at, left, right)))))
 }
 
 fn conjoined<E: Expression>(
@@ -151,12 +144,8 @@ fn conjoined<E: Expression>(
     let Some(both) = both_boxed(alloc, left, right)? else {
         return Ok(None);
     };
-    let (left, right) = both.value;
-    Ok(raise(Some(Measured {
-        value: E::and(at, left, right),
-        height: both.height,
-        open_at_once: both.open_at_once,
-    })))
+    let ((left, right), measure) = both.into_parts();
+    Ok(raise(Some(measure.with(E::and(at, left, right)))))
 }
 
 fn disjoined<E: Expression>(
@@ -172,12 +161,8 @@ fn disjoined<E: Expression>(
     let Some(both) = both_boxed(alloc, left, right)? else {
         return Ok(None);
     };
-    let (left, right) = both.value;
-    Ok(raise(Some(Measured {
-        value: E::or(at, left, right),
-        height: both.height,
-        open_at_once: both.open_at_once,
-    })))
+    let ((left, right), measure) = both.into_parts();
+    Ok(raise(Some(measure.with(E::or(at, left, right)))))
 }
 
 impl<E: Expression> Level<E> {

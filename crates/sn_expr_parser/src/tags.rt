@@ -14,7 +14,7 @@ ghost use Rattle.sn_expr_parser.specs.declared.tags.Mode.TheVariants.{Want, Have
 
 use crate::level::{Expression, Level, all_boxed};
 use sn_ast::measure::{leaf, parens, raise};
-use sn_ast::{Boxed, Infix, Kept, Measured, Operator, Sign, Symbol, TExpr, TForm, Terminal};
+use sn_ast::{Boxed, Infix, Kept, Operator, Sign, Symbol, TExpr, TForm, Terminal};
 use sn_list::Memory;
 use sn_stack::Stack;
 use std::alloc::Global;
@@ -132,13 +132,9 @@ fn conditional(
     let Some(all) = all_boxed(alloc, test, middle, right)? else {
         return Ok(None);
     };
-    let ((test, middle), right) = all.value;
+    let (((test, middle), right), measure) = all.into_parts();
     let form = TForm::Cond(test, middle, right);
-    Ok(raise(Some(Measured {
-        value: TExpr { at, form },
-        height: all.height,
-        open_at_once: all.open_at_once,
-    })))
+    Ok(raise(Some(measure.with(TExpr { at, form }))))
 }
 
 /// An expression begins in one more frame.

@@ -9,9 +9,7 @@ ghost use Rattle.sn_type_parser.specs.Reads.{Read, read};
 
 use crate::items::{ItemParser, ItemStep, ItemStop};
 use sn_ast::measure::{append, no_row};
-use sn_ast::{
-    Bracket, ItemAt, Kept, Measured, NetExpr, NetForm, Symbol, TemplateAt, Terminal, Variant,
-};
+use sn_ast::{Bracket, ItemAt, Kept, NetExpr, NetForm, Symbol, TemplateAt, Terminal, Variant};
 use sn_list::{Memory, Seq};
 use sn_type_parser::{LabelParser, LabelStep, LabelStop};
 use std::alloc::Global;
@@ -267,30 +265,16 @@ fn after(
 fn with_place(at: u32, items: Kept<Seq<ItemAt>>) -> Kept<TemplateAt>
     ensures { result ≡ kept.each (template_at at) items }
 {
-    let items = items?;
-    Some(Measured {
-        value: TemplateAt {
-            items: items.value,
-            at,
-        },
-        height: items.height,
-        open_at_once: items.open_at_once,
-    })
+    let (items, measure) = items?.into_parts();
+    Some(measure.with(TemplateAt { items, at }))
 }
 
 fn filter(at: u32, pattern: Variant, templates: Kept<Seq<TemplateAt>>) -> Kept<NetExpr>
     ensures { result ≡ kept.each (filter_at at pattern) templates }
 {
-    let templates = templates?;
-    Some(Measured {
-        value: NetExpr {
-            at,
-            form: NetForm::Filter {
-                pattern,
-                templates: templates.value,
-            },
-        },
-        height: templates.height,
-        open_at_once: templates.open_at_once,
-    })
+    let (templates, measure) = templates?.into_parts();
+    Some(measure.with(NetExpr {
+        at,
+        form: NetForm::Filter { pattern, templates },
+    }))
 }

@@ -10,7 +10,7 @@ ghost use Rattle.sn_filter_parser.specs.declared.items.Mode.TheVariants.{First, 
 ghost use Rattle.sn_type_parser.specs.Reads.{Read, read};
 
 use sn_ast::measure::{append, leaf, no_row};
-use sn_ast::{Ident, ItemAt, ItemSource, Kept, LabelAt, Measured, Symbol, TExpr, Terminal};
+use sn_ast::{Ident, ItemAt, ItemSource, Kept, LabelAt, Symbol, TExpr, Terminal};
 use sn_expr_parser::{TagParser, TagStop};
 use sn_list::{Memory, Seq};
 use std::alloc::Global;
@@ -237,16 +237,12 @@ fn rename(new: Ident, old: Ident) -> Kept<ItemAt>
 fn compute(tag: Ident, expr: Kept<TExpr>) -> Kept<ItemAt>
     ensures { result ≡ kept.each (computed_item tag) expr }
 {
-    let expr = expr?;
-    Some(Measured {
-        value: ItemAt {
-            target: LabelAt {
-                tag: true,
-                name: tag,
-            },
-            source: ItemSource::Expr(expr.value),
+    let (expr, measure) = expr?.into_parts();
+    Some(measure.with(ItemAt {
+        target: LabelAt {
+            tag: true,
+            name: tag,
         },
-        height: expr.height,
-        open_at_once: expr.open_at_once,
-    })
+        source: ItemSource::Expr(expr),
+    }))
 }

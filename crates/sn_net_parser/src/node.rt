@@ -4,7 +4,7 @@ ghost use Rattle.sn_ast.specs.Networks.{sync_at, with_guarded_star, with_split, 
 ghost use Rattle.sn_net_parser.specs.Levels.{choice_node, identity_node, name_node, serial_node};
 
 use sn_ast::measure::{boxed, join, leaf, raise};
-use sn_ast::{Ident, Kept, Measured, NetExpr, NetForm, Seq, TExpr, Variant};
+use sn_ast::{Ident, Kept, NetExpr, NetForm, Seq, TExpr, Variant};
 use sn_list::Memory;
 use std::alloc::Global;
 
@@ -39,32 +39,21 @@ pub fn sync(at: u32, patterns: Seq<Variant>) -> Kept<NetExpr>
 pub fn serial(at: u32, row: Kept<Seq<NetExpr>>) -> Kept<NetExpr>
     ensures { result ≡ serial_node at row }
 {
-    let row = row?;
-    raise(Some(Measured {
-        value: NetExpr {
-            at,
-            form: NetForm::Serial { parts: row.value },
-        },
-        height: row.height,
-        open_at_once: row.open_at_once,
-    }))
+    let (row, measure) = row?.into_parts();
+    raise(Some(measure.with(NetExpr {
+        at,
+        form: NetForm::Serial { parts: row },
+    })))
 }
 
 pub fn choice(det: bool, at: u32, row: Kept<Seq<NetExpr>>) -> Kept<NetExpr>
     ensures { result ≡ choice_node det at row }
 {
-    let row = row?;
-    raise(Some(Measured {
-        value: NetExpr {
-            at,
-            form: NetForm::Choice {
-                det,
-                branches: row.value,
-            },
-        },
-        height: row.height,
-        open_at_once: row.open_at_once,
-    }))
+    let (row, measure) = row?.into_parts();
+    raise(Some(measure.with(NetExpr {
+        at,
+        form: NetForm::Choice { det, branches: row },
+    })))
 }
 
 pub fn star(
@@ -79,17 +68,14 @@ pub fn star(
     let Some(body) = boxed(alloc, body)? else {
         return Ok(None);
     };
+    let (body, measure) = body.into_parts();
     let form = NetForm::Star {
         det,
-        body: body.value,
+        body,
         exit,
         guard: None,
     };
-    Ok(raise(Some(Measured {
-        value: NetExpr { at, form },
-        height: body.height,
-        open_at_once: body.open_at_once,
-    })))
+    Ok(raise(Some(measure.with(NetExpr { at, form }))))
 }
 
 pub fn guarded_star(
@@ -106,18 +92,14 @@ pub fn guarded_star(
     let Some(both) = join(body, guard) else {
         return Ok(None);
     };
-    let (body, guard) = both.value;
+    let ((body, guard), measure) = both.into_parts();
     let form = NetForm::Star {
         det,
         body,
         exit,
         guard: Some(guard),
     };
-    Ok(raise(Some(Measured {
-        value: NetExpr { at, form },
-        height: both.height,
-        open_at_once: both.open_at_once,
-    })))
+    Ok(raise(Some(measure.with(NetExpr { at, form }))))
 }
 
 pub fn split(
@@ -132,14 +114,7 @@ pub fn split(
     let Some(body) = boxed(alloc, body)? else {
         return Ok(None);
     };
-    let form = NetForm::Split {
-        det,
-        body: body.value,
-        tag,
-    };
-    Ok(raise(Some(Measured {
-        value: NetExpr { at, form },
-        height: body.height,
-        open_at_once: body.open_at_once,
-    })))
+    let (body, measure) = body.into_parts();
+    let form = NetForm::Split { det, body, tag };
+    Ok(raise(Some(measure.with(NetExpr { at, form }))))
 }

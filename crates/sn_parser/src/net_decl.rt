@@ -7,7 +7,7 @@ ghost use Rattle.sn_parser.specs.declared.machine.Mode.TheVariants as some_mode;
 
 use crate::machine::{Around, Mode, OpenNet, Parser, Stop};
 use sn_ast::measure::{join, no_row, raise};
-use sn_ast::{Decl, Ident, Kept, Keyword, Measured, NetDecl, NetExpr, Seq, Sig, Symbol, Terminal};
+use sn_ast::{Decl, Ident, Kept, Keyword, NetDecl, NetExpr, Seq, Sig, Symbol, Terminal};
 use sn_list::Memory;
 use sn_net_parser::{NetParser, NetStop};
 use sn_type_parser::{SigParser, SigStop};
@@ -147,15 +147,11 @@ fn net_decl(net: OpenNet, network: Kept<NetExpr>) -> Kept<Decl>
 {
     let OpenNet { name, sig, decls } = net;
     let both = join(decls, network)?;
-    let (decls, connect) = both.value;
-    raise(Some(Measured {
-        value: Decl::NetDecl(NetDecl {
-            name,
-            sig,
-            decls,
-            connect,
-        }),
-        height: both.height,
-        open_at_once: both.open_at_once,
-    }))
+    let ((decls, connect), measure) = both.into_parts();
+    raise(Some(measure.with(Decl::NetDecl(NetDecl {
+        name,
+        sig,
+        decls,
+        connect,
+    }))))
 }

@@ -80,7 +80,8 @@ fn whole(alloc: Global, decls: Seq<Outermost>) -> Result<Program, ParseFault>
         let Some(decl) = decl else {
             return Err(ParseFault::TooDeep(at));
         };
-        sn_stack::append(&mut whole, decl.value)?;
+        let (decl, _) = decl.into_parts();
+        sn_stack::append(&mut whole, decl)?;
     }
     Ok(Program { decls: whole })
 }
