@@ -129,10 +129,19 @@ enum Mode {
 }
 
 /// A parser of an expression in a box, which is given one token at a time.
-#[derive(Drop)]
 pub struct BoxParser {
     frames: Stack<Frame>,
     mode: Mode,
+}
+
+/// Written out, so that whoever gives a parser up calls this, and is not proved over each form of it.
+impl Drop for BoxParser {
+    fn drop(self) {
+        let BoxParser {
+            frames: _frames,
+            mode: _mode,
+        } = self;
+    }
 }
 
 impl From<Memory> for BoxStop {

@@ -65,10 +65,19 @@ enum Mode {
 }
 
 /// A parser of an expression over tags, which is given one token at a time.
-#[derive(Drop)]
 pub struct TagParser {
     frames: Stack<Frame>,
     mode: Mode,
+}
+
+/// Written out, so that whoever gives a parser up calls this, and is not proved over each form of it.
+impl Drop for TagParser {
+    fn drop(self) {
+        let TagParser {
+            frames: _frames,
+            mode: _mode,
+        } = self;
+    }
 }
 
 impl From<Memory> for TagStop {

@@ -67,10 +67,19 @@ enum Mode {
 
 /// Reads `pattern -> template; template ..` and the closing bracket of a filter, after the opening one, which is at
 /// the place.
-#[derive(Drop)]
 pub struct FilterParser {
     at: u32,
     mode: Mode,
+}
+
+/// Written out, so that whoever gives a parser up calls this, and is not proved over each form of it.
+impl Drop for FilterParser {
+    fn drop(self) {
+        let FilterParser {
+            at: _at,
+            mode: _mode,
+        } = self;
+    }
 }
 
 /// What a token led to.

@@ -52,10 +52,19 @@ enum Mode {
 }
 
 /// Reads `item, item, ..` and the closing brace of a template, after the opening one.
-#[derive(Drop)]
 pub struct ItemParser {
     items: Kept<Seq<ItemAt>>,
     mode: Mode,
+}
+
+/// Written out, so that whoever gives a parser up calls this, and is not proved over each form of it.
+impl Drop for ItemParser {
+    fn drop(self) {
+        let ItemParser {
+            items: _items,
+            mode: _mode,
+        } = self;
+    }
 }
 
 /// What a token led to.

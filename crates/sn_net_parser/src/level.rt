@@ -13,10 +13,19 @@ type Row = Kept<Seq<NetExpr>>;
 
 /// An open level of parentheses: the finished parts of its serial list and the finished branches of its choice, each
 /// with the place of the first operator.
-#[derive(Drop)]
 pub struct Level {
     pub chain: Option<(u32, Row)>,
     pub choice: Option<(bool, u32, Row)>,
+}
+
+/// Written out, so that whoever gives a level up calls this, and is not proved over each form of it.
+impl Drop for Level {
+    fn drop(self) {
+        let Level {
+            chain: _chain,
+            choice: _choice,
+        } = self;
+    }
 }
 
 fn serial_end(chain: Option<(u32, Row)>, part: Kept<NetExpr>) -> Result<Kept<NetExpr>, Memory>

@@ -39,11 +39,21 @@ enum Mode {
 }
 
 /// Reads `label, label, ..` and the closing bracket, after the opening one.
-#[derive(Drop)]
 pub struct LabelParser {
     bracket: Bracket,
     labels: Seq<LabelAt>,
     mode: Mode,
+}
+
+/// Written out, so that whoever gives a parser up calls this, and is not proved over each form of it.
+impl Drop for LabelParser {
+    fn drop(self) {
+        let LabelParser {
+            bracket: _bracket,
+            labels: _labels,
+            mode: _mode,
+        } = self;
+    }
 }
 
 /// What a token led to.

@@ -33,11 +33,20 @@ impl From<Memory> for SigStop {
 }
 
 /// Reads `type -> type`, or the name of a signature, and ends at the `;` or `)` that follows.
-#[derive(Drop)]
 pub struct SigParser {
     /// The input type, once its arrow was read.
     input: Option<Seq<TypePart>>,
     types: TypeParser,
+}
+
+/// Written out, so that whoever gives a parser up calls this, and is not proved over each form of it.
+impl Drop for SigParser {
+    fn drop(self) {
+        let SigParser {
+            input: _input,
+            types: _types,
+        } = self;
+    }
 }
 
 impl SigParser {

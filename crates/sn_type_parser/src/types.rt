@@ -48,10 +48,19 @@ enum Mode {
 }
 
 /// Reads `part | part | ..`, and ends at the `;`, `)` or `->` that follows.
-#[derive(Drop)]
 pub struct TypeParser {
     parts: Seq<TypePart>,
     mode: Mode,
+}
+
+/// Written out, so that whoever gives a parser up calls this, and is not proved over each form of it.
+impl Drop for TypeParser {
+    fn drop(self) {
+        let TypeParser {
+            parts: _parts,
+            mode: _mode,
+        } = self;
+    }
 }
 
 impl TypeParser {
