@@ -289,7 +289,10 @@ impl Parser {
         let Parser { around, mode } = self;
         match mode {
             Mode::Want => around.end(),
-            _ => None,
+            _ => {
+                drop(mode);
+                None
+            }
         }
     }
 }
