@@ -12,7 +12,7 @@ use sn_net::BoxProgram;
 use sn_output::line_of;
 use sn_parser::parse;
 use sn_record::{Item, Items, Record, Text};
-use sn_scope::{Resolved, resolve};
+use sn_scope::{Parts, Resolved, resolve};
 use std::alloc::Global;
 
 /// The most bytes of a source, with the network that is added to it.
@@ -108,7 +108,7 @@ fn answer_line(
 
 fn answer(alloc: Global, row: &str, times: u64) -> Result<Text, Refusal> {
     let row = Row::of(row)?;
-    let Resolved { names, boxes, .. } = resolved(alloc, row.source)?;
+    let Parts { names, boxes, .. } = resolved(alloc, row.source)?.into_parts();
     let input = read(alloc, row.record, names)?;
     answer_line(alloc, boxes.as_slice(), &input, row.fuel, times)
 }

@@ -11,7 +11,7 @@ use sn_net::{BoxProgram, Net};
 use sn_output::line_of;
 use sn_parser::parse;
 use sn_record::{Record, Text};
-use sn_scope::{Resolved, ScopeFault, resolve};
+use sn_scope::{Parts, Resolved, ScopeFault, resolve};
 use sn_stack::append;
 use std::alloc::Global;
 
@@ -125,12 +125,12 @@ fn given_line(
 
 /// What the main network of the row answers to its input, as it is shown.
 pub fn answer_line(alloc: Global, row: &Row) -> Result<Text, Refusal> {
-    let Resolved {
+    let Parts {
         names,
         boxes,
         claims,
         main,
-    } = resolved(alloc, row.source.as_str())?;
+    } = resolved(alloc, row.source.as_str())?.into_parts();
     let input = read(alloc, row.input.as_str(), names)?;
     match claims.as_slice().get(main as usize) {
         Some(claim) => given_line(alloc, row, boxes.as_slice(), &claim.net, input),

@@ -7,11 +7,14 @@ use std::marker::Model;
 /// Why a part of a source is refused.
 #[derive(Clone, Copy, PartialEq, Eq, Debug)]
 pub enum Reason {
-    /// A name that isn't visible or isn't of the kind wanted, or a label that the pattern doesn't have.
+    /// A name that isn't visible or isn't of the kind wanted, or a label that the pattern doesn't have. In a box: a name that
+    /// is no variable there, or a call of no function.
     Unknown,
-    /// A second declaration of a name in one scope, or a second equal label.
+    /// A second declaration of a name in one scope, or a second equal label. In a box: a second function of one name, one with
+    /// the name of a built-in function, or a second equal parameter.
     Twice,
-    /// A number of parts that is not allowed.
+    /// A number of templates, patterns or branches that is not allowed. In a box: more than 8 parameters, arguments in another
+    /// number than the function takes, or an output tuple that is not there or has more or fewer labels.
     Arity,
     /// A tag of a guard that its exit pattern doesn't have.
     GuardTag,

@@ -1,3 +1,4 @@
 pub mod Components
 pub mod Meaning
+pub mod Ranges
 pub mod Run

@@ -1,22 +1,32 @@
 -- Runs: a network with all that it needs.
-use Rattle.std.specs.Prelude.{ℕ, ◌≤◌, List, map}
+use Rattle.std.specs.Prelude.{ℕ, List, map}
+use Rattle.sn_record.specs.declared.item.Item.{Item}
+use Rattle.sn_net.specs.declared.expr.BoxProgram.{BoxProgram}
+use Rattle.sn_net.specs.declared.net.Net.{Net}
 use Rattle.sn_net.specs.Item.{ModelItem, modelled}
-use Rattle.sn_net.specs.WellFormed.{IsWellFormed}
 use Rattle.sn_model.specs.declared.run.Run.{Run}
-use Rattle.sn_model.specs.declared.run.TheConstants.{MOST_FUEL, MOST_REPLICAS, LONGEST_QUEUE}
 use Rattle.sn_model.specs.Meaning.{Setting, MayAnswerList, one_list}
 
--- n is at least 1 and at most the limit
-pub record IsWithin (n limit : ℕ) : Type 0 where
-  pub some : 1 ≤ n
-  pub few : n ≤ limit
+-- its network, and the boxes that this calls
+abbrev pub net_of : Run → Net
+net_of run = run.net
 
--- its numbers are in their ranges, and its network fits its boxes
-pub record IsRun (run : Run) : Type 0 where
-  pub fuel : IsWithin run.fuel MOST_FUEL
-  pub depth : IsWithin run.depth MOST_REPLICAS
-  pub queue : IsWithin run.queue LONGEST_QUEUE
-  pub formed : IsWellFormed run.boxes run.net
+abbrev pub boxes_of : Run → List BoxProgram
+boxes_of run = run.boxes
+
+-- units of fuel for each call, how many replicas a star may have, and how many entries a queue holds
+abbrev pub fuel_of : Run → ℕ
+fuel_of run = run.fuel
+
+abbrev pub depth_of : Run → ℕ
+depth_of run = run.depth
+
+abbrev pub queue_of : Run → ℕ
+queue_of run = run.queue
+
+-- what flows in, in order
+abbrev pub items_of : Run → List Item
+items_of run = run.items
 
 -- what its network is run with
 abbrev pub setting_of : Run → Setting

@@ -32,3 +32,7 @@ IsSound boxes (Net-F.Split place merge body id) = Unit {0}
 pub record IsWellFormed (boxes : List BoxProgram) (net : Net) : Type 0 where
   pub closed : All IsClosedBox boxes
   pub sound : every-Net (IsSound boxes) net
+
+-- the same as a fact with one proof alone, which a type may keep
+abbrev pub FitsBoxes : List BoxProgram → Net → Type 0
+FitsBoxes boxes net = ∥ IsWellFormed boxes net ∥₁

@@ -6,7 +6,7 @@ use Rattle.sn_record.specs.declared.item.Item.{Item}
 use Rattle.sn_net.specs.Item.{ModelItem, Rec, Fault, Stuck, modelled}
 use Rattle.sn_model.specs.declared.run.Run.{Run}
 use Rattle.sn_model.specs.Meaning.{one_list}
-use Rattle.sn_model.specs.Run.{given, setting_of}
+use Rattle.sn_model.specs.Run.{given, items_of, net_of, setting_of}
 use Rattle.sn_once.specs.declared.fault.FeedFault.{FeedFault}
 use Rattle.sn_once.specs.declared.fault.FeedFault.TheVariants.{NoRoute, Memory}
 use Rattle.sn_once.specs.declared.once.Once.{Once}
@@ -25,33 +25,33 @@ whole (Stuck place ∷ xs) none = cc
 
 module _ (once : Once) (run : Run) (of : IsOf once run) where
   -- what an engine of the run still gives
-  pub rest_is : (xs : List ModelItem) → rest_of once xs ≡ one_list (setting_of run) run.net xs
-  rest_is xs = ap (λ (r : Run). one_list (setting_of r) r.net xs) of.made
+  pub rest_is : (xs : List ModelItem) → rest_of once xs ≡ one_list (setting_of run) (net_of run) xs
+  rest_is xs = ap (λ (r : Run). one_list (setting_of r) (net_of r) xs) of.made
 
-  pub rest_more : (x : ModelItem) (xs : List ModelItem) → rest_of once (x ∷ xs) ≡ item_answer (setting_of run) run.net x ++ rest_of once xs
+  pub rest_more : (x : ModelItem) (xs : List ModelItem) → rest_of once (x ∷ xs) ≡ item_answer (setting_of run) (net_of run) x ++ rest_of once xs
   rest_more x xs =
-      rest_is (x ∷ xs) ∙ answers_more (setting_of run) run.net of.straight x xs ∙ ap (λ ys. item_answer (setting_of run) run.net x ++ ys) (sym (rest_is xs))
+      rest_is (x ∷ xs) ∙ answers_more (setting_of run) (net_of run) of.straight x xs ∙ ap (λ ys. item_answer (setting_of run) (net_of run) x ++ ys) (sym (rest_is xs))
 
-  pub rest_one : (x : ModelItem) → rest_of once (x ∷ []) ≡ item_answer (setting_of run) run.net x
-  rest_one x = rest_is (x ∷ []) ∙ answers_one (setting_of run) run.net of.straight x
+  pub rest_one : (x : ModelItem) → rest_of once (x ∷ []) ≡ item_answer (setting_of run) (net_of run) x
+  rest_one x = rest_is (x ∷ []) ∙ answers_one (setting_of run) (net_of run) of.straight x
 
   pub rest_none : rest_of once [] ≡ []
-  rest_none = rest_is [] ∙ answers_list (setting_of run) run.net of.straight []
+  rest_none = rest_is [] ∙ answers_list (setting_of run) (net_of run) of.straight []
 
   -- what was given for an item, and what is still given then
-  pub fed : (x : ModelItem) (out more : List Item) → out ≡ [] → map modelled more ≡ map modelled out ++ before_stuck (item_answer (setting_of run) run.net x)
-      → None ≡ first_stuck (item_answer (setting_of run) run.net x) → (xs : List ModelItem) → rest_of once (x ∷ xs) ≡ map modelled more ++ rest_of once xs
+  pub fed : (x : ModelItem) (out more : List Item) → out ≡ [] → map modelled more ≡ map modelled out ++ before_stuck (item_answer (setting_of run) (net_of run) x)
+      → None ≡ first_stuck (item_answer (setting_of run) (net_of run) x) → (xs : List ModelItem) → rest_of once (x ∷ xs) ≡ map modelled more ++ rest_of once xs
   fed x out more empty gave none xs =
       rest_more x xs ∙ ap (λ ys. ys ++ rest_of once xs)
-      (sym (gave ∙ ap (λ (ys : List Item). map modelled ys ++ before_stuck (item_answer (setting_of run) run.net x)) empty ∙ whole (item_answer (setting_of run) run.net x) (sym none)))
+      (sym (gave ∙ ap (λ (ys : List Item). map modelled ys ++ before_stuck (item_answer (setting_of run) (net_of run) x)) empty ∙ whole (item_answer (setting_of run) (net_of run) x) (sym none)))
 
-  pub fed_routed : (x : ModelItem) (stuck : Option ℕ) → stuck ≡ first_stuck (item_answer (setting_of run) run.net x) → first_stuck (rest_of once (x ∷ [])) ≡ stuck
+  pub fed_routed : (x : ModelItem) (stuck : Option ℕ) → stuck ≡ first_stuck (item_answer (setting_of run) (net_of run) x) → first_stuck (rest_of once (x ∷ [])) ≡ stuck
   fed_routed x stuck is = ap first_stuck (rest_one x) ∙ sym is
 
   -- what is told of an item is told of more items
   pub tells_on : (x : ModelItem) (xs : List ModelItem) (fault : FeedFault) → TellsFirst (rest_of once (x ∷ [])) fault → TellsFirst (rest_of once (x ∷ xs)) fault
   tells_on x xs (NoRoute place) tells =
-      ap first_stuck (rest_more x xs) ∙ (let here = sym (ap first_stuck (rest_one x)) ∙ tells in first-front (item_answer (setting_of run) run.net x) (rest_of once xs) (ap is_some here) ∙ here)
+      ap first_stuck (rest_more x xs) ∙ (let here = sym (ap first_stuck (rest_one x)) ∙ tells in first-front (item_answer (setting_of run) (net_of run) x) (rest_of once xs) (ap is_some here) ∙ here)
   tells_on x xs Memory tells = tt
 
 -- what was given before has nothing stuck
@@ -68,9 +68,9 @@ module _ (run : Run) (items : List Item) where
   abbrev pub IsSoFar : Once → List Item → ℕ → Type 0
   IsSoFar once out i = given run ≡ map modelled out ++ rest_of once (map modelled (drop i items))
 
-  pub at_first : (once : Once) (out : List Item) → IsOf once run → items ≡ run.items → out ≡ [] → IsSoFar once out 0
+  pub at_first : (once : Once) (out : List Item) → IsOf once run → items ≡ items_of run → out ≡ [] → IsSoFar once out 0
   at_first once out of same empty =
-      sym (ap (λ (ys : List Item). map modelled ys ++ rest_of once (map modelled items)) empty ∙ rest_is once run of (map modelled items) ∙ ap (λ (ys : List Item). one_list (setting_of run) run.net (map modelled ys)) same)
+      sym (ap (λ (ys : List Item). map modelled ys ++ rest_of once (map modelled items)) empty ∙ rest_is once run of (map modelled items) ∙ ap (λ (ys : List Item). one_list (setting_of run) (net_of run) (map modelled ys)) same)
 
   pub with_more : (once next : Once) (out more new : List Item) (i : ℕ) (item copy : Item) → i < length items → item ≡ get_or items i item → copy ≡ item
       → IsSoFar once out i → ((xs : List ModelItem) → rest_of once (modelled copy ∷ xs) ≡ map modelled more ++ rest_of next xs) → new ≡ out ++ more → IsSoFar next new (i + 1)

@@ -12,14 +12,13 @@ use Rattle.sn_net.specs.declared.expr.BoxProgram.{BoxProgram}
 use Rattle.sn_net.specs.declared.filter.Filter.{Filter}
 use Rattle.sn_net.specs.declared.net.Net.{Net}
 use Rattle.sn_net.specs.declared.net.Net.TheOpen.{Net-F}
-use Rattle.sn_net.specs.declared.net.Net.TheVariants.{Box, Filter as FilterLeaf, Serial, rolls-Box, rolls-Filter, rolls-Serial}
+use Rattle.sn_net.specs.declared.net.Net.TheVariants.{Serial, rolls-Serial}
 use Rattle.sn_net.specs.Answer.{filter_answer}
 use Rattle.sn_net.specs.BoxEvaluation.{box_answer}
 use Rattle.sn_net.specs.Face.{variant_of}
-use Rattle.sn_net.specs.Filter.{IsClosed}
 use Rattle.sn_net.specs.Item.{ModelItem, Fault, Stuck, modelled}
-use Rattle.sn_net.specs.WellFormed.{IsWellFormed}
-use Rattle.sn_net.proofs.Sound.{level_sound, parts_formed}
+use Rattle.sn_net.specs.WellFormed.{FitsBoxes}
+use Rattle.sn_net.proofs.Fits.{parts_fit}
 use Rattle.sn_once.specs.Straight.{is_straight}
 use Rattle.sn_once.proofs.Answers.{parts_straight}
 use Rattle.sn_model.specs.Components.{answering, box_item, call_record, filter_item}
@@ -60,30 +59,23 @@ module _ (boxes : List BoxProgram) (fuel place number : ℕ) (program : BoxProgr
   pub box_refuses : ¬ Matches r (variant_of program.input) → box_item boxes fuel place number (modelled q) ≡ Stuck place ∷ []
   box_refuses apart = called ∙ where_none r (variant_of program.input) _ _ apart
 
--- the parts of a well-formed network
+-- the parts of a straight network that fits the boxes
 module _ (boxes : List BoxProgram) where
-  pub box_there : (place number : ℕ) → IsWellFormed boxes (Box place number) → number < length boxes
-  box_there place number formed = level_sound boxes (Net-F.Box place number) (subst (IsWellFormed boxes) (sym (rolls-Box place number)) formed)
+  both_fit : (left right : Net) → FitsBoxes boxes (Serial left right) → FitsBoxes boxes left × FitsBoxes boxes right
+  both_fit left right fits =
+      let parts = parts_fit boxes (Net-F.Serial left right) (subst (FitsBoxes boxes) (sym (rolls-Serial left right)) fits) in
+      (All-head (FitsBoxes boxes) left (right ∷ []) parts, All-head (FitsBoxes boxes) right [] (All-tail (FitsBoxes boxes) left (right ∷ []) parts))
 
-  pub filter_closed : (f : Filter) → IsWellFormed boxes (FilterLeaf f) → IsClosed f
-  filter_closed f formed = level_sound boxes (Net-F.Filter f) (subst (IsWellFormed boxes) (sym (rolls-Filter f)) formed)
-
-  pub both_formed : (left right : Net) → IsWellFormed boxes (Serial left right) → IsWellFormed boxes left × IsWellFormed boxes right
-  both_formed left right formed =
-      let parts = parts_formed boxes (Net-F.Serial left right) (subst (IsWellFormed boxes) (sym (rolls-Serial left right)) formed) in
-      (All-head (IsWellFormed boxes) left (right ∷ []) parts, All-head (IsWellFormed boxes) right [] (All-tail (IsWellFormed boxes) left (right ∷ []) parts))
-
-  -- the parts of a straight one are straight and well formed
-  pub left_part : (net left right l : Net) → net ≡ Serial left right → l ≡ left → IsWellFormed boxes net → IsTrue (is_straight net) → IsWellFormed boxes l × IsTrue (is_straight l)
-  left_part net left right l is is_left formed straight =
-      subst (λ n. IsWellFormed boxes n × IsTrue (is_straight n)) (sym is_left) (
-        (both_formed left right (subst (IsWellFormed boxes) is formed)).0,
+  pub left_part : (net left right l : Net) → net ≡ Serial left right → l ≡ left → FitsBoxes boxes net → IsTrue (is_straight net) → FitsBoxes boxes l × IsTrue (is_straight l)
+  left_part net left right l is is_left fits straight =
+      subst (λ n. FitsBoxes boxes n × IsTrue (is_straight n)) (sym is_left) (
+        (both_fit left right (subst (FitsBoxes boxes) is fits)).0,
         (parts_straight left right (subst (λ n. IsTrue (is_straight n)) is straight)).0,
       )
 
-  pub right_part : (net left right r : Net) → net ≡ Serial left right → r ≡ right → IsWellFormed boxes net → IsTrue (is_straight net) → IsWellFormed boxes r × IsTrue (is_straight r)
-  right_part net left right r is is_right formed straight =
-      subst (λ n. IsWellFormed boxes n × IsTrue (is_straight n)) (sym is_right) (
-        (both_formed left right (subst (IsWellFormed boxes) is formed)).1,
+  pub right_part : (net left right r : Net) → net ≡ Serial left right → r ≡ right → FitsBoxes boxes net → IsTrue (is_straight net) → FitsBoxes boxes r × IsTrue (is_straight r)
+  right_part net left right r is is_right fits straight =
+      subst (λ n. FitsBoxes boxes n × IsTrue (is_straight n)) (sym is_right) (
+        (both_fit left right (subst (FitsBoxes boxes) is fits)).1,
         (parts_straight left right (subst (λ n. IsTrue (is_straight n)) is straight)).1,
       )

@@ -7,10 +7,10 @@ use Rattle.sn_net.specs.declared.net.Net.TheFolds.{every_made-Net}
 use Rattle.sn_net.specs.declared.net.Net.TheVariants.{Filter as FilterLeaf, rolls-Filter}
 use Rattle.sn_net.specs.Boxes.{IsClosedBox}
 use Rattle.sn_net.specs.Filter.{IsClosed}
-use Rattle.sn_net.specs.WellFormed.{IsSound, IsWellFormed}
+use Rattle.sn_net.specs.WellFormed.{FitsBoxes, IsSound, IsWellFormed}
 
 -- it is well formed where the filter is closed
-pub single_formed : (f : Filter) → IsClosed f → IsWellFormed [] (FilterLeaf f)
-single_formed f closed =
-    subst (IsWellFormed []) (rolls-Filter f)
-    (record { closed = All-nil IsClosedBox; sound = every_made-Net (IsSound []) (Net-F.Filter f) (Net-F.Filter f) refl closed })
+pub single_fits : (f : Filter) → IsClosed f → FitsBoxes [] (FilterLeaf f)
+single_fits f closed =
+    ∣ subst (IsWellFormed []) (rolls-Filter f)
+    (record { closed = All-nil IsClosedBox; sound = every_made-Net (IsSound []) (Net-F.Filter f) (Net-F.Filter f) refl closed }) ∣₁

@@ -1,7 +1,7 @@
 ghost use Rattle.std.specs.Prelude.{◌≡◌, ◌++◌, ◌∷◌, [], None, IfErr, IfOk, IsTrue, List, OnOk, map};
 ghost use Rattle.sn_net.specs.Item.{ModelItem, modelled};
 ghost use Rattle.sn_model.specs.Meaning.{one_list};
-ghost use Rattle.sn_model.specs.Run.{IsRun, given, setting_of};
+ghost use Rattle.sn_model.specs.Run.{given, net_of, setting_of};
 ghost use Rattle.sn_once.specs.Rest.{IsOf, rest_of};
 ghost use Rattle.sn_once.specs.Straight.{is_straight};
 ghost use Rattle.sn_once.specs.Stuck.{TellsFirst, first_stuck};
@@ -23,10 +23,9 @@ pub struct Once {
 impl Once {
     /// An engine to which no item was fed yet.
     pub fn new(_alloc: Global, run: &Run) -> Result<Once, Memory>
-        requires is_run { IsRun run.now }
-        requires straight { IsTrue (is_straight run.now.net) }
+        requires straight { IsTrue (is_straight (net_of run.now)) }
         ensures run { IfOk result (λ once. IsOf once run.now) }
-        ensures rest { IfOk result (λ once. (xs : List ModelItem) → rest_of once xs ≡ one_list (setting_of run.now) run.now.net xs) }
+        ensures rest { IfOk result (λ once. (xs : List ModelItem) → rest_of once xs ≡ one_list (setting_of run.now) (net_of run.now) xs) }
     {
         Ok(Once {
             run: Snapshot::of(run),
@@ -43,7 +42,7 @@ impl Once {
         ensures no_route { IfErr result (TellsFirst (rest_of self (modelled item ∷ []))) }
     {
         let mut given = Items::new(alloc);
-        match pass(alloc, run, &run.net, &item, &mut given)? {
+        match pass(alloc, run, run.net(), &item, &mut given)? {
             Some(place) => Err(FeedFault::NoRoute(place)),
             None => Ok((self, given)),
         }
@@ -52,15 +51,14 @@ impl Once {
 
 /// What a run gives on one thread. Where a record has no route, the whole answer is dropped.
 pub fn run_once(alloc: Global, run: &Run) -> Result<Items, FeedFault>
-    requires is_run { IsRun run.now }
-    requires straight { IsTrue (is_straight run.now.net) }
+    requires straight { IsTrue (is_straight (net_of run.now)) }
     ensures given { IfOk result (λ ys. map modelled ys ≡ given run.now) }
     ensures routed { OnOk result (first_stuck (given run.now) ≡ None) }
     ensures no_route { IfErr result (TellsFirst (given run.now)) }
 {
     let mut once = Once::new(alloc, run)?;
     let mut out = Items::new(alloc);
-    for item in run.items.as_slice() {
+    for item in run.items().as_slice() {
         let (next, given) = once.feed(alloc, run, item.copy(alloc)?)?;
         once = next;
         append_all(&mut out, given)?;

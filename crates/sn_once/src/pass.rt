@@ -4,9 +4,9 @@ ghost use Rattle.sn_net.specs.Face.{variant_of as labels_of};
 ghost use Rattle.sn_net.specs.Filter.{IsClosed};
 ghost use Rattle.sn_net.specs.Item as model;
 ghost use Rattle.sn_net.specs.Item.{modelled};
-ghost use Rattle.sn_net.specs.WellFormed.{IsWellFormed};
+ghost use Rattle.sn_net.specs.WellFormed.{FitsBoxes};
 ghost use Rattle.sn_model.specs.Components.{box_item, filter_item};
-ghost use Rattle.sn_model.specs.Run.{setting_of};
+ghost use Rattle.sn_model.specs.Run.{boxes_of, fuel_of, setting_of};
 ghost use Rattle.sn_once.specs.Answer.{item_answer};
 ghost use Rattle.sn_once.specs.Straight.{is_straight};
 ghost use Rattle.sn_once.specs.Stuck.{before_stuck, first_stuck};
@@ -84,19 +84,19 @@ fn pass_box(
     item: &Item,
     out: &mut Items,
 ) -> Result<Option<u32>, Memory>
-    requires { number < length run.now.boxes }
-    ensures given { OnOk result (map modelled out.new ≡ map modelled out.old ++ before_stuck (box_item run.now.boxes run.now.fuel place number (modelled item.now))) }
-    ensures stuck { IfOk result (λ stuck. stuck ≡ first_stuck (box_item run.now.boxes run.now.fuel place number (modelled item.now))) }
+    requires { number < length (boxes_of run.now) }
+    ensures given { OnOk result (map modelled out.new ≡ map modelled out.old ++ before_stuck (box_item (boxes_of run.now) (fuel_of run.now) place number (modelled item.now))) }
+    ensures stuck { IfOk result (λ stuck. stuck ≡ first_stuck (box_item (boxes_of run.now) (fuel_of run.now) place number (modelled item.now))) }
 {
     match item {
         Item::Fault(fault) => pass_fault(*fault, out),
         Item::Rec(taken) => {
-            let program = run.boxes.at(number as usize);
+            let program = run.boxes().at(number as usize);
             let input = variant_of(alloc, program.input.as_slice())?;
             if !taken.matches(&input) {
                 return Ok(Some(place));
             }
-            append_all(out, call(alloc, program, place, taken, run.fuel)?)?;
+            append_all(out, call(alloc, program, place, taken, run.fuel())?)?;
             Ok(None)
         }
     }
@@ -111,7 +111,7 @@ pub fn pass(
     item: &Item,
     out: &mut Items,
 ) -> Result<Option<u32>, Memory>
-    requires formed { IsWellFormed run.now.boxes net.now }
+    requires formed { FitsBoxes (boxes_of run.now) net.now }
     requires straight { IsTrue (is_straight net.now) }
     ensures given { OnOk result (map modelled out.new ≡ map modelled out.old ++ before_stuck (item_answer (setting_of run.now) net.now (modelled item.now))) }
     ensures stuck { IfOk result (λ stuck. stuck ≡ first_stuck (item_answer (setting_of run.now) net.now (modelled item.now))) }

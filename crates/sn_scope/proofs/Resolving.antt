@@ -15,7 +15,7 @@ use Rattle.sn_scope.specs.Trees.{claim_at, claims_within, fitting, led_by, most_
 use Rattle.sn_scope.specs.declared.declarations.Declarations.{Declarations}
 use Rattle.sn_scope.specs.declared.declarations.Pending.{Pending}
 use Rattle.sn_label_scope.specs.declared.refusal.Refusal.{Refusal}
-use Rattle.sn_scope.specs.declared.resolution.Resolved.{Resolved}
+use Rattle.sn_scope.specs.declared.resolved.Parts.{Parts}
 use Rattle.sn_scope.specs.declared.resolution.ScopeFault.TheVariants as cause
 use Rattle.sn_scope.proofs.SoundTrees.{trees_are_sound}
 
@@ -58,7 +58,7 @@ claims_formed st sound room [] = All-nil (λ c. IsWellFormed st.boxes c.net)
 claims_formed st sound room (pending ∷ more) =
     claim_formed st room pending (λ tree. claims_within st (room - nodes tree) more) (λ tree. claims_formed st sound (room - nodes tree) more) (tree_of st.boxes st.nets pending.net) (sound pending.net)
 
-abbrev IsFormed : Resolved → Type 0
+abbrev IsFormed : Parts → Type 0
 IsFormed r = All (λ claim. IsWellFormed r.boxes claim.net) r.claims
 
 resolved_formed : (names : List (List ℕ)) (boxes : List BoxProgram) (main : ℕ) (claims : Result (List Claim) ℕ) → AllFormed boxes claims → IfOk (resolved names boxes main claims) IsFormed
@@ -78,14 +78,14 @@ main_formed names st sound (Some main) =
     ]
 
 -- where nothing is refused, what is resolved is well formed
-pub all_formed : (program : Program) (names : List (List ℕ)) (st : Declarations) (r : Resolved) → st ≡ declarations_of names program → st.refusals ≡ None → with_main names st st.main ≡ Ok r → IsFormed r
+pub all_formed : (program : Program) (names : List (List ℕ)) (st : Declarations) (r : Parts) → st ≡ declarations_of names program → st.refusals ≡ None → with_main names st st.main ≡ Ok r → IsFormed r
 all_formed program names st r is_st none is =
     let sound : (number : ℕ) (tree : Net) → tree_of st.boxes st.nets number ≡ Some tree → IsWellFormed st.boxes tree =
     λ number tree made. subst (λ s. IsWellFormed s.boxes tree) (sym is_st)
     (trees_are_sound names program number tree (ap (λ s. s.refusals) (sym is_st) ∙ none) (ap (λ s. tree_of s.boxes s.nets number) (sym is_st) ∙ made)) in
     subst (λ x. IfOk x IsFormed) is (main_formed names st sound st.main)
 
-abbrev HasMain : Resolved → Type 0
+abbrev HasMain : Parts → Type 0
 HasMain r = r.main < length r.claims
 
 resolved_main : (names : List (List ℕ)) (boxes : List BoxProgram) (main : ℕ) (claims : Result (List Claim) ℕ) → IfOk (resolved names boxes main claims) HasMain
@@ -105,5 +105,5 @@ main_within names st (Some main) =
     ]
 
 -- the program's claim is one of the claims
-pub has_main : (names : List (List ℕ)) (st : Declarations) (r : Resolved) → with_main names st st.main ≡ Ok r → HasMain r
+pub has_main : (names : List (List ℕ)) (st : Declarations) (r : Parts) → with_main names st st.main ≡ Ok r → HasMain r
 has_main names st r is = subst (λ x. IfOk x HasMain) is (main_within names st st.main)

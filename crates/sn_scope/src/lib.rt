@@ -6,10 +6,12 @@ mod filters;
 mod network;
 mod numbering;
 mod resolution;
+mod resolved;
 mod scopes;
 mod tags;
 mod trees;
 mod types;
 mod variants;
 
-pub use resolution::{Resolved, ScopeFault, resolve};
+pub use resolution::{ScopeFault, resolve};
+pub use resolved::{Parts, Resolved};

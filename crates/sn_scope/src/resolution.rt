@@ -1,13 +1,13 @@
 //! From a program to its boxes and its claims.
-ghost use Rattle.std.specs.Prelude.{◌≡◌, ◌<◌, ◌⊎◌, IfOk, IfErr, IfSome, All, [], Ok, Err, length};
-ghost use Rattle.sn_net.specs.WellFormed.{IsWellFormed};
+ghost use Rattle.std.specs.Prelude.{◌≡◌, ◌⊎◌, IfOk, IfErr, IfSome, [], Ok, Err};
 ghost use Rattle.sn_scope.specs.Claims.{IsClaim};
-ghost use Rattle.sn_scope.specs.Resolution.{fault_at, resolution, with_main};
+ghost use Rattle.sn_scope.specs.Resolution.{fault_at, parts_of, resolution, with_main};
 ghost use Rattle.sn_scope.specs.Trees.{claims_within, most_nodes, signature_at};
 ghost use Rattle.sn_scope.specs.declared.resolution.ScopeFault.TheVariants as cause;
 
 use crate::declarations::{Declarations, Pending};
 use crate::numbering::enter_decls;
+use crate::resolved::{Parts, Resolved};
 use crate::trees::tree;
 use sn_ast::Program;
 use sn_label_scope::{Reason, Refusal};
@@ -27,11 +27,14 @@ const MOST_NODES: usize = 65_536;
 /// Why a program is not resolved. A place is a byte offset in the source.
 #[derive(Clone, Copy, PartialEq, Eq, Debug)]
 pub enum ScopeFault {
-    /// A name that isn't visible or isn't of the kind wanted, or a label that its pattern doesn't have.
+    /// A name that isn't visible or isn't of the kind wanted, or a label that its pattern doesn't have. In a box: a name that is
+    /// no variable there, or a call of no function.
     Unknown(u32),
-    /// A second declaration of a name in one scope, or a second equal label.
+    /// A second declaration of a name in one scope, or a second equal label. In a box: a second function of one name, one with
+    /// the name of a built-in function, or a second equal parameter.
     Twice(u32),
-    /// A number of templates, patterns or branches that is not allowed.
+    /// A number of templates, patterns or branches that is not allowed. In a box: more than 8 parameters, arguments in another
+    /// number than the function takes, or an output tuple that is not there or has more or fewer labels.
     Arity(u32),
     /// No outermost net `main` with a signature.
     NoMain,
@@ -54,19 +57,6 @@ impl From<Memory> for ScopeFault {
     fn from(_: Memory) -> ScopeFault {
         ScopeFault::Memory
     }
-}
-
-/// A program in which each name is resolved.
-#[derive(Drop)]
-pub struct Resolved {
-    /// The names of the labels, numbered in the order of their first places.
-    pub names: Names,
-    /// In the order of their declarations.
-    pub boxes: Boxes,
-    /// One for each net with a signature, in the order of the places of the nets' names.
-    pub claims: Seq<Claim>,
-    /// The place in `claims` of that of the outermost net `main`.
-    pub main: u32,
 }
 
 fn fault_of(refusal: Refusal) -> ScopeFault
@@ -146,8 +136,8 @@ fn finish(
     alloc: Global,
     names: NameTable,
     declarations: &mut Declarations,
-) -> Result<Resolved, ScopeFault>
-    ensures ok { IfOk result (λ resolved. with_main names declarations.old declarations.old.main ≡ Ok resolved) }
+) -> Result<Parts, ScopeFault>
+    ensures ok { IfOk result (λ parts. with_main names declarations.old declarations.old.main ≡ Ok parts) }
     ensures refused { IfErr result (λ fault. (fault ≡ cause.Memory) ⊎ (with_main names declarations.old declarations.old.main ≡ Err fault)) }
 {
     let Some(main) = declarations.main else {
@@ -163,7 +153,7 @@ fn finish(
     let claims = claims(alloc, declarations)?;
     let boxes = replace(&mut declarations.boxes, Seq::new(alloc));
     match claims {
-        Ok(claims) if (main as usize) < claims.len() => Ok(Resolved {
+        Ok(claims) if (main as usize) < claims.len() => Ok(Parts {
             names,
             boxes,
             claims,
@@ -181,9 +171,7 @@ fn finish(
 /// The refusal at the least place comes, and at one place the first of Unknown, Twice, Arity and GuardTag; where there
 /// is none, NoMain, then TooManyNames, then TooLarge. Trees are made for claims alone.
 pub fn resolve(alloc: Global, program: &Program) -> Result<Resolved, ScopeFault>
-    ensures ok { IfOk result (λ resolved. resolution program.now ≡ Ok resolved) }
-    ensures main { IfOk result (λ resolved. resolved.main < length resolved.claims) }
-    ensures well_formed { IfOk result (λ resolved. All (λ claim. IsWellFormed resolved.boxes claim.net) resolved.claims) }
+    ensures ok { IfOk result (λ resolved. resolution program.now ≡ Ok (parts_of resolved)) }
     ensures refused { IfErr result (λ fault. (fault ≡ cause.Memory) ⊎ (resolution program.now ≡ Err fault)) }
 {
     let mut names = NameTable::new(alloc);
@@ -192,6 +180,9 @@ pub fn resolve(alloc: Global, program: &Program) -> Result<Resolved, ScopeFault>
     declarations.declarations(alloc, &names, program.decls.as_slice())?;
     match declarations.refusals.least() {
         Some(refusal) => Err(fault_of(refusal)),
-        None => finish(alloc, names, &mut declarations),
+        None => {
+            let parts = finish(alloc, names, &mut declarations)?;
+            Ok(Resolved { parts })
+        }
     }
 }

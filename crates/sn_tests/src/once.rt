@@ -1,5 +1,4 @@
 ghost use Rattle.sn_net.specs.Filter.{IsClosed};
-ghost use Rattle.sn_model.specs.Run.{IsRun};
 
 use sn_list::{Memory, Seq};
 use sn_model::Run;
@@ -25,7 +24,6 @@ fn filter_of(alloc: Global) -> Result<Filter, Memory> {
 
 fn run_of(alloc: Global, filter: Filter, items: Items) -> Run
     requires { IsClosed filter }
-    ensures { IsRun result }
 {
     Run::new(Net::Filter(filter), Seq::new(alloc), 1, 1, 1, items)
 }
@@ -38,7 +36,7 @@ fn given(alloc: Global) -> Result<Items, FeedFault> {
         return Err(FeedFault::Memory);
     }
     let run = run_of(alloc, filter, items);
-    if !is_straight(&run.net) {
+    if !is_straight(run.net()) {
         return Err(FeedFault::Memory);
     }
     run_once(alloc, &run)

@@ -1,14 +1,14 @@
 use crate::text::program;
 use sn_net::Net;
-use sn_scope::{Resolved, ScopeFault, resolve};
+use sn_scope::{Parts, ScopeFault, resolve};
 use std::alloc::Global;
 use std::test::Fail;
 
-fn resolved(alloc: Global, source: &str) -> Result<Resolved, ScopeFault> {
+fn resolved(alloc: Global, source: &str) -> Result<Parts, ScopeFault> {
     let Ok(read) = program(alloc, source) else {
         return Err(ScopeFault::Memory);
     };
-    resolve(alloc, &read)
+    Ok(resolve(alloc, &read)?.into_parts())
 }
 
 #[test]

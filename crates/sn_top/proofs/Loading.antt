@@ -12,7 +12,7 @@ use Rattle.sn_parser.specs.declared.parsing.ParseFault.TheVariants as parse_faul
 use Rattle.sn_record.specs.declared.item.Item.{Item}
 use Rattle.sn_net.specs.Item.{Rec, modelled}
 use Rattle.sn_model.specs.Meaning.{one_list}
-use Rattle.sn_model.specs.Run.{given}
+use Rattle.sn_model.specs.Run.{boxes_of, depth_of, fuel_of, given, items_of, net_of}
 use Rattle.sn_model.specs.declared.run.Run.{Run}
 use Rattle.sn_once.specs.Stuck.{TellsFirst, first_stuck}
 use Rattle.sn_once.specs.declared.fault.FeedFault.{FeedFault}
@@ -22,7 +22,7 @@ use Rattle.sn_input.specs.declared.input.Input.{Input}
 use Rattle.sn_input.specs.declared.input.InputFault.{InputFault}
 use Rattle.sn_input.specs.declared.input.InputFault.TheVariants as input_fault
 use Rattle.sn_scope.specs.Resolution.{resolution}
-use Rattle.sn_scope.specs.declared.resolution.Resolved.{Resolved}
+use Rattle.sn_scope.specs.declared.resolved.Parts.{Parts}
 use Rattle.sn_scope.specs.declared.resolution.ScopeFault.{ScopeFault}
 use Rattle.sn_scope.specs.declared.resolution.ScopeFault.TheVariants as scope
 use Rattle.sn_top.specs.declared.load.Program.{Program}
@@ -59,7 +59,7 @@ module _ (bytes : List ℕ) where
     not_resolved scope.TooManyNames (inr is) = record { tree = tree; read = read; refused = is }
     not_resolved scope.Memory (inr is) = tt
 
-    module _ (resolved : Resolved) (is : resolution tree ≡ Ok resolved) where
+    module _ (resolved : Parts) (is : resolution tree ≡ Ok resolved) where
       -- the main network is made of boxes and filters in series, or is another
       pub loaded : (program : Program) → IsMain resolved program → IsLoaded bytes program
       loaded program main = record {
@@ -105,7 +105,7 @@ module _ (limits : Limits) (program : Program) (bytes : List ℕ) where
         record { input = input; routed = record { read = read; routed = ap first_stuck (sym stream_is) ∙ free }; names = refl; stream = sym (is ∙ stream_is) }
 
 -- what a run gives whose parts are those of a program
-pub given_is : (run : Run) (program : Program) (limits : Limits) (items : List Item) → run.net ≡ program.net → run.boxes ≡ program.boxes → run.fuel ≡ limits.fuel → run.depth ≡ limits.depth → run.items ≡ items
+pub given_is : (run : Run) (program : Program) (limits : Limits) (items : List Item) → net_of run ≡ program.net → boxes_of run ≡ program.boxes → fuel_of run ≡ limits.fuel → depth_of run ≡ limits.depth → items_of run ≡ items
     → given run ≡ one_list (setting program limits) program.net (map modelled items)
 given_is run program limits items net boxes fuel depth same =
     λ i. one_list (record { boxes = boxes i; fuel = fuel i; depth = depth i }) (net i) (map modelled (same i))

@@ -1,10 +1,10 @@
 -- What the layers below the top calls give: programs, inputs and answers.
 use Rattle.std.specs.Prelude.{◌≡◌, ℕ, None, false, IsTrue, List, map, slice_get, Some, Ok, Err}
 use Rattle.sn_net.specs.Item.{ModelItem, Rec, modelled}
-use Rattle.sn_net.specs.WellFormed.{IsWellFormed}
+use Rattle.sn_net.specs.WellFormed.{FitsBoxes}
 use Rattle.sn_net.specs.declared.expr.BoxProgram.{BoxProgram}
 use Rattle.sn_model.specs.Meaning.{Setting, one_list}
-use Rattle.sn_model.specs.Run.{IsWithin}
+use Rattle.sn_model.specs.Ranges.{IsWithin}
 use Rattle.sn_model.specs.declared.run.TheConstants.{MOST_FUEL, MOST_REPLICAS}
 use Rattle.sn_once.specs.Straight.{is_straight}
 use Rattle.sn_once.specs.Stuck.{first_stuck}
@@ -16,7 +16,7 @@ use Rattle.sn_input.specs.Reading.{ReadsFile}
 use Rattle.sn_input.specs.declared.input.Input.{Input}
 use Rattle.sn_input.specs.declared.input.InputFault.{InputFault}
 use Rattle.sn_input.specs.declared.input.InputFault.TheVariants as input_fault
-use Rattle.sn_scope.specs.declared.resolution.Resolved.{Resolved}
+use Rattle.sn_scope.specs.declared.resolved.Parts.{Parts}
 use Rattle.sn_top.specs.declared.load.Program.{Program}
 use Rattle.sn_top.specs.declared.load.Answered.{Answered}
 use Rattle.sn_top.specs.declared.status.LineFault.{LineFault}
@@ -46,11 +46,11 @@ feed_stop feed_fault.Memory = stop.Memory
 
 -- a network of boxes and filters in series that can be run
 pub record IsRunnable (boxes : List BoxProgram) (net : Net) : Type 0 where
-  pub formed : IsWellFormed boxes net
+  pub formed : FitsBoxes boxes net
   pub straight : IsTrue (is_straight net)
 
 -- the names, the boxes and the main network of what a source is resolved to
-pub record IsMain (resolved : Resolved) (program : Program) : Type 0 where
+pub record IsMain (resolved : Parts) (program : Program) : Type 0 where
   pub claim : Claim
   pub main : slice_get resolved.claims resolved.main ≡ Some claim
   pub names_are : program.names ≡ resolved.names
@@ -59,12 +59,12 @@ pub record IsMain (resolved : Resolved) (program : Program) : Type 0 where
   pub runnable : IsRunnable program.boxes program.net
 
 -- the main network is another
-pub record IsOther (resolved : Resolved) : Type 0 where
+pub record IsOther (resolved : Parts) : Type 0 where
   pub claim : Claim
   pub main : slice_get resolved.claims resolved.main ≡ Some claim
   pub other : is_straight claim.net ≡ false
 
-abbrev pub WhyNoMain : Resolved → Stop → Type 0
+abbrev pub WhyNoMain : Parts → Stop → Type 0
 WhyNoMain resolved why = (why ≡ stop.Refused refusal.NotBuilt) × IsOther resolved
 
 -- the program is that of the source, and can be run

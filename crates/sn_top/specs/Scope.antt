@@ -5,7 +5,7 @@ use Rattle.sn_net.specs.declared.expr.BoxProgram.{BoxProgram}
 use Rattle.sn_net.specs.declared.net.Claim.{Claim}
 use Rattle.sn_once.specs.Straight.{is_straight}
 use Rattle.sn_scope.specs.Resolution.{resolution}
-use Rattle.sn_scope.specs.declared.resolution.Resolved.{Resolved}
+use Rattle.sn_scope.specs.declared.resolved.Parts.{Parts}
 use Rattle.sn_scope.specs.declared.resolution.ScopeFault.{ScopeFault}
 use Rattle.sn_scope.specs.declared.resolution.ScopeFault.TheVariants as scope
 use Rattle.sn_top.specs.Source.{IsRefused, IsSource, IsWrong}
@@ -38,7 +38,7 @@ pub record IsUnresolved (bytes : List ℕ) (fault : ScopeFault) : Type 0 where
 pub record IsResolved (bytes : List ℕ) (names : List (List ℕ)) (boxes : List BoxProgram) (claim : Claim) : Type 0 where
   pub tree : Tree
   pub read : IsSource bytes tree
-  pub resolved : Resolved
+  pub resolved : Parts
   pub is : resolution tree ≡ Ok resolved
   pub names_are : names ≡ resolved.names
   pub boxes_are : boxes ≡ resolved.boxes

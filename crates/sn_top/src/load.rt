@@ -1,7 +1,7 @@
 //! From the bytes of a source and an input to the records that the network answers.
-ghost use Rattle.std.specs.Prelude.{◌≡◌, ◌<◌, ◌≤◌, length, map, All, IfOk, IfErr};
+ghost use Rattle.std.specs.Prelude.{◌≡◌, ◌≤◌, length, map, IfOk, IfErr};
 ghost use Rattle.sn_net.specs.Item.{modelled, Rec};
-ghost use Rattle.sn_net.specs.WellFormed.{IsWellFormed};
+ghost use Rattle.sn_scope.specs.Resolution.{parts_of};
 ghost use Rattle.sn_top.specs.Load.{AreLimits, limits_of, program_of, IsMain, IsLoaded, IsAnswer, IsRunnable, WhyNoAnswer, WhyNoMain};
 ghost use Rattle.sn_top.specs.Scope.{WhyUnloaded};
 ghost use Rattle.sn_top.specs.declared.serve.TheConstants.{SOURCE_LIMIT, INPUT_LIMIT};
@@ -16,7 +16,7 @@ use sn_net::{Boxes, Claim, Net};
 use sn_once::{FeedFault, is_straight, run_once};
 use sn_parser::parse;
 use sn_record::{Item, Items, Record};
-use sn_scope::{Resolved, resolve};
+use sn_scope::{Parts, Resolved, resolve};
 use sn_stack::append;
 use std::alloc::Global;
 
@@ -54,17 +54,15 @@ impl From<FeedFault> for Stop {
 
 /// The names, the boxes and the main network of what a source is resolved to. Boxes and filters in series are built so far.
 fn main_of(resolved: Resolved) -> Result<Program, Stop>
-    requires main { resolved.main < length resolved.claims }
-    requires formed { All (λ claim. IsWellFormed resolved.boxes claim.net) resolved.claims }
-    ensures ok { IfOk result (IsMain resolved) }
-    ensures refused { IfErr result (WhyNoMain resolved) }
+    ensures ok { IfOk result (IsMain (parts_of resolved)) }
+    ensures refused { IfErr result (WhyNoMain (parts_of resolved)) }
 {
-    let Resolved {
+    let Parts {
         names,
         boxes,
         claims,
         main,
-    } = resolved;
+    } = resolved.into_parts();
     let mut claims = claims.into_vec();
     let claim = claims.swap_remove(main as usize);
     let Claim { net, .. } = claim;

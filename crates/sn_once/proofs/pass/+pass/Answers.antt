@@ -1,24 +1,25 @@
 use Rattle.std.proofs.Common.{refl, sym, ap, subst, ◌∙◌, map, rules, arith}
 use Rattle.sn_net.specs.declared.net.Net.TheViews.{the_lemmas}
 use Rattle.sn_net.specs.Item.{modelled}
-use Rattle.sn_net.specs.WellFormed.{IsWellFormed}
-use Rattle.sn_model.specs.Run.{setting_of}
+use Rattle.sn_net.specs.WellFormed.{FitsBoxes}
+use Rattle.sn_model.specs.Run.{boxes_of, setting_of}
 use Rattle.sn_once.specs.Answer.{item_answer}
-use Rattle.sn_once.proofs.Leaves.{box_there, filter_closed, left_part, right_part}
+use Rattle.sn_net.proofs.Fits.{box_there, filter_closed}
+use Rattle.sn_once.proofs.Leaves.{left_part, right_part}
 use Rattle.sn_once.proofs.Passing.{gets_stuck, goes_on, series_done, series_stuck, through_all}
 use Rattle.sn_once.proofs.pass.+pass.Goals as goal
 
 pub pass_box-requires : goal.pass_box-requires
 pass_box-requires t c =
-    box_there c.args.run.now.boxes c.in-Box.place c.in-Box.number (subst (IsWellFormed c.args.run.now.boxes) c.in-Box.is c.requires.formed)
+    box_there (boxes_of c.args.run.now) c.in-Box.place c.in-Box.number (subst (FitsBoxes (boxes_of c.args.run.now)) c.in-Box.is c.requires.formed)
 
 pub pass_filter-requires : goal.pass_filter-requires
 pass_filter-requires t c =
-    filter_closed c.args.run.now.boxes c.in-Filter.filter (subst (IsWellFormed c.args.run.now.boxes) c.in-Filter.is c.requires.formed)
+    filter_closed (boxes_of c.args.run.now) c.in-Filter.filter (subst (FitsBoxes (boxes_of c.args.run.now)) c.in-Filter.is c.requires.formed)
 
 pub pass-requires : goal.pass-requires
 pass-requires t c =
-    (search (rules, the_lemmas), left_part c.args.run.now.boxes c.args.net.now c.in-Serial.left c.in-Serial.right c.get.result.now c.in-Serial.is c.get.ensures c.requires.formed c.requires.straight)
+    (search (rules, the_lemmas), left_part (boxes_of c.args.run.now) c.args.net.now c.in-Serial.left c.in-Serial.right c.get.result.now c.in-Serial.is c.get.ensures c.requires.formed c.requires.straight)
 
 pub loop-item-init : goal.loop-item-init
 loop-item-init t c =
@@ -26,7 +27,7 @@ loop-item-init t c =
 
 pub pass-requires-in-loop-item : goal.pass-requires-in-loop-item
 pass-requires-in-loop-item t c =
-    (search (rules, the_lemmas), right_part c.args.run.now.boxes c.args.net.now c.in-Serial.left c.in-Serial.right c.get-in-loop-item.result.now c.in-Serial.is c.get-in-loop-item.ensures c.requires.formed c.requires.straight)
+    (search (rules, the_lemmas), right_part (boxes_of c.args.run.now) c.args.net.now c.in-Serial.left c.in-Serial.right c.get-in-loop-item.result.now c.in-Serial.is c.get-in-loop-item.ensures c.requires.formed c.requires.straight)
 
 pub returns-then-is_some-clause-given : goal.returns-then-is_some-clause-given
 returns-then-is_some-clause-given t c =
