@@ -1,8 +1,8 @@
 -- The file of printed lines gives the records.
-use Rattle.std.proofs.Common.{◌≡◌, ◌∙◌, ℕ, ◌+◌, ◌<◌, ◌≤◌, ◌==◌, Bool, true, false, List, [], ◌∷◌, ◌++◌, length, length-append, append_assoc, append-nil, get_or, None, codes, refl, sym, ap, subst, arith}
+use Rattle.std.proofs.Common.{◌≡◌, ◌∙◌, ℕ, ◌+◌, ◌<◌, ◌≤◌, ◌==◌, Bool, true, false, List, [], ◌∷◌, ◌++◌, length, length-append, append_assoc, append-nil, get_or, codes, refl, sym, ap, subst, arith}
 use Rattle.std.specs.Prelude.{Result, Ok, ◌↔◌, encode_utf8_all}
-use Rattle.std.specs.List.{All, list_all, slice_split, range_with_len}
-use Rattle.std.specs.Str.{chars, IsUtf8, NonePass}
+use Rattle.std.specs.List.{All, list_all, range_with_len}
+use Rattle.std.specs.Str.{chars, NonePass}
 use Rattle.std.proofs.lemmas.Bool.{and_parts, both_ways, eqb-true, false_from_ne_true}
 use Rattle.std.proofs.lemmas.Bool.Decides.{nat_tests}
 use Rattle.std.proofs.lemmas.List.Elements.{All-nil, All-head, All-tail, All-cons, All-from_get_or}
@@ -11,7 +11,6 @@ use Rattle.std.proofs.lemmas.Str.{chars-encodes, NoCharPasses-byte}
 use Rattle.sn_record.specs.Record.{Entries}
 use Rattle.sn_names.specs.Names.{AreNames}
 use Rattle.sn_record_tokens.proofs.Once.{Tokens_once}
-use Rattle.sn_record_tokens.specs.declared.token.Token.{Token}
 use Rattle.sn_record_tokens.specs.Tokens.{Tokens}
 use Rattle.sn_record_parser.specs.declared.entry.Entry.{Entry}
 use Rattle.sn_record_parser.specs.Grammar.{IsLine}
@@ -21,7 +20,7 @@ use Rattle.sn_input.specs.declared.input.InputFault.{InputFault}
 use Rattle.sn_input.specs.Line.{lines_of, SpellsLine}
 use Rattle.sn_input.specs.Numbered.{with_entries, record_of}
 use Rattle.sn_input.specs.Reading.{most_records, most_names, with_record, Reads, ReadsFile}
-use Rattle.sn_input.specs.Steps.{SpellsOnly, HasRoom, GoesOn}
+use Rattle.sn_input.specs.Steps.{SpellsOnly, GoesOn}
 use Rattle.sn_input.proofs.Going.{blank_goes, taken_goes}
 use Rattle.sn_output.specs.Line.{line}
 use Rattle.sn_record_roundtrip.specs.PrintedFile.{printed_file, line_by_line}
@@ -42,9 +41,9 @@ no_character (c ∷ cs) h =
 no_byte : (cs : List ℕ) → list_all is_no_line_feed cs ≡ true → All (λ byte. is_line_feed byte ≡ false) (encode_utf8_all cs)
 no_byte cs h = All-from_get_or (λ byte. is_line_feed byte ≡ false) (encode_utf8_all cs) 0 (λ i within.
     false_from_ne_true _ (λ feed.
-        let byte = get_or (encode_utf8_all cs) i 0 in
-        let ten : byte ≡ 10 = eqb-true byte 10 feed in
-        both_ways _ (NoCharPasses-byte is_line_feed (encode_utf8_all cs) i (cs, refl, no_character cs h) within (omega arith)) feed))
+    let byte = get_or (encode_utf8_all cs) i 0 in
+    let ten : byte ≡ 10 = eqb-true byte 10 feed in
+    both_ways _ (NoCharPasses-byte is_line_feed (encode_utf8_all cs) i (cs, refl, no_character cs h) within (omega arith)) feed))
 
 -- the bytes of a line, before its line feed
 abbrev text : {names : List (List ℕ)} {r : Entries} → ReadsBack names r → List ℕ
@@ -120,7 +119,7 @@ module _ (names : List (List ℕ)) where
       let goes = line_goes are r back before numbers n room (lines_of (printed_file names records)) result in
       let rest = file_reads are records (before ++ r ∷ []) (numbers ++ n ∷ []) (n + 1) (All-tail (IsWritable names) r records writable) fits result in
       let same : so_far ((before ++ r ∷ []) ++ records) ((numbers ++ n ∷ []) ++ range_with_len (n + 1) (length records)) ≡ so_far (before ++ r ∷ records) (numbers ++ range_with_len n (length (r ∷ records))) =
-          λ i. so_far (append_assoc before (r ∷ []) records i) (append_assoc numbers (n ∷ []) (range_with_len (n + 1) (length records)) i) in (
+      λ i. so_far (append_assoc before (r ∷ []) records i) (append_assoc numbers (n ∷ []) (range_with_len (n + 1) (length records)) i) in (
         λ reads. rest.0 (goes.0 (subst (λ ls. Reads n (so_far before numbers) ls result) split reads)) ∙ ap Ok same,
         λ is. subst (λ ls. Reads n (so_far before numbers) ls result) (sym split) (goes.1 (rest.1 (is ∙ ap Ok (sym same)))),
       )

@@ -1,5 +1,5 @@
 -- The written labels of a record in order: none stands twice, and no name of them is new.
-use Rattle.std.proofs.Common.{◌≡◌, ◌∙◌, ℕ, ◌<◌, ◌||◌, true, false, IsTrue, List, [], ◌∷◌, ◌++◌, map, length, None, refl, sym, ap, subst}
+use Rattle.std.proofs.Common.{◌≡◌, ◌∙◌, ℕ, ◌<◌, true, false, IsTrue, List, [], ◌∷◌, ◌++◌, map, length, None, refl, sym, ap, subst}
 use Rattle.std.specs.List.{list_any, All}
 use Rattle.std.specs.Str.{bytes_eq}
 use Rattle.std.specs.Cmp.{tied_itself}
@@ -79,7 +79,7 @@ module _ (names : List (List ℕ)) (differ : IsTrue (are_distinct names)) where
       let rest = All-tail (IsGood names) e es good in
       passed earlier (labels es) (written_label e.0) (All-head (IsFresh earlier) e es fresh)
       ∙ fresh_repeat_none (earlier ++ written_label e.0 ∷ []) es parts.1 rest
-          (fresh_after earlier e.0 es (All-head (IsGood names) e es good).named rest parts.0 (All-tail (IsFresh earlier) e es fresh))
+      (fresh_after earlier e.0 es (All-head (IsGood names) e es good).named rest parts.0 (All-tail (IsFresh earlier) e es fresh))
 
   pub none_repeats : (es : List (Label × Value)) → is_sorted (by_name names) es ≡ true → All (IsGood names) es → repeated (map (written names) es) ≡ None
   none_repeats es sorted good = fresh_repeat_none [] es sorted good (λ k d within. refl)
