@@ -4,5 +4,7 @@ pub mod Words
 pub mod Values
 pub mod Entries
 pub mod Orders
+pub mod Labels
 pub mod Lines
 pub mod Spelled
+pub mod Files

@@ -7,12 +7,12 @@ use Rattle.sn_names.specs.Names.{AreNames}
 use Rattle.sn_record_tokens.specs.Tokens.{Tokens}
 use Rattle.sn_record_tokens.specs.Tokens.Tokens.{end}
 use Rattle.sn_output.specs.Line.{joined, entry_text, in_order}
-use Rattle.sn_record_roundtrip.specs.Entered.{are_distinct}
 use Rattle.sn_record_roundtrip.specs.ReadsBack.{ReadsBack}
 use Rattle.sn_record_roundtrip.specs.Writable.{IsWritable}
 use Rattle.sn_record_roundtrip.proofs.Characters.{inline_scalars, inline_one_line}
 use Rattle.sn_record_roundtrip.proofs.Entries.{written, line_reads}
-use Rattle.sn_record_roundtrip.proofs.Orders.{ordered_good, ordered_same, ordered_distinct, entries_back}
+use Rattle.sn_record_roundtrip.proofs.Orders.{ordered_good, ordered_same, ordered_sorted, entries_back}
+use Rattle.sn_record_roundtrip.proofs.Labels.{none_repeats, none_new}
 use Rattle.sn_record_roundtrip.proofs.Readings.{Closes, Reads}
 
 at_end : Closes []
@@ -38,6 +38,7 @@ line_reads_back names r are writable =
       lexed = alone read.reads;
       entries = map (written names) es;
       spelled = read.line;
-      distinct = ap are_distinct back ∙ ordered_distinct names r;
+      once = none_repeats names are.distinct es (ordered_sorted names r) good;
+      known = none_new names are.distinct es good;
       same = ap (λ xs. from_entries {R = label_cmp} xs) back ∙ ordered_same names r;
     }

@@ -1,16 +1,15 @@
 -- Entries in the order in which they are printed make the record again.
-use Rattle.std.proofs.Common.{◌≡◌, ℕ, true, cond, List, [], ◌∷◌, get_or, map, Option, None, Some, IfSome, refl, sym, ap, ◌∙◌, subst}
+use Rattle.std.proofs.Common.{◌≡◌, ℕ, true, cond, List, [], ◌∷◌, get_or, map, Option, Some, IfSome, refl, sym, ap, ◌∙◌, subst}
 use Rattle.std.specs.List.{All}
-use Rattle.std.specs.Option.{is_none, is_some}
-use Rattle.std.specs.Ordering.{eq_by_cmp, is_eq, is_lt, nat_cmp, ordering_then}
+use Rattle.std.specs.Option.{is_some}
+use Rattle.std.specs.Ordering.{eq_by_cmp, is_eq, nat_cmp, ordering_then}
 use Rattle.std.specs.declared.cmp.Ordering.{Ordering}
 use Rattle.std.specs.declared.cmp.Ordering.TheVariants.{Less, Equal, Greater}
 use Rattle.std.specs.Cmp.{both_ways, tied_itself}
 use Rattle.std.specs.FinMap as finite
 use Rattle.std.specs.FinMap.{find, put, is_sorted, nat_cmp-IsAntisymmetric}
-use Rattle.std.specs.FinMap.Entries.{by_order, below_all}
+use Rattle.std.specs.FinMap.Entries.{by_order}
 use Rattle.std.proofs.Flags.{T_true}
-use Rattle.std.proofs.lemmas.Bool.{and_parts, and_from}
 use Rattle.std.proofs.lemmas.List.{nil_from_length}
 use Rattle.std.proofs.lemmas.List.Elements.{All-nil, All-head, All-tail, All-cons}
 use Rattle.std.proofs.lemmas.Option.{slice_get-get_or}
@@ -24,8 +23,8 @@ use Rattle.sn_record.proofs.Maps.{ties_itself, same_label, get-slice_get}
 use Rattle.sn_record.proofs.Records.{same_record}
 use Rattle.sn_names.specs.Names.{are_distinct as names_differ}
 use Rattle.sn_names.proofs.NamesLaws.{number_in-name_at}
+use Rattle.sn_input.specs.Numbered.{entry_in}
 use Rattle.sn_output.specs.Line.{by_name, by_name_total, in_order}
-use Rattle.sn_record_roundtrip.specs.Entered.{entry_of, are_distinct}
 use Rattle.sn_record_roundtrip.specs.Writable.{AreBounded, HasName, IsWritable}
 use Rattle.sn_record_roundtrip.proofs.Entries.{IsGood, written}
 
@@ -39,11 +38,6 @@ second_ties : (s r : Ordering) → ordering_then s r ≡ Equal → r ≡ Equal
 second_ties Less r e = cc
 second_ties Equal r e = e
 second_ties Greater r e = cc
-
-is_below : (r : Ordering) → is_lt r ≡ true → r ≡ Less
-is_below Less h = refl
-is_below Equal h = cc
-is_below Greater h = cc
 
 module _ (names : List (List ℕ)) where
   -- labels that tie by name are one
@@ -75,21 +69,6 @@ module _ (names : List (List ℕ)) where
   find_alike l [] = refl
   find_alike l (e ∷ es) = λ i. cond (tie_alike l e.0 i) (Some e.1) (find_alike l es i)
 
-  -- a label below all is none of them
-  none_below : (l : Label) (es : List (Label × Value)) → below_all (by_name names) l es ≡ true → find (by_name names) l es ≡ None
-  none_below l [] h = refl
-  none_below l (e ∷ es) h =
-      let parts = and_parts (is_lt (by_name names l e.0)) (below_all (by_name names) l es) h in
-      let less = is_below (by_name names l e.0) parts.0 in
-      ap (λ r. cond (is_eq r) (Some e.1) (find (by_name names) l es)) less ∙ none_below l es parts.1
-
-  -- in rising order no label stands twice
-  sorted_distinct : (es : List (Label × Value)) → is_sorted (by_name names) es ≡ true → are_distinct es ≡ true
-  sorted_distinct [] h = refl
-  sorted_distinct (e ∷ es) h =
-      let parts = and_parts (below_all (by_name names) e.0 es) (is_sorted (by_name names) es) h in
-      and_from _ _ (ap is_none (find_alike e.0 es ∙ none_below e.0 es parts.0)) (sorted_distinct es parts.1)
-
   module _ (P : Label × Value → Type 0) where
     -- what holds of each entry holds also where one more is put
     all_put : (l : Label) (v : Value) (es : List (Label × Value)) → P (l, v) → All P es → All P (put (by_name names) l v es)
@@ -110,8 +89,8 @@ module _ (names : List (List ℕ)) where
         (all_put e.0 e.1 (finite.entries (finite.from_entries {R = by_name names} es)) (All-head P e es all) (all_ordered es (All-tail P e es all)))
 
   module _ (r : Entries) where
-    pub ordered_distinct : are_distinct (in_order names r) ≡ true
-    ordered_distinct = sorted_distinct (in_order names r) (T_true _ (finite.entries_sorted (finite.from_entries {R = by_name names} (finite.entries r))))
+    pub ordered_sorted : is_sorted (by_name names) (in_order names r) ≡ true
+    ordered_sorted = T_true _ (finite.entries_sorted (finite.from_entries {R = by_name names} (finite.entries r)))
 
     -- the entries in order make the record
     pub ordered_same : finite.from_entries {R = label_cmp} (in_order names r) ≡ r
@@ -140,11 +119,11 @@ module _ (names : List (List ℕ)) where
       (get-slice_get r k _ _ (slice_get-get_or (finite.entries r) k d within)))
 
   -- a written entry has the number of its name
-  entry_back : names_differ names ≡ true → (e : Label × Value) → HasName names e.0 → entry_of names (written names e) ≡ e
+  entry_back : names_differ names ≡ true → (e : Label × Value) → HasName names e.0 → entry_in names (written names e) ≡ e
   entry_back differ e named =
       λ i. (record { kind = e.0.kind; id = number_in-name_at names e.0.id differ named.below i }, e.1)
 
-  pub entries_back : names_differ names ≡ true → (es : List (Label × Value)) → All (IsGood names) es → map (entry_of names) (map (written names) es) ≡ es
+  pub entries_back : names_differ names ≡ true → (es : List (Label × Value)) → All (IsGood names) es → map (entry_in names) (map (written names) es) ≡ es
   entries_back differ [] good = refl
   entries_back differ (e ∷ es) good =
       λ i. entry_back differ e (All-head (IsGood names) e es good).named i ∷ entries_back differ es (All-tail (IsGood names) e es good) i

@@ -29,7 +29,7 @@ use Rattle.sn_record_parser.specs.Grammar.AreMore.{end as no_more_left, next as 
 use Rattle.sn_record_parser.specs.Grammar.IsEntry.{field_at, tag_at}
 use Rattle.sn_record_parser.specs.Grammar.AreFurther.{end as none_further, next as next_entry}
 use Rattle.sn_record_parser.specs.Grammar.IsLine.{empty as empty_line, entries as filled_line}
-use Rattle.sn_record_roundtrip.specs.Entered.{label_of, entry_of, record_of}
+use Rattle.sn_input.specs.Numbered.{label_in, entry_in, record_of}
 use Rattle.sn_record_roundtrip.specs.Writable.{IsBounded, AreBounded, HasName, IsWritable}
 use Rattle.sn_record_roundtrip.proofs.Entries.{IsGood}
 
@@ -86,21 +86,21 @@ mutual
 module _ (names : List (List ℕ)) where
   -- What a line says of an entry.
   record IsSaid (e : Entry) : Type 0 where
-    fits : FitsLabel (label_of names e.label) e.value
+    fits : FitsLabel (label_in names e.label) e.value
     bounded : AreBounded e.value
     word : List ℕ
     spelled : SpellsName word e.label.name
 
-  field_said : (name : List ℕ) (v : Value) → ((word : List ℕ) × SpellsName word name) → FitsLabel (label_of names (field name)) v → AreBounded v → IsSaid record { label = field name; value = v }
+  field_said : (name : List ℕ) (v : Value) → ((word : List ℕ) × SpellsName word name) → FitsLabel (label_in names (field name)) v → AreBounded v → IsSaid record { label = field name; value = v }
   field_said name v s fits bounded = record { fits = fits; bounded = bounded; word = s.0; spelled = s.1 }
 
   tag_said : (name : List ℕ) (n : ℤ) (inside : List ℕ) → SpellsName inside name → FitsSigned w64 n → IsSaid record { label = tag name; value = Int n }
-  tag_said name n inside s fits = record { fits = FitsLabel-Int (label_of names (tag name)) n; bounded = bounded_int n fits; word = inside; spelled = s }
+  tag_said name n inside s fits = record { fits = FitsLabel-Int (label_in names (tag name)) n; bounded = bounded_int n fits; word = inside; spelled = s }
 
   entry_said : {ts us : List Token} {e : Entry} → IsEntry ts e us → AreSpelled ts → IsSaid e × AreSpelled us
   entry_said (field_at {name = name} {v = v} value sound is) s =
       let read = value_bounded value s.1.1 in
-      (subst IsSaid (sym is) (field_said name v s.0 (FitsLabel-Field (label_of names (field name)) v refl sound) read.0), read.1)
+      (subst IsSaid (sym is) (field_said name v s.0 (FitsLabel-Field (label_in names (field name)) v refl sound) read.0), read.1)
   entry_said (tag_at {name = name} {n = n} is) s =
       (subst IsSaid (sym is) (tag_said name n s.0.1.inside s.0.1.name s.1.1.0.1.fits), s.1.1.1)
 
@@ -119,7 +119,7 @@ module _ (names : List (List ℕ)) where
   abbrev Holds : Entry → Type 0
   Holds e = IsTrue (is_held names e.label.name)
 
-  said_good : (e : Entry) → Holds e → IsSaid e → IsGood names (entry_of names e)
+  said_good : (e : Entry) → Holds e → IsSaid e → IsGood names (entry_in names e)
   said_good e held said = record {
     fits = said.fits;
     bounded = said.bounded;
@@ -130,10 +130,10 @@ module _ (names : List (List ℕ)) where
     };
   }
 
-  all_good : (es : List Entry) → All Holds es → All IsSaid es → All (IsGood names) (map (entry_of names) es)
+  all_good : (es : List Entry) → All Holds es → All IsSaid es → All (IsGood names) (map (entry_in names) es)
   all_good [] held said = All-nil (IsGood names)
   all_good (e ∷ es) held said =
-      All-cons (IsGood names) (entry_of names e) (map (entry_of names) es) (said_good e (All-head Holds e es held) (All-head IsSaid e es said)) (all_good es (All-tail Holds e es held) (All-tail IsSaid e es said))
+      All-cons (IsGood names) (entry_in names e) (map (entry_in names) es) (said_good e (All-head Holds e es held) (All-head IsSaid e es said)) (all_good es (All-tail Holds e es held) (All-tail IsSaid e es said))
 
   -- what is found at a label is of one of the entries
   found_good : (l : Label) (es : List (Label × Value)) → All (IsGood names) es → IfSome (find label_cmp l es) (λ v. IsGood names (l, v))
@@ -155,7 +155,7 @@ module _ (names : List (List ℕ)) where
   pub line_writable : (cs : List ℕ) (ts : List Token) (es : List Entry) → Tokens cs ts → IsLine ts es → All Holds es → IsWritable names (record_of names es)
   line_writable cs ts es told line held =
       let good = all_good es held (line_said line (tokens_spelled told)) in
-      let at = λ (l : Label). subst (λ x. IfSome x (λ v. IsGood names (l, v))) (sym (finite.get-from_entries label_cmp_total (map (entry_of names) es) l)) (found_good l (map (entry_of names) es) good) in
+      let at = λ (l : Label). subst (λ x. IfSome x (λ v. IsGood names (l, v))) (sym (finite.get-from_entries label_cmp_total (map (entry_in names) es) l)) (found_good l (map (entry_in names) es) good) in
       record {
         sound = λ l. if_weaker (λ v. IsGood names (l, v)) (FitsLabel l) (λ v g. g.fits) _ (at l);
         bounded = λ l. if_weaker (λ v. IsGood names (l, v)) AreBounded (λ v g. g.bounded) _ (at l);

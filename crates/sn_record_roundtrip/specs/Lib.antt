@@ -1,3 +1,3 @@
-pub mod Entered
 pub mod Writable
 pub mod ReadsBack
+pub mod PrintedFile

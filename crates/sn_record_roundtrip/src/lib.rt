@@ -1,6 +1,6 @@
-//! The printed line of a record reads back as the record.
+//! The printed line of a record reads back as the record, and a file of such lines as the records.
 //!
-//! This crate has a law alone: no program calls it.
+//! This crate has laws alone: no program calls it.
 #![tactic(auto)]
 
 pub mod laws;
