@@ -1,32 +1,18 @@
--- The names and the record while the entries of a line are taken one after another.
-use Rattle.std.proofs.Common.{◌≡◌, ◌∙◌, ℕ, ◌<◌, true, false, IsTrue, List, [], ◌∷◌, ◌++◌, map, length, get_or, None, refl, sym, ap, subst, inl, inr, arith}
-use Rattle.std.specs.Prelude.{Result, Ok, Err, IfErr}
-use Rattle.std.specs.List.{list_any, All}
-use Rattle.sn_record.specs.declared.value.Value.{Value}
-use Rattle.std.specs.Str.{bytes_eq}
-use Rattle.std.specs.Ordering.{eq_by_cmp}
-use Rattle.std.specs.FinMap as finite
-use Rattle.std.specs.FinMap.{find, from_entries}
-use Rattle.std.proofs.lemmas.Bool.{and_from, or_parts, false_from_ne_true, both_ways}
-use Rattle.std.proofs.lemmas.List.{map_push, map-append, length-map, get_or-map, take_at, drop_at}
-use Rattle.std.proofs.lemmas.List.Elements.{All-head, All-tail, All-take, All-drop, All-same, All-map}
-use Rattle.std.proofs.lemmas.List.Folds.{list_any_at}
-use Rattle.sn_record.specs.declared.label.Kind.{Kind}
-use Rattle.sn_record.specs.declared.label.Kind.TheVariants.{Field, Tag}
+-- The names and the numbered entries while the entries of a line are taken one after another.
+use Rattle.std.proofs.Common.{◌≡◌, ◌∙◌, ℕ, ◌<◌, List, [], ◌∷◌, ◌++◌, map, length, take, get_or, refl, sym, ap, subst, inl, inr, arith}
+use Rattle.std.specs.List.{All}
+use Rattle.std.proofs.lemmas.List.{map_push, map-append, take_at}
+use Rattle.std.proofs.lemmas.List.Elements.{All-same, All-map, All-take}
 use Rattle.sn_record.specs.declared.label.Label.{Label}
-use Rattle.sn_record.specs.Label.{label_cmp, label_cmp_total, label_cmp-IsAntisymmetric}
+use Rattle.sn_record.specs.declared.value.Value.{Value}
 use Rattle.sn_record.specs.Record.{FitsLabel}
-use Rattle.sn_record.proofs.Maps.{same_label as tied_labels}
-use Rattle.sn_names.specs.Names.{is_held, entered, all_entered, number_in, name_at}
-use Rattle.sn_names.proofs.NamesLaws.{same_as_itself, name_at-number_in, is_held-entered, is_held-each, number_in-all_entered, length-all_entered, all_entered-append}
-use Rattle.sn_record_parser.specs.declared.entry.WrittenLabel.{WrittenLabel}
+use Rattle.sn_names.specs.Names.{entered, all_entered, number_in}
+use Rattle.sn_names.proofs.NamesLaws.{is_held-entered, number_in-all_entered, length-all_entered, all_entered-append}
 use Rattle.sn_record_parser.specs.declared.entry.Entry.{Entry}
 use Rattle.sn_input.specs.declared.input.InputFault.{InputFault}
-use Rattle.sn_input.specs.declared.input.InputFault.TheVariants.{Memory}
-use Rattle.sn_input.specs.Numbered.{with_entries, label_in, entry_in, same_kind, same_label, first_repeat, repeated}
+use Rattle.sn_input.specs.Numbered.{with_entries, entry_in}
 use Rattle.sn_input.specs.Reading.{most_names}
 use Rattle.sn_input.specs.Steps.{Fits, LacksNames}
-use Rattle.sn_input.proofs.Repeating.{labels_of, fresh_label}
 
 abbrev name_of : Entry → List ℕ
 name_of e = e.label.name
@@ -74,13 +60,12 @@ module _ (start : List (List ℕ)) (entries before after : List Entry) (entry : 
   made_more made more id was number is =
       is ∙ (λ i. was i ++ (record { kind = entry.label.kind; id = number i }, entry.value) ∷ []) ∙ sym (map_push (entry_in final) before entry)
 
+-- what holds of all entries holds of the first of them
+pub front_all : (P : Entry → Type 0) (xs ys entries : List Entry) → xs ++ ys ≡ entries → All P entries → All P xs
+front_all P xs ys entries is all = All-same P xs (take (length xs) (xs ++ ys)) (sym (take_at xs ys (length xs) refl)) (All-take P (length xs) (xs ++ ys) (All-same P (xs ++ ys) entries is all))
+
 -- each numbered entry fits its label
 pub numbered_fit : (names : List (List ℕ)) (entries : List Entry) (made : List (Label × Value)) → made ≡ map (entry_in names) entries → All Fits entries → All (λ e. FitsLabel e.0 e.1) made
 numbered_fit names entries made is fit =
-    All-same (λ (e : Label × Value). FitsLabel e.0 e.1) (map (entry_in names) entries) made (sym is)
+    All-same (λ (e : Label × Value). FitsLabel e.0 e.1) made (map (entry_in names) entries) is
     (All-map (λ (e : Label × Value). FitsLabel e.0 e.1) (entry_in names) entries (λ k d within. fit k d within (number_in names (name_of (get_or entries k d)))))
-
--- want of memory is a lack of room for names
-pub lacks_memory : {A : Type 0} (result : Result A InputFault) (names : List (List ℕ)) → IfErr result (λ fault. fault ≡ Memory) → IfErr result (LacksNames names)
-lacks_memory (Ok made) names wanted = tt
-lacks_memory (Err fault) names wanted = inl wanted

@@ -33,11 +33,7 @@ fn number_of(names: &mut Names, name: &[u8]) -> Result<u32, InputFault>
 }
 
 /// Appends the value at a label.
-fn push(
-    entries: &mut Vec<(Label, Value)>,
-    label: Label,
-    value: Value,
-) -> Result<(), InputFault>
+fn push(entries: &mut Vec<(Label, Value)>, label: Label, value: Value) -> Result<(), InputFault>
     ensures pushed { OnOk result (entries.new.items ≡ entries.old.items ++ (label, value) ∷ []) }
     ensures refused { IfErr result (λ fault. fault ≡ InputFault.Memory) }
 {

@@ -2,7 +2,9 @@ use Rattle.std.proofs.Common.{◌≡◌, ◌∙◌, ◌∷◌, [], ◌++◌, app
 use Rattle.std.specs.Vec.Iter.{into_iter_items}
 use Rattle.std.proofs.lemmas.Result.{err_from_is_err_and}
 use Rattle.sn_names.specs.Names.{entered, number_in}
-use Rattle.sn_input.proofs.Numbers.{names_more, number_stays, lacks_names, made_more}
+use Rattle.sn_input.specs.Numbered.{with_entries}
+use Rattle.sn_input.specs.Steps.{Fits}
+use Rattle.sn_input.proofs.Numbers.{names_more, number_stays, lacks_names, made_more, front_all, numbered_fit}
 use Rattle.sn_input.proofs.numbering.record_of.Goals as goal
 
 pub loop-entry-init : goal.loop-entry-init
@@ -39,3 +41,10 @@ loop-entry-preserved c =
       made = made_more start entries at.yielded _ c.in-Some.entry all at.made.items c.push.new.entries.items c.in_ok-id.id at.invariant.made
           (number_stays start entries at.yielded _ c.in-Some.entry all at.names at.invariant.names _ c.in_ok-id.id grown number) c.in_ok-push.ensures.pushed;
     }
+
+pub made_of-requires : goal.made_of-requires
+made_of-requires c =
+    let at = c.loop-entry in
+    let whole = c.into_iter-entry-iterator.ensures.into_iter_gives.0 ∙ c.into_vec-entry-items.ensures in
+    numbered_fit (with_entries c.args.names.now (into_iter_items c.into_iter-entry-iterator.result)) at.yielded at.made.items at.invariant.made
+    (front_all Fits at.yielded (into_iter_items at.entry-iterator) c.args.entries (at.invariant.all ∙ whole) c.requires)
