@@ -22,7 +22,7 @@ pub type Stream = Seq<Segment>;
 impl Flowing {
     pub fn copy(&self, alloc: Global) -> Result<Flowing, Memory> {
         match self {
-            Flowing::Rec(record) => Ok(Flowing::Rec(record.copy(alloc)?)),
+            Flowing::Rec(record) => Ok(Flowing::Rec(record.copy()?)),
             Flowing::Fault(fault) => Ok(Flowing::Fault(*fault)),
             Flowing::Stuck(place) => Ok(Flowing::Stuck(*place)),
         }

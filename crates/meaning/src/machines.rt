@@ -123,10 +123,10 @@ impl Cell<'_> {
     }
 
     /// Puts a copy of the record into the leftmost empty slot whose pattern it matches, and answers whether there is one.
-    fn hold(&mut self, alloc: Global, record: &Record) -> Result<bool, Memory> {
+    fn hold(&mut self, record: &Record) -> Result<bool, Memory> {
         for (slot, pattern) in self.slots.iter_mut().zip(self.patterns) {
             if slot.is_none() && record.matches(pattern) {
-                *slot = Some(record.copy(alloc)?);
+                *slot = Some(record.copy()?);
                 return Ok(true);
             }
         }
@@ -146,7 +146,7 @@ impl Cell<'_> {
         let mut both = Record::new(alloc);
         for slot in self.slots.iter().rev() {
             if let Some(held) = slot {
-                both = held.union_left(alloc, &both)?;
+                both = held.union_left(&both)?;
             }
         }
         Ok(both)
@@ -156,9 +156,9 @@ impl Cell<'_> {
 impl Machine for Cell<'_> {
     fn emit(&mut self, alloc: Global, record: &Record, out: &mut Segment) -> Result<(), Memory> {
         if !self.is_waiting {
-            return append(out, Flowing::Rec(record.copy(alloc)?));
+            return append(out, Flowing::Rec(record.copy()?));
         }
-        if self.hold(alloc, record)? {
+        if self.hold(record)? {
             if self.is_full() {
                 self.is_waiting = false;
                 return append(out, Flowing::Rec(self.union(alloc)?));
@@ -166,7 +166,7 @@ impl Machine for Cell<'_> {
             return Ok(());
         }
         if self.matches_any(record) {
-            append(out, Flowing::Rec(record.copy(alloc)?))
+            append(out, Flowing::Rec(record.copy()?))
         } else {
             append(out, Flowing::Stuck(self.place))
         }

@@ -53,7 +53,7 @@ fn inheriting(
 {
     let mut items = Items::new(alloc);
     for made in emitted.into_vec() {
-        let whole = made.inheriting(alloc, r, input)?;
+        let whole = made.inheriting(r, input)?;
         append(&mut items, Item::Rec(whole))?;
     }
     Ok(items)

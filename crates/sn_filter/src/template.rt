@@ -90,5 +90,5 @@ pub fn template_record(
     ensures { Gives (answered_record taken.now pattern.now template.now) result }
 {
     let made = record_of(alloc, template.parts.as_slice(), pattern, taken)?;
-    Ok(made.inheriting(alloc, taken, pattern)?)
+    Ok(made.inheriting(taken, pattern)?)
 }

@@ -1,10 +1,10 @@
 //! The record of a line, with names as numbers.
-ghost use Rattle.std.specs.Prelude.{◌≡◌, ◌<◌, ◌≤◌, ◌⊎◌, length, None, IfOk, OnOk, IfErr};
+ghost use Rattle.std.specs.Prelude.{◌≡◌, ◌++◌, ◌∷◌, [], ◌<◌, ◌≤◌, ◌⊎◌, length, IfOk, OnOk, IfErr};
 ghost use Rattle.std.specs.List.{All};
 ghost use Rattle.std.specs.FinMap as map;
 ghost use Rattle.sn_record.specs.Record.{FitsLabel};
 ghost use Rattle.sn_names.specs.Names.{entered, number_in};
-ghost use Rattle.sn_input.specs.Numbered.{with_entries, record_of as numbered, repeated};
+ghost use Rattle.sn_input.specs.Numbered.{with_entries, record_of as numbered};
 ghost use Rattle.sn_input.specs.Reading.{most_names};
 ghost use Rattle.sn_input.specs.Steps.{Fits, LacksNames};
 
@@ -32,39 +32,50 @@ fn number_of(names: &mut Names, name: &[u8]) -> Result<u32, InputFault>
     }
 }
 
-/// Sets the value at a label, whatever stood there.
-fn put(made: &mut Record, label: Label, value: Value) -> Result<(), InputFault>
-    requires { FitsLabel label value }
-    ensures put { OnOk result (made.new ≡ map.insert made.old label value) }
+/// Appends the value at a label.
+fn push(entries: &mut Vec<(Label, Value)>, label: Label, value: Value) -> Result<(), InputFault>
+    ensures pushed { OnOk result (entries.new.items ≡ entries.old.items ++ (label, value) ∷ []) }
     ensures refused { IfErr result (λ fault. fault ≡ InputFault.Memory) }
 {
-    match made.set(label, value) {
-        Ok(_) => Ok(()),
+    match entries.push((label, value)) {
+        Ok(()) => Ok(()),
         Err(_) => Err(InputFault::Memory),
     }
 }
 
-/// The record of entries of which no label repeats another. Their new names go to the end of `names`.
+/// The record of the entries.
+fn made_of(entries: Vec<(Label, Value)>) -> Result<Record, InputFault>
+    requires { All (λ entry. FitsLabel entry.0 entry.1) entries.items }
+    ensures made { IfOk result (λ made. made ≡ map.from_entries entries.items) }
+    ensures refused { IfErr result (λ fault. fault ≡ InputFault.Memory) }
+{
+    match Record::from_entries(entries) {
+        Ok(made) => Ok(made),
+        Err(_) => Err(InputFault::Memory),
+    }
+}
+
+/// The record of entries. Their new names go to the end of `names`. All labels are numbered first, and brought into
+/// order at once.
 pub fn record_of(
     alloc: Global,
     names: &mut Names,
     entries: Seq<Entry>,
 ) -> Result<Record, InputFault>
-    requires distinct { repeated entries ≡ None }
-    requires fit { All Fits entries }
+    requires { All Fits entries }
     ensures entered { OnOk result (names.new ≡ with_entries names.old entries) }
     ensures few { OnOk result (length names.new ≤ most_names) }
     ensures numbered { IfOk result (λ made. made ≡ numbered names.new entries) }
     ensures refused { IfErr result (LacksNames (with_entries names.old entries)) }
 {
-    let mut made = Record::new(alloc);
+    let mut made = Vec::new(alloc);
     // So few are held from the start, also where no entry adds to them.
     prove!(names.count() <= MOST_NAMES);
     for entry in entries.into_vec() {
         let Entry { label, value } = entry;
         let id = number_of(names, label.name.as_slice())?;
         let kind = label.kind;
-        put(&mut made, Label { kind, id }, value)?;
+        push(&mut made, Label { kind, id }, value)?;
     }
-    Ok(made)
+    made_of(made)
 }

@@ -45,7 +45,7 @@ fn all_sets(alloc: Global, faces: &[Seq<LabelSet>]) -> Result<Seq<LabelSet>, Mem
 {
     let mut sets = Seq::new(alloc);
     for face in faces {
-        push_copies(alloc, &mut sets, face.as_slice())?;
+        push_copies(&mut sets, face.as_slice())?;
     }
     Ok(sets)
 }
@@ -67,7 +67,7 @@ impl Faced {
         ensures face { (boxes : List BoxProgram) → IfOk result (IsFaced boxes) }
     {
         let mut face = Seq::new(alloc);
-        push_copy(alloc, &mut face, &filter.pattern)?;
+        push_copy(&mut face, &filter.pattern)?;
         Ok(Faced {
             net: Net::Filter(filter),
             face,
@@ -139,7 +139,7 @@ impl Faced {
             net,
             face: mut sets,
         } = body;
-        push_copy(alloc, &mut sets, &exit)?;
+        push_copy(&mut sets, &exit)?;
         let body = Boxed::new(alloc, net)?;
         let net = Net::Star {
             place,
@@ -166,7 +166,7 @@ impl Faced {
     {
         let Faced { net, face } = body;
         let mut sets = Seq::new(alloc);
-        push_tagged(alloc, &mut sets, tag, face.as_slice())?;
+        push_tagged(&mut sets, tag, face.as_slice())?;
         let body = Boxed::new(alloc, net)?;
         let net = Net::Split {
             place,

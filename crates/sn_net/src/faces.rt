@@ -11,27 +11,19 @@ use std::alloc::Global;
 use std::cmp::Ordering;
 
 /// Appends a copy of `set`.
-pub(crate) fn push_copy(
-    alloc: Global,
-    sets: &mut Seq<LabelSet>,
-    set: &LabelSet,
-) -> Result<(), Memory>
+pub(crate) fn push_copy(sets: &mut Seq<LabelSet>, set: &LabelSet) -> Result<(), Memory>
     ensures { OnOk result (sets.new ≡ sets.old ++ set.now ∷ []) }
 {
-    let set = set.copy(alloc)?;
+    let set = set.copy()?;
     append(sets, set)
 }
 
 /// Appends a copy of each of `more`.
-pub(crate) fn push_copies(
-    alloc: Global,
-    sets: &mut Seq<LabelSet>,
-    more: &[LabelSet],
-) -> Result<(), Memory>
+pub(crate) fn push_copies(sets: &mut Seq<LabelSet>, more: &[LabelSet]) -> Result<(), Memory>
     ensures { OnOk result (sets.new ≡ sets.old ++ more.now) }
 {
     for set in more {
-        push_copy(alloc, sets, set)?;
+        push_copy(sets, set)?;
     }
     Ok(())
 }
@@ -49,7 +41,6 @@ fn push_input(alloc: Global, sets: &mut Seq<LabelSet>, labels: &[Label]) -> Resu
 
 /// Appends a copy of each of `more` with the tag added.
 pub(crate) fn push_tagged(
-    alloc: Global,
     sets: &mut Seq<LabelSet>,
     id: u32,
     more: &[LabelSet],
@@ -57,7 +48,7 @@ pub(crate) fn push_tagged(
     ensures { OnOk result (sets.new ≡ sets.old ++ map (with_tag id) more.now) }
 {
     for set in more {
-        let mut set = set.copy(alloc)?;
+        let mut set = set.copy()?;
         set.insert(tag(id))?;
         append(sets, set)?;
     }
@@ -79,8 +70,8 @@ fn push_variants(
             let program = boxes.at(*number as usize);
             push_input(alloc, sets, program.input.as_slice())
         }
-        Net::Filter(filter) => push_copy(alloc, sets, &filter.pattern),
-        Net::Sync { patterns, .. } => push_copies(alloc, sets, patterns.as_slice()),
+        Net::Filter(filter) => push_copy(sets, &filter.pattern),
+        Net::Sync { patterns, .. } => push_copies(sets, patterns.as_slice()),
         Net::Serial { left, .. } => push_variants(alloc, sets, left.get(), boxes),
         Net::Choice { branches, .. } => {
             for branch in branches.as_slice() {
@@ -90,12 +81,12 @@ fn push_variants(
         }
         Net::Star { body, exit, .. } => {
             push_variants(alloc, sets, body.get(), boxes)?;
-            push_copy(alloc, sets, exit)
+            push_copy(sets, exit)
         }
         Net::Split { body, tag, .. } => {
             let mut inner = Seq::new(alloc);
             push_variants(alloc, &mut inner, body.get(), boxes)?;
-            push_tagged(alloc, sets, *tag, inner.as_slice())
+            push_tagged(sets, *tag, inner.as_slice())
         }
     }
 }
@@ -134,7 +125,7 @@ pub fn copy_sets(alloc: Global, sets: &[LabelSet]) -> Result<Seq<LabelSet>, Memo
     ensures { IfOk result (λ copies. copies ≡ sets.now) }
 {
     let mut copies = Seq::new(alloc);
-    push_copies(alloc, &mut copies, sets)?;
+    push_copies(&mut copies, sets)?;
     Ok(copies)
 }
 

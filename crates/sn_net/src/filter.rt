@@ -162,7 +162,7 @@ impl Filter {
     pub fn copy(&self, alloc: Global) -> Result<Filter, Memory>
         ensures { IfOk result (λ copy. copy ≡ self.now) }
     {
-        let pattern = self.pattern.copy(alloc)?;
+        let pattern = self.pattern.copy()?;
         let mut templates = Seq::new(alloc);
         for template in self.templates.as_slice() {
             let template = template.copy(alloc)?;

@@ -1,3 +1,6 @@
+pub mod Rising
+pub mod Merged
+pub mod Searched
 pub mod Maps
 pub mod Sets
 pub mod Values

@@ -13,6 +13,7 @@ use Rattle.std.proofs.Flags.{T_true}
 use Rattle.std.proofs.lemmas.Grind.{common_steps}
 use Rattle.std.proofs.lemmas.Option.{slice_get-map, slice_get_within, get_or_from_slice_get}
 use Rattle.sn_record.specs.declared.label.Label.{Label}
+use Rattle.sn_record.specs.InOrder.{IsInOrder}
 use Rattle.sn_record.specs.Label.{label_cmp, label_cmp_total, label_cmp-IsAntisymmetric}
 
 as_test : (b : Bool) → b ≡ true → T b
@@ -103,6 +104,11 @@ module _ {V : Type 0} where
 
   pub from_sorted-kept : (p : Label → Bool) (m : map.FinMap label_cmp V) (es : List (Label × V)) → es ≡ filter (λ e. p e.0) (map.entries m) → map.from_sorted es ≡ map.retain_keys m p
   from_sorted-kept p m es same = ap map.from_sorted same ∙ from_sorted-filter p m
+
+  -- entries that were brought into order are those of their map
+  pub from_sorted-in_order : (es made : List (Label × V)) → IsInOrder label_cmp es made → map.from_sorted made ≡ map.from_entries {R = label_cmp} es
+  from_sorted-in_order es made ordered =
+      map.same_map label_cmp_total label_cmp-IsAntisymmetric _ _ (λ q. get-from_sorted made q ordered.rises ∙ ordered.finds q ∙ sym (map.get-from_entries label_cmp_total es q))
 
   find-append : (q : Label) (xs ys : List (Label × V)) → find label_cmp q (xs ++ ys) ≡ option_or (find label_cmp q xs) (find label_cmp q ys)
   find-append q [] ys = refl

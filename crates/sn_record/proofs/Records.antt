@@ -1,7 +1,8 @@
 -- Records by what stands at each label.
 use Rattle.std.proofs.Common.{◌≡◌, ℕ, ◌+◌, ◌<◌, ◌≤◌, ◌&&◌, ◌||◌, Bool, true, false, cond, not, IsTrue, List, [], ◌∷◌, length, get_or, drop, None, Some, Option, IfSome, refl, sym, ap, ◌∙◌, subst, is_some}
 use Rattle.std.specs.Prelude.{if◌then◌else◌, slice_get, Result, Ok, Err, OnOk, OnErr}
-use Rattle.std.specs.List.{filter}
+use Rattle.std.specs.List.{All}
+use Rattle.std.proofs.lemmas.List.Elements.{All-head, All-tail}
 use Rattle.std.specs.Option.{option_or}
 use Rattle.std.specs.Ordering.{eq_by_cmp}
 use Rattle.std.specs.FinMap as map
@@ -13,7 +14,7 @@ use Rattle.sn_record.specs.declared.label.Label.{Label}
 use Rattle.sn_record.specs.declared.value.Value.{Value}
 use Rattle.sn_record.specs.Label.{label_cmp, label_cmp_total, label_cmp-IsAntisymmetric}
 use Rattle.sn_record.specs.LabelSet.{Labels, contains}
-use Rattle.sn_record.specs.Record.{Entries, FitsLabel, IsRecord, Matches, overlay, restrict, inherit}
+use Rattle.sn_record.specs.Record.{Entries, FitsLabel, IsRecord, Matches, is_missing, overlay, restrict, inherit}
 use Rattle.sn_record.proofs.Maps.{ties_itself, same_label, option_or-none, is_some-cond, get-append, get-retain_keys, get-slice_get, find-filter}
 
 -- records that have the same value at each label are one
@@ -133,53 +134,29 @@ pub FitsLabel-get_or : (r : Entries) (es : List (Label × Value)) (i : ℕ) (e :
 FitsLabel-get_or r es i e same whole within here =
     FitsLabel-slice_get r i e.0 e.1 whole (sym (ap (λ xs. slice_get xs i) same) ∙ slice_get-get_or es i e within ∙ sym (ap (λ (x : Label × Value). Some x) here))
 
--- what is there, and what is to be inherited from place i
-abbrev pub so_far : Labels → Entries → List (Label × Value) → ℕ → Label → Option Value
-so_far v o es i l = option_or (map.get o l) (find label_cmp l (filter (λ e. not (contains v e.0)) (drop i es)))
+only_missing : {A : Type 0} (named : Bool) (x y : Option A) → option_or x (cond (not named && not (is_some x)) y None) ≡ option_or x (if named then None else y)
+only_missing named (Some x) y = refl
+only_missing true None y = refl
+only_missing false None y = refl
 
-none_there : {A : Type 0} (x : Option A) → is_some x ≡ false → x ≡ None
-none_there None e = refl
-none_there (Some x) e = cc
+-- what is inherited is what is missing
+pub inherit-missing : (r : Entries) (v : Labels) (o : Entries) → overlay o (map.retain_keys r (is_missing v o)) ≡ inherit r v o
+inherit-missing r v o =
+    same_record _ _
+    (λ l. get-overlay o (map.retain_keys r (is_missing v o)) l ∙ ap (option_or (map.get o l)) (get-retain_keys r (is_missing v o) l)
+    ∙ only_missing (contains v l) (map.get o l) (map.get r l) ∙ sym (get-inherit r v o l))
 
-step_cases : (o : Entries) (e : Label × Value) (es : List (Label × Value)) (l : Label) (named has : Bool) → map.contains_key o e.0 ≡ has
-    → option_or (map.get (if named || has then o else map.insert o e.0 e.1) l) (find label_cmp l es)
-    ≡ option_or (map.get o l) (find label_cmp l (if not named then e ∷ es else es))
-step_cases o e es l true has is = refl
-step_cases o e es l false true is =
-    elim (eq_by_cmp label_cmp l e.0) as (λ b. eq_by_cmp label_cmp l e.0 ≡ b → option_or (map.get o l) (find label_cmp l es) ≡ option_or (map.get o l) (cond b (Some e.1) (find label_cmp l es))) [
-      | true ↦ λ ties. first_wins (map.get o l) _ _ (subst (λ k. is_some (map.get o k) ≡ true) (sym (same_label l e.0 ties)) is)
-      | false ↦ λ apart. refl
+-- each value of a list fits its label, and so does each of its map
+found_fits : (l : Label) (es : List (Label × Value)) → All (λ e. FitsLabel e.0 e.1) es → IfSome (find label_cmp l es) (FitsLabel l)
+found_fits l [] fit = tt
+found_fits l (e ∷ es) fit =
+    elim (eq_by_cmp label_cmp l e.0) as (λ b. eq_by_cmp label_cmp l e.0 ≡ b → IfSome (cond b (Some e.1) (find label_cmp l es)) (FitsLabel l)) [
+      | true ↦ λ ties. subst (λ x. FitsLabel x e.1) (sym (same_label l e.0 ties)) (All-head (λ (x : Label × Value). FitsLabel x.0 x.1) e es fit)
+      | false ↦ λ apart. found_fits l es (All-tail (λ (x : Label × Value). FitsLabel x.0 x.1) e es fit)
     ] refl
-step_cases o e es l false false is =
-    rw (map.get-insert label_cmp_total o e.0 e.1 l)
-    (elim (eq_by_cmp label_cmp l e.0) as (λ b. eq_by_cmp label_cmp l e.0 ≡ b → option_or (cond b (Some e.1) (map.get o l)) (find label_cmp l es) ≡ option_or (map.get o l) (cond b (Some e.1) (find label_cmp l es))) [
-      | true ↦ λ ties. rw (none_there (map.get o l) (subst (λ k. is_some (map.get o k) ≡ false) (sym (same_label l e.0 ties)) is)) refl
-      | false ↦ λ apart. refl
-    ] refl)
 
--- one entry that was to be inherited is there, as `add_one` leaves the record
-pub so_far-step : (v : Labels) (o p : Entries) (es : List (Label × Value)) (i : ℕ) (e : Label × Value) → i < length es → e ≡ get_or es i e
-    → p ≡ (if contains v e.0 || map.contains_key o e.0 then o else map.insert o e.0 e.1) → (l : Label) → so_far v p es (i + 1) l ≡ so_far v o es i l
-so_far-step v o p es i e within here is l =
-    let others = λ (xs : List (Label × Value)). filter (λ f. not (contains v f.0)) xs in
-    let cut : drop i es ≡ e ∷ drop (i + 1) es = drop_more es i e within ∙ ap (λ x. x ∷ drop (i + 1) es) (sym here) in
-    ap (λ (m : Entries). option_or (map.get m l) (find label_cmp l (others (drop (i + 1) es)))) is
-    ∙ step_cases o e (others (drop (i + 1) es)) l (contains v e.0) (map.contains_key o e.0) refl
-    ∙ sym (ap (λ xs. option_or (map.get o l) (find label_cmp l (others xs))) cut)
-
--- all is to be inherited
-pub so_far-first : (r : Entries) (v : Labels) (o : Entries) (l : Label) → so_far v o (map.entries r) 0 l ≡ map.get (inherit r v o) l
-so_far-first r v o l =
-    let p = λ (k : Label). not (contains v k) in
-    ap (option_or (map.get o l)) (find-filter p l (map.entries r) ∙ ap (λ x. cond (p l) x None) (sym (map.get-entries r l)) ∙ sym (get-retain_keys r p l))
-    ∙ sym (get-overlay o (map.retain_keys r p) l)
-
--- nothing is to be inherited any more
-pub so_far-past : (r : Entries) (v : Labels) (o p : Entries) (es : List (Label × Value)) (i : ℕ) → length es ≤ i → ((l : Label) → so_far v p es i l ≡ map.get (inherit r v o) l) → p ≡ inherit r v o
-so_far-past r v o p es i past same =
-    let done : drop i es ≡ [] = drop_of_length-le es past in
-    same_record p _
-    (λ l. sym (ap (λ xs. option_or (map.get p l) (find label_cmp l (filter (λ e. not (contains v e.0)) xs))) done ∙ option_or-none (map.get p l)) ∙ same l)
+pub IsRecord-from_entries : (es : List (Label × Value)) → All (λ e. FitsLabel e.0 e.1) es → IsRecord (map.from_entries es)
+IsRecord-from_entries es fit l = subst (λ x. IfSome x (FitsLabel l)) (sym (map.get-from_entries label_cmp_total es l)) (found_fits l es fit)
 
 unnamed : {A : Type 0} (named : Bool) (x : Option A) → named ≡ false → (if named then None else x) ≡ x
 unnamed true x e = cc

@@ -61,39 +61,3 @@ IsSubset-union_right s t l there = contains-union s t l ∙ or_right _ _ there
 
 pub IsSubset-minus : (s t : Labels) → IsSubset (minus s t) s
 IsSubset-minus s t l there = and_left _ (not (contains t l)) (sym (contains-minus s t l) ∙ there)
-
--- labels that are there, and labels that are to come from place i
-abbrev pub so_far : Labels → List (Label × Unit {0}) → ℕ → Label → Option (Unit {0})
-so_far s es i l = option_or (map.get s l) (find label_cmp l (drop i es))
-
-a_unit : (x : Option (Unit {0})) (y : Unit {0}) → Some tt ≡ option_or x (Some y)
-a_unit None y = refl
-a_unit (Some x) y = refl
-
-one_more : (s : Labels) (e : Label × Unit {0}) (es : List (Label × Unit {0})) (l : Label)
-    → option_or (map.get (map.insert s e.0 tt) l) (find label_cmp l es) ≡ option_or (map.get s l) (find label_cmp l (e ∷ es))
-one_more s e es l =
-    rw (map.get-insert label_cmp_total s e.0 tt l)
-    (elim (eq_by_cmp label_cmp l e.0) as (λ b. option_or (cond b (Some tt) (map.get s l)) (find label_cmp l es) ≡ option_or (map.get s l) (cond b (Some e.1) (find label_cmp l es))) [
-      | true ↦ a_unit (map.get s l) e.1
-      | false ↦ refl
-    ])
-
--- one label that was to come is there
-pub so_far-insert : (s t : Labels) (es : List (Label × Unit {0})) (i : ℕ) (d : Label × Unit {0}) → i < length es → t ≡ map.insert s (get_or es i d).0 tt
-    → (l : Label) → so_far t es (i + 1) l ≡ so_far s es i l
-so_far-insert s t es i d within is l =
-    ap (λ (m : Labels). option_or (map.get m l) (find label_cmp l (drop (i + 1) es))) is
-    ∙ one_more s (get_or es i d) (drop (i + 1) es) l
-    ∙ sym (ap (λ xs. option_or (map.get s l) (find label_cmp l xs)) (drop_more es i d within))
-
--- nothing is to come
-pub so_far-past : (s t : Labels) (es : List (Label × Unit {0})) (i : ℕ) → length es ≤ i → ((l : Label) → so_far s es i l ≡ map.get t l) → s ≡ t
-so_far-past s t es i past same =
-    let done : drop i es ≡ [] = drop_of_length-le es past in
-    map.same_map label_cmp_total label_cmp-IsAntisymmetric s t
-    (λ l. sym (ap (λ xs. option_or (map.get s l) (find label_cmp l xs)) done ∙ option_or-none (map.get s l)) ∙ same l)
-
--- all are to come
-pub so_far-first : (s t : Labels) (l : Label) → so_far s (map.entries t) 0 l ≡ map.get (union s t) l
-so_far-first s t l = ap (option_or (map.get s l)) (sym (map.get-entries t l)) ∙ sym (get-append s t l)

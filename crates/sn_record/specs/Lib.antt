@@ -1,3 +1,4 @@
+pub mod InOrder
 pub mod Label
 pub mod LabelSet
 pub mod Value

@@ -1,5 +1,5 @@
 -- Records, by the value at each label.
-use Rattle.std.specs.Prelude.{◌≡◌, ◌++◌, ℕ, Bool, not, IsTrue, IfSome, if◌then◌else◌, max, List, [], ◌∷◌, Option, None, Some}
+use Rattle.std.specs.Prelude.{◌≡◌, ◌++◌, ℕ, Bool, not, ◌&&◌, IsTrue, IfSome, if◌then◌else◌, max, List, [], ◌∷◌, Option, None, Some}
 use Rattle.std.specs.List.{list_all}
 use Rattle.std.specs.FinMap as map
 use Rattle.sn_record.specs.declared.label.Label.{Label}
@@ -50,6 +50,10 @@ size_matched r v = if is_match r v then Some (map.len v) else None
 abbrev pub score : List Labels → Entries → Option ℕ
 score [] r = None
 score (v ∷ vs) r = greater (size_matched r v) (score vs r)
+
+-- whether a label is neither in v nor in o
+abbrev pub is_missing : Labels → Entries → Label → Bool
+is_missing v o l = not (contains v l) && not (map.contains_key o l)
 
 -- what o has, and what r has at other labels
 abbrev pub overlay : Entries → Entries → Entries

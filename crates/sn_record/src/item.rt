@@ -37,7 +37,7 @@ impl Item {
     {
         match self {
             Item::Rec(record) => {
-                let record = record.copy(alloc)?;
+                let record = record.copy()?;
                 Ok(Item::Rec(record))
             }
             Item::Fault(fault) => Ok(Item::Fault(*fault)),

@@ -1,17 +1,19 @@
-ghost use Rattle.std.specs.Prelude.{◌≡◌, ◌<◌, ◌==◌, IfOk, IfErr, OnOk, OnErr, IsTrue, slice_get};
+ghost use Rattle.std.specs.Prelude.{◌≡◌, ◌++◌, ◌<◌, ◌==◌, IfOk, IfErr, OnOk, OnErr, IsTrue, slice_get};
 ghost use Rattle.std.specs.FinMap as map;
 ghost use Rattle.std.specs.FinMap.{is_sorted};
 ghost use Rattle.std.specs.Option.{option_copied};
 ghost use Rattle.sn_record.specs.Label.{label_cmp};
 
 use crate::label::{ByLabel, Label};
-use sn_list::sorted;
+use crate::merging::{find, in_order, merge, put};
+use sn_list::Memory;
 use std::alloc::Global;
 use std::marker::Model;
 
 /// Entries in strictly rising order of their labels, seen as the map from labels to values.
 ///
-/// Label sets and records are such maps. They have a handful of entries, so a look-up walks along them.
+/// Label sets and records are such maps. They have a handful of entries, or thousands: a look-up goes by halves, and
+/// many labels are put in at once.
 #[derive(Drop)]
 pub struct LabelMap<V> {
     entries: Vec<(Label, V)>,
@@ -50,6 +52,10 @@ impl<V> LabelMap<V> {
         LabelMap { entries }
     }
 
+    pub fn allocator(&self) -> Global {
+        *self.entries.allocator()
+    }
+
     pub fn len(&self) -> usize
         ensures { result ≡ map.len self.now }
     {
@@ -74,7 +80,7 @@ impl<V> LabelMap<V> {
     pub fn get(&self, label: Label) -> Option<&V>
         ensures { option_copied result ≡ map.get self.now label }
     {
-        sorted::find(&ByLabel, self.entries.as_slice(), &label)
+        find(&ByLabel, self.entries.as_slice(), &label)
     }
 
     /// Sets the value at `label`, and answers the old one. For want of memory `value` comes back, and the map is
@@ -85,7 +91,25 @@ impl<V> LabelMap<V> {
         ensures err { OnErr result (self.new ≡ self.old) }
         ensures back { IfErr result (λ refused. refused ≡ value) }
     {
-        sorted::put(&ByLabel, &mut self.entries, label, value)
+        put(&ByLabel, &mut self.entries, label, value)
+    }
+}
+
+impl<V: Drop> LabelMap<V> {
+    /// The map of entries in any order. Of several at one label the first stays.
+    pub fn from_entries(entries: Vec<(Label, V)>) -> Result<LabelMap<V>, Memory>
+        ensures { IfOk result (λ made. made ≡ map.from_entries entries.items) }
+    {
+        let entries = in_order(&ByLabel, entries)?;
+        Ok(LabelMap { entries })
+    }
+
+    /// What the map has, and what `other` has at other labels.
+    pub fn union(self, other: LabelMap<V>) -> Result<LabelMap<V>, Memory>
+        ensures { IfOk result (λ both. both ≡ map.from_entries (map.entries self ++ map.entries other)) }
+    {
+        let entries = merge(&ByLabel, self.entries, other.entries)?;
+        Ok(LabelMap { entries })
     }
 }
 

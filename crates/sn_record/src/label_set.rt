@@ -97,21 +97,20 @@ impl LabelSet {
     }
 
     /// The labels that are in either set.
-    pub fn union(&self, alloc: Global, other: &LabelSet) -> Result<LabelSet, Memory>
+    pub fn union(&self, other: &LabelSet) -> Result<LabelSet, Memory>
         ensures { IfOk result (λ both. both ≡ union self.now other.now) }
     {
-        let mut both = self.copy(alloc)?;
-        for entry in other.labels.as_slice() {
-            both.insert(entry.0)?;
-        }
-        Ok(both)
+        let LabelSet { labels: first } = self.copy()?;
+        let LabelSet { labels: second } = other.copy()?;
+        let labels = first.union(second)?;
+        Ok(LabelSet { labels })
     }
 
     /// The labels that are not in `other`.
-    pub fn minus(&self, alloc: Global, other: &LabelSet) -> Result<LabelSet, Memory>
+    pub fn minus(&self, other: &LabelSet) -> Result<LabelSet, Memory>
         ensures { IfOk result (λ rest. rest ≡ minus self.now other.now) }
     {
-        let mut rest = Vec::new(alloc);
+        let mut rest = Vec::new(self.labels.allocator());
         for entry in self.labels.as_slice() {
             if !other.contains(entry.0) {
                 rest.push(*entry)?;
@@ -122,10 +121,10 @@ impl LabelSet {
         })
     }
 
-    pub fn copy(&self, alloc: Global) -> Result<LabelSet, Memory>
+    pub fn copy(&self) -> Result<LabelSet, Memory>
         ensures { IfOk result (λ copy. copy ≡ self.now) }
     {
-        let entries = Vec::from_slice(alloc, self.labels.as_slice())?;
+        let entries = Vec::from_slice(self.labels.allocator(), self.labels.as_slice())?;
         Ok(LabelSet {
             labels: LabelMap::from_sorted(entries),
         })

@@ -8,6 +8,7 @@ mod item;
 mod label;
 mod label_map;
 mod label_set;
+mod merging;
 mod record;
 mod value;
 
@@ -15,6 +16,7 @@ pub use best::score;
 pub use item::{Fault, FaultKind, Item, Items};
 pub use label::{ByLabel, Kind, Label};
 pub use label_set::LabelSet;
+pub use merging::{in_order, merge};
 pub use record::Record;
 pub use sn_list::Memory;
 pub use value::{Text, Value, Values};

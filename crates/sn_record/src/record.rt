@@ -1,8 +1,9 @@
-ghost use Rattle.std.specs.Prelude.{◌≡◌, ◌<◌, ◌==◌, ◌||◌, IfOk, IfErr, OnOk, OnErr, IfSome, IsTrue, ◌↔◌, slice_get, if◌then◌else◌};
+ghost use Rattle.std.specs.Prelude.{◌≡◌, ◌<◌, ◌==◌, IfOk, IfErr, OnOk, OnErr, IfSome, IsTrue, ◌↔◌, slice_get};
 ghost use Rattle.std.specs.Option.{option_copied};
-ghost use Rattle.std.specs.List.{filter};
+ghost use Rattle.std.specs.List.{All, filter};
 ghost use Rattle.std.specs.FinMap as map;
 ghost use Rattle.sn_record.specs.LabelSet.{contains};
+ghost use Rattle.sn_record.specs.Record.{is_missing};
 
 use crate::label::Label;
 use crate::label_map::LabelMap;
@@ -66,6 +67,26 @@ fn copy_within(
     Ok(copies)
 }
 
+/// A copy of each entry whose label is neither in `named` nor in `values`.
+fn copy_missing(
+    alloc: Global,
+    entries: &[(Label, Value)],
+    named: &LabelSet,
+    values: &LabelMap<Value>,
+) -> Result<Vec<(Label, Value)>, Memory>
+    ensures { IfOk result (λ copies.
+        copies.items ≡ filter (λ entry. is_missing named.now values.now entry.0) entries.now) }
+{
+    let mut copies = Vec::new(alloc);
+    for entry in entries {
+        if !named.contains(entry.0) && values.get(entry.0).is_none() {
+            let value = entry.1.copy(alloc)?;
+            copies.push((entry.0, value))?;
+        }
+    }
+    Ok(copies)
+}
+
 impl Record {
     ghost use Rattle.sn_record.specs.Record.{FitsLabel, IsRecord, Matches, overlay, restrict, inherit};
 
@@ -76,6 +97,15 @@ impl Record {
         Record {
             values: LabelMap::new(alloc),
         }
+    }
+
+    /// The record of entries in any order. Of several at one label the first stays.
+    pub fn from_entries(entries: Vec<(Label, Value)>) -> Result<Record, Memory>
+        requires { All (λ entry. FitsLabel entry.0 entry.1) entries.items }
+        ensures { IfOk result (λ made. made ≡ map.from_entries entries.items) }
+    {
+        let values = LabelMap::from_entries(entries)?;
+        Ok(Record { values })
     }
 
     pub fn len(&self) -> usize
@@ -139,87 +169,46 @@ impl Record {
     }
 
     /// What the record has, and what `other` has at other labels.
-    pub fn union_left(&self, alloc: Global, other: &Record) -> Result<Record, Memory>
+    pub fn union_left(&self, other: &Record) -> Result<Record, Memory>
         ensures { IfOk result (λ both. both ≡ overlay self.now other.now) }
     {
-        Record::inherit(alloc, other, &LabelSet::new(alloc), self)
+        Record::inherit(other, &LabelSet::new(self.values.allocator()), self)
     }
 
     /// A copy of what the record has at labels of `variant`.
-    pub fn restrict(&self, alloc: Global, variant: &LabelSet) -> Result<Record, Memory>
+    pub fn restrict(&self, variant: &LabelSet) -> Result<Record, Memory>
         ensures { IfOk result (λ part. part ≡ restrict self.now variant.now) }
     {
-        let entries = copy_within(alloc, self.values.as_slice(), variant)?;
+        let entries = copy_within(self.values.allocator(), self.values.as_slice(), variant)?;
         Ok(Record {
             values: LabelMap::from_sorted(entries),
         })
     }
 
-    /// Sets a copy of `value` at `label`, unless the label is in `named` or has a value.
-    fn add_one(
-        &mut self,
-        alloc: Global,
-        label: Label,
-        value: &Value,
-        named: &LabelSet,
-    ) -> Result<(), Memory>
-        requires { FitsLabel label value.now }
-        ensures { OnOk result (self.new ≡
-            (if contains named.now label || map.contains_key self.old label then self.old
-            else map.insert self.old label value.now)) }
-    {
-        if named.contains(label) || self.get(label).is_some() {
-            return Ok(());
-        }
-        let value = value.copy(alloc)?;
-        match self.set(label, value) {
-            Ok(_) => Ok(()),
-            Err(_) => Err(Memory),
-        }
-    }
-
-    /// Sets a copy of each value of `from` whose label is neither in `named` nor in `self`.
-    fn add_missing(&mut self, alloc: Global, from: &Record, named: &LabelSet) -> Result<(), Memory>
-        ensures { OnOk result (self.new ≡ inherit from.now named.now self.old) }
-    {
-        for entry in from.values.as_slice() {
-            self.add_one(alloc, entry.0, &entry.1, named)?;
-        }
-        Ok(())
-    }
-
     /// What a component that names the labels `named` gives where it takes `from` and emits `self`: `self`, with each
     /// label of `from` that is neither in `named` nor in `self`, at its value in `from`. For want of memory `self` is
     /// dropped.
-    pub fn inheriting(
-        mut self,
-        alloc: Global,
-        from: &Record,
-        named: &LabelSet,
-    ) -> Result<Record, Memory>
+    pub fn inheriting(self, from: &Record, named: &LabelSet) -> Result<Record, Memory>
         ensures { IfOk result (λ whole. whole ≡ inherit from.now named.now self) }
     {
-        self.add_missing(alloc, from, named)?;
-        Ok(self)
+        let Record { values } = self;
+        let missing = copy_missing(values.allocator(), from.values.as_slice(), named, &values)?;
+        let values = values.union(LabelMap::from_sorted(missing))?;
+        Ok(Record { values })
     }
 
     /// As `inheriting`, and leaves `emitted` as it is.
-    pub fn inherit(
-        alloc: Global,
-        from: &Record,
-        named: &LabelSet,
-        emitted: &Record,
-    ) -> Result<Record, Memory>
+    pub fn inherit(from: &Record, named: &LabelSet, emitted: &Record) -> Result<Record, Memory>
         ensures { IfOk result (λ whole. whole ≡ inherit from.now named.now emitted.now) }
     {
-        let copy = emitted.copy(alloc)?;
-        copy.inheriting(alloc, from, named)
+        let copy = emitted.copy()?;
+        copy.inheriting(from, named)
     }
 
-    pub fn copy(&self, alloc: Global) -> Result<Record, Memory>
+    pub fn copy(&self) -> Result<Record, Memory>
         ensures { IfOk result (λ copy. copy ≡ self.now) }
     {
-        let entries = copy_all(alloc, self.values.as_slice())?;
+        let entries = copy_all(self.values.allocator(), self.values.as_slice())?;
         Ok(Record {
             values: LabelMap::from_sorted(entries),
         })

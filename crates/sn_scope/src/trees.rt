@@ -116,7 +116,7 @@ fn node(
             let Some(body) = built else {
                 return Ok(None);
             };
-            let exit = exit.copy(alloc)?;
+            let exit = exit.copy()?;
             let guard = copy_guard(alloc, guard)?;
             Ok(Some(Faced::star(alloc, *place, *merge, body, exit, guard)?))
         }

@@ -70,9 +70,7 @@ impl Variants {
         ensures ok { OnOk result (self.new ≡ added self.old set) }
         ensures err { OnErr result (self.new ≡ self.old) }
     {
-        let key = Key {
-            set: set.copy(*self.keys.allocator())?,
-        };
+        let key = Key { set: set.copy()? };
         // Room comes first, so that the sets and the keys grow together or not at all.
         self.sets.reserve(1)?;
         if self.keys.insert(key)? {
@@ -87,7 +85,7 @@ impl Variants {
         ensures err { OnErr result (IsBegun self.old sets.now self.new) }
     {
         for set in sets {
-            let copy = set.copy(*self.keys.allocator())?;
+            let copy = set.copy()?;
             self.add(copy)?;
         }
         Ok(())

@@ -81,7 +81,7 @@ fn union_of(alloc: Global, slots: &[Option<Record>]) -> Result<Record, Memory>
     let mut both = Record::new(alloc);
     for slot in slots {
         if let Some(held) = slot {
-            both = both.inheriting(alloc, held, &LabelSet::new(alloc))?;
+            both = both.inheriting(held, &LabelSet::new(alloc))?;
         }
     }
     Ok(both)

@@ -23,11 +23,11 @@ fn are_joined(alloc: Global, text: &str) -> Result<bool, Fail> {
         return Ok(false);
     };
     let (first, second) = (labels_of(alloc, first)?, labels_of(alloc, second)?);
-    let joined = first.union(alloc, &second)?;
+    let joined = first.union(&second)?;
     Ok(
         joined == labels_of(alloc, both)?
             && first.is_subset(&joined)
-            && first.minus(alloc, &second)? == labels_of(alloc, rest)?,
+            && first.minus(&second)? == labels_of(alloc, rest)?,
     )
 }
 
@@ -48,7 +48,7 @@ fn sets_hold_their_labels(rt: HostRuntime) -> Result<(), Fail> {
     let mut set = LabelSet::new(rt.alloc());
     assert!(rt; set.is_empty() && set.insert(T)? && set.insert(A)? && !set.insert(T)?);
     assert!(rt; set.len() == 2 && set.at(0) == A);
-    let copy = set.copy(rt.alloc())?;
+    let copy = set.copy()?;
     assert!(rt; copy == set && copy.contains(T));
     Ok(())
 }
@@ -61,8 +61,8 @@ fn inherits(alloc: Global, text: &str) -> Result<bool, Fail> {
         return Ok(false);
     };
     let named = labels_of(alloc, named)?;
-    let made = Record::inherit(alloc, taken, &named, emitted)?;
-    Ok(made == *whole && emitted.copy(alloc)?.inheriting(alloc, taken, &named)? == *whole)
+    let made = Record::inherit(taken, &named, emitted)?;
+    Ok(made == *whole && emitted.copy()?.inheriting(taken, &named)? == *whole)
 }
 
 #[test]
@@ -84,7 +84,7 @@ fn wins_left(alloc: Global, text: &str) -> Result<bool, Fail> {
         return Ok(false);
     };
     let labels = labels_of(alloc, right)?;
-    Ok(left.union_left(alloc, right)? == *both && left.restrict(alloc, &labels)? == *part)
+    Ok(left.union_left(right)? == *both && left.restrict(&labels)? == *part)
 }
 
 #[test]

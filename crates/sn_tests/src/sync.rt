@@ -36,7 +36,7 @@ fn one(alloc: Global, label: Label, n: i64) -> Result<Record, Memory> {
 
 /// A record with both tags.
 fn two(alloc: Global, a: i64, b: i64) -> Result<Record, Memory> {
-    one(alloc, A, a)?.union_left(alloc, &one(alloc, B, b)?)
+    one(alloc, A, a)?.union_left(&one(alloc, B, b)?)
 }
 
 /// What comes out for a record. Nothing does for one that matches no pattern, nor for want of memory.

@@ -1,5 +1,4 @@
 use Rattle.std.proofs.Common.{◌≡◌, ◌≤◌, ◌++◌, map, length}
-use Rattle.std.specs.FinMap.{from_entries}
 use Rattle.std.specs.Vec.Iter.{into_iter_items}
 use Rattle.sn_input.specs.Numbered.{with_entries, entry_in}
 use Rattle.sn_input.specs.Reading.{most_names}
@@ -12,5 +11,5 @@ invariant-loop-entry l =
       all : l.yielded ++ into_iter_items l.entry-iterator ≡ entries;
       names : l.names ≡ with_entries l.initial.names l.yielded;
       few : length l.names ≤ most_names;
-      made : l.made ≡ from_entries (map (entry_in (with_entries l.initial.names entries)) l.yielded);
+      made : l.made.items ≡ map (entry_in (with_entries l.initial.names entries)) l.yielded;
     }
