@@ -1,0 +1,6 @@
+pub mod Fronts
+pub mod TagOnce
+pub mod LabelOnce
+pub mod BoxOnce
+pub mod NetworkOnce
+pub mod DeclarationOnce
