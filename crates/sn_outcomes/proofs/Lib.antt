@@ -4,3 +4,5 @@ pub mod LabelOnce
 pub mod BoxOnce
 pub mod NetworkOnce
 pub mod DeclarationOnce
+pub mod Tokens
+pub mod RecordFiles
