@@ -6,3 +6,8 @@ pub mod NetworkOnce
 pub mod DeclarationOnce
 pub mod Tokens
 pub mod RecordFiles
+pub mod Programs
+pub mod Sources
+pub mod Loaded
+pub mod Commands
+pub mod SourceAlone
