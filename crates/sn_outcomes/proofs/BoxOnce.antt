@@ -1,23 +1,21 @@
 -- Tokens spell one expression in a box, up to what may follow it.
 use Rattle.std.proofs.Common.{◌≡◌, ◌∙◌, ℕ, ◌<◌, ◌⊎◌, Bool, true, false, List, [], ◌∷◌, Option, Some, None, refl, sym, ap, subst, inl, inr, arith}
-use Rattle.sn_ast.specs.BoxExprs.{Head, Function, Variant, Elements, with_binding, with_condition, with_arguments, sequence_of, with_step}
+use Rattle.sn_ast.specs.BoxExprs.{Function, Variant, Elements, with_binding, with_condition, with_arguments, with_step}
 use Rattle.sn_ast.specs.BoxExprs.{BoxExpr, bind, choose, plain, Disjunction, disjunction, Disjunctions, no_or, or, Conjunction, conjunction, Conjunctions, no_and, and, Comparison, no_compare, compare, Sum, sum, Sums, no_sum, add, Product, product, Products, no_product, multiply, Operand, sign, number, literal, tag, name, call, list, out, parens, Arguments, no_arguments, arguments, MoreArguments, last_argument, more_arguments, Sequence, sequence, Steps, last_step, more_steps}
 use Rattle.sn_ast.specs.Measures.{Measuring}
 use Rattle.sn_ast.specs.Operators.{box_operations, with_sign, with_operator, with_and, with_or}
 use Rattle.sn_ast.specs.Rows.{no_parts, with_part}
 use Rattle.sn_ast.specs.Terminals.{closing, place_of, sign_of}
 use Rattle.sn_ast.specs.declared.box_expr.BExpr.{BExpr}
-use Rattle.sn_ast.specs.declared.tag_expr.Operator.{Operator}
 use Rattle.sn_ast.specs.declared.terminal.Bracket.{Bracket}
 use Rattle.sn_ast.specs.declared.terminal.Bracket.TheVariants.{Paren, Brace, Square}
 use Rattle.sn_ast.specs.declared.terminal.Infix.TheVariants as kind
-use Rattle.sn_ast.specs.declared.terminal.Keyword.{Keyword as SomeKeyword}
-use Rattle.sn_ast.specs.declared.terminal.Keyword.TheVariants.{If, Then, Else, Let, In, Out}
+use Rattle.sn_ast.specs.declared.terminal.Keyword.TheVariants.{If, Else, Let, Out}
 use Rattle.sn_ast.specs.declared.terminal.Sign.{Sign}
 use Rattle.sn_ast.specs.declared.terminal.Symbol.{Symbol as SomeSymbol}
 use Rattle.sn_ast.specs.declared.terminal.Symbol.TheVariants.{OpenParen, OpenBracket, Comma}
 use Rattle.sn_ast.specs.declared.terminal.Terminal.{Terminal}
-use Rattle.sn_ast.specs.declared.terminal.Terminal.TheVariants.{Name, Tag, Number, Literal, Keyword, Symbol}
+use Rattle.sn_ast.specs.declared.terminal.Terminal.TheVariants.{Keyword, Symbol}
 use Rattle.sn_outcomes.proofs.Fronts.{rank, symbol_rank, behind, front_place, front_infix, along}
 
 -- the first token may begin an operand

@@ -1,6 +1,6 @@
 -- A command and its files are found to be one thing, where the bytes of the files are told.
-use Rattle.std.proofs.Common.{ℕ, List, [], ◌≡◌, ◌<◌, ◌≤◌, refl, sym, ◌∙◌, ap, subst, inl, inr, length, arith}
-use Rattle.std.specs.Prelude.{Result, Ok, Err, Option, Some, None, IfSome}
+use Rattle.std.proofs.Common.{ℕ, List, ◌≡◌, ◌<◌, ◌≤◌, refl, sym, ◌∙◌, ap, subst, inl, inr, length, arith}
+use Rattle.std.specs.Prelude.{Result, Ok, Err, Option, Some, None}
 use Rattle.sn_input.specs.Reading.{ReadsFile}
 use Rattle.sn_input.specs.declared.input.Input.{Input}
 use Rattle.sn_input.specs.declared.input.InputFault.{InputFault}
@@ -11,8 +11,8 @@ use Rattle.sn_outcomes.proofs.RecordFiles.{file_read_once}
 use Rattle.sn_outcomes.proofs.Sources.{text_once}
 use Rattle.sn_outcomes.specs.Told.{AreTold}
 use Rattle.sn_output.specs.Printed.{printed, ending}
-use Rattle.sn_top.specs.Answer.{IsAccepted, Printout, whole, IsRefusedSource, IsRefusedInput, Finds, FindsText, FindsFor, IsAnswered, Outside, found_status}
-use Rattle.sn_top.specs.Load.{Limits, limits_of, input_refusal, HasNoRoute, HasWrongLine, HasManyNames, stream_of}
+use Rattle.sn_top.specs.Answer.{Printout, whole, IsRefusedSource, IsRefusedInput, Finds, FindsText, FindsFor, IsAnswered, Outside, found_status}
+use Rattle.sn_top.specs.Load.{Limits, limits_of, HasNoRoute, HasWrongLine, HasManyNames, stream_of}
 use Rattle.sn_top.specs.Seen.{File}
 use Rattle.sn_top.specs.Source.{FindsSource}
 use Rattle.sn_top.specs.declared.load.Program.{Program}

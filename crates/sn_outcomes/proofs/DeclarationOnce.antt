@@ -1,26 +1,24 @@
 -- Tokens spell one list of declarations.
-use Rattle.std.proofs.Common.{◌≡◌, ◌∙◌, ℕ, ◌<◌, Bool, true, false, List, [], ◌∷◌, Option, Some, None, refl, sym, ap, subst, arith}
-use Rattle.sn_ast.specs.BoxExprs.{BoxExpr, Sequence, sequence}
+use Rattle.std.proofs.Common.{◌≡◌, ℕ, ◌<◌, Bool, true, false, List, [], ◌∷◌, Option, Some, refl, sym, ap, subst, arith}
+use Rattle.sn_ast.specs.BoxExprs.{BoxExpr, sequence}
 use Rattle.sn_ast.specs.Declarations.{function_of, with_body, with_connect}
 use Rattle.sn_ast.specs.Declarations.{MoreTuples, last_tuple, more_tuples, MoreParams, last_param, more_params, Params, no_params, params, Function, function, Body, body, with_function, RestOfBox, rest_of_box, Signature, no_signature, signature, Declaration, box, net, type_name, sig_name, Inner, no_inner, inner, MoreInner, last_inner, more_inner, Declarations, no_more, declaration}
 use Rattle.sn_ast.specs.Labels.{IsTuple}
 use Rattle.sn_ast.specs.Measures.{Measuring}
 use Rattle.sn_ast.specs.Networks.{Network}
 use Rattle.sn_ast.specs.Rows.{append, no_parts, with_part}
-use Rattle.sn_ast.specs.declared.box_expr.BExpr.{BExpr}
 use Rattle.sn_ast.specs.declared.declaration.Decl.{Decl}
 use Rattle.sn_ast.specs.declared.declaration.Decl.TheVariants.{TypeDecl, SigDecl}
 use Rattle.sn_ast.specs.declared.declaration.FunDecl.{FunDecl}
 use Rattle.sn_ast.specs.declared.label.Ident.{Ident}
 use Rattle.sn_ast.specs.declared.label.Sig.{Sig}
 use Rattle.sn_ast.specs.declared.label.Tuple.{Tuple}
-use Rattle.sn_ast.specs.declared.network.NetExpr.{NetExpr}
 use Rattle.sn_ast.specs.declared.terminal.Keyword.TheVariants.{Connect}
-use Rattle.sn_ast.specs.declared.terminal.Symbol.TheVariants.{OpenBrace, CloseBrace, Semicolon}
+use Rattle.sn_ast.specs.declared.terminal.Symbol.TheVariants.{OpenBrace, Semicolon}
 use Rattle.sn_ast.specs.declared.terminal.Terminal.{Terminal}
 use Rattle.sn_ast.specs.declared.terminal.Terminal.TheVariants.{Keyword, Symbol}
 use Rattle.sn_outcomes.proofs.BoxOnce.{box_expr_begins, box_expr_once, sequence_once}
-use Rattle.sn_outcomes.proofs.Fronts.{rank, net_rank, type_rank, behind, along}
+use Rattle.sn_outcomes.proofs.Fronts.{rank, behind, along}
 use Rattle.sn_outcomes.proofs.LabelOnce.{tuple_once, types_once, sig_once}
 use Rattle.sn_outcomes.proofs.NetworkOnce.{network_once}
 

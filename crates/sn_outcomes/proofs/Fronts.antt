@@ -1,5 +1,5 @@
 -- What may follow a part of a source, by the first of the tokens that follow.
-use Rattle.std.proofs.Common.{◌≡◌, ℕ, List, [], ◌∷◌, Option, Some, None, sym, subst, ap}
+use Rattle.std.proofs.Common.{◌≡◌, ℕ, List, [], ◌∷◌, Option, Some, None, sym, subst}
 use Rattle.sn_ast.specs.Terminals.{infix_of, link_of, place_of}
 use Rattle.sn_ast.specs.declared.terminal.Infix.{Infix}
 use Rattle.sn_ast.specs.declared.terminal.Infix.TheVariants as kind
@@ -9,7 +9,7 @@ use Rattle.sn_ast.specs.declared.terminal.Link.TheVariants as link
 use Rattle.sn_ast.specs.declared.terminal.Symbol.{Symbol as SomeSymbol}
 use Rattle.sn_ast.specs.declared.terminal.Symbol.TheVariants as symbol
 use Rattle.sn_ast.specs.declared.terminal.Terminal.{Terminal}
-use Rattle.sn_ast.specs.declared.terminal.Terminal.TheVariants.{Name, Tag, Number, Literal, Keyword, Symbol}
+use Rattle.sn_ast.specs.declared.terminal.Terminal.TheVariants.{Keyword, Symbol}
 
 -- how tight an operator binds
 abbrev pub infix_rank : Infix → ℕ

@@ -1,7 +1,7 @@
 -- Tokens spell one row of labels, one type and one signature, up to what may follow them.
-use Rattle.std.proofs.Common.{◌≡◌, ◌∙◌, ℕ, ◌<◌, ◌≤◌, List, [], ◌∷◌, ◌++◌, Some, refl, sym, ap, subst, arith}
+use Rattle.std.proofs.Common.{◌≡◌, ◌∙◌, ◌<◌, ◌≤◌, List, [], ◌∷◌, ◌++◌, Some, refl, sym, ap, subst, arith}
 use Rattle.sn_ast.specs.Labels.{MoreLabels, last_label, more_labels, Labels, no_labels, labels, IsVariant, variant, IsTuple, tuple, Part, set, named, MoreParts, last_part, more_parts, Types, types, IsSig, arrow, signature}
-use Rattle.sn_ast.specs.Terminals.{label_of, closing}
+use Rattle.sn_ast.specs.Terminals.{closing}
 use Rattle.sn_ast.specs.declared.label.LabelAt.{LabelAt}
 use Rattle.sn_ast.specs.declared.label.Sig.{Sig}
 use Rattle.sn_ast.specs.declared.label.Sig.TheVariants.{Arrow as ArrowSig}

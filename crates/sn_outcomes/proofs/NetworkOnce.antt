@@ -1,21 +1,17 @@
 -- Tokens spell one network, up to what may follow it.
 use Rattle.std.proofs.Common.{◌≡◌, ◌∙◌, ℕ, ◌<◌, Bool, List, [], ◌∷◌, Option, Some, None, refl, sym, ap, subst, arith}
 use Rattle.sn_ast.specs.Measures.{Measuring}
-use Rattle.sn_ast.specs.Networks.{GoesOn, branched, chained, computed_item, filter_at, same_item, sync_at, with_guarded_star, with_split, with_star}
+use Rattle.sn_ast.specs.Networks.{branched, chained, computed_item, filter_at, same_item, sync_at, with_guarded_star, with_split, with_star}
 use Rattle.sn_ast.specs.Networks.{Item, same, renamed, computed, MoreItems, last_item, more_items, Items, no_items, items, Template, template, MoreTemplates, last_template, more_templates, Filter, filter, MorePatterns, last_pattern, more_patterns, Patterns, patterns, Atom, name, identity, filtered, sync, parens, Post, post, Posts, bare, star, guarded_star, split, Serial, serial, MoreSerial, last, dots, Network, network, MoreBranches, final, branch}
-use Rattle.sn_ast.specs.Labels.{IsVariant}
 use Rattle.sn_ast.specs.Rows.{append, no_parts, with_part}
 use Rattle.sn_ast.specs.TagExprs.{TagExpr}
-use Rattle.sn_ast.specs.Terminals.{link_of}
-use Rattle.sn_ast.specs.declared.label.LabelAt.{LabelAt}
 use Rattle.sn_ast.specs.declared.label.Variant.{Variant}
 use Rattle.sn_ast.specs.declared.network.ItemAt.{ItemAt}
 use Rattle.sn_ast.specs.declared.network.NetExpr.{NetExpr}
 use Rattle.sn_ast.specs.declared.network.TemplateAt.{TemplateAt}
-use Rattle.sn_ast.specs.declared.tag_expr.TExpr.{TExpr}
 use Rattle.sn_ast.specs.declared.terminal.Keyword.TheVariants.{If}
 use Rattle.sn_ast.specs.declared.terminal.Link.TheVariants as link
-use Rattle.sn_ast.specs.declared.terminal.Symbol.TheVariants.{OpenParen, CloseParen}
+use Rattle.sn_ast.specs.declared.terminal.Symbol.TheVariants.{CloseParen}
 use Rattle.sn_ast.specs.declared.terminal.Terminal.{Terminal}
 use Rattle.sn_ast.specs.declared.terminal.Terminal.TheVariants.{Keyword, Symbol}
 use Rattle.sn_outcomes.proofs.Fronts.{rank, net_rank, symbol_link, behind, along}

@@ -1,11 +1,10 @@
 -- A record file gives one thing.
-use Rattle.std.proofs.Common.{◌≡◌, ◌∙◌, ℕ, ◌+◌, ◌<◌, ◌≤◌, false, IsTrue, List, [], ◌∷◌, length, None, Some, refl, sym, ap, subst, arith}
-use Rattle.std.specs.Prelude.{Result, Ok, Err}
+use Rattle.std.proofs.Common.{◌≡◌, ◌∙◌, ℕ, ◌+◌, ◌≤◌, IsTrue, List, length, refl, sym, ap, subst, arith}
+use Rattle.std.specs.Prelude.{Result, Err}
 use Rattle.std.specs.Str.{chars}
 use Rattle.std.proofs.lemmas.Bool.{both_ways}
 use Rattle.std.proofs.lemmas.Option.{same_Some}
 use Rattle.sn_record_tokens.proofs.Once.{Tokens_once}
-use Rattle.sn_record_tokens.specs.declared.token.Token.{Token}
 use Rattle.sn_record_parser.proofs.Once.{IsLine_once}
 use Rattle.sn_record_parser.specs.Grammar.{IsLine}
 use Rattle.sn_record_parser.specs.declared.entry.Entry.{Entry}

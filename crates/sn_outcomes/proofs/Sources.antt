@@ -2,10 +2,9 @@
 use Rattle.std.proofs.Common.{ℕ, List, ◌≡◌, refl, sym, ◌∙◌, ap, subst}
 use Rattle.std.specs.Prelude.{Result, Ok, Err, ◌≢◌}
 use Rattle.sn_ast.specs.declared.declaration.Program.{Program}
-use Rattle.sn_lexer.specs.Answer.{LexesAs, IsFault}
+use Rattle.sn_lexer.specs.Answer.{IsFault}
 use Rattle.sn_lexer.specs.declared.token.LexFault.{LexFault}
 use Rattle.sn_lexer.specs.declared.token.LexFault.TheVariants as lex
-use Rattle.sn_lexer.specs.declared.token.Token.{Token}
 use Rattle.sn_outcomes.proofs.Programs.{same_spelled, same_refused, spelled_or_refused}
 use Rattle.sn_outcomes.proofs.Tokens.{same_tokens, same_refusal, tokens_or_refusal}
 use Rattle.sn_parser.specs.Answer.{Faults, Spell}

@@ -1,14 +1,11 @@
 -- Tokens spell one expression over tags, up to what may follow it.
-use Rattle.std.proofs.Common.{◌≡◌, ◌∙◌, ℕ, ◌<◌, List, ◌∷◌, Some, refl, sym, ap, subst, arith}
+use Rattle.std.proofs.Common.{◌≡◌, ◌∙◌, ◌<◌, List, ◌∷◌, Some, refl, sym, ap, subst, arith}
 use Rattle.sn_ast.specs.Measures.{Measuring}
 use Rattle.sn_ast.specs.Operators.{tag_operations, with_sign, with_operator, with_and, with_or}
 use Rattle.sn_ast.specs.TagExprs.{with_condition}
 use Rattle.sn_ast.specs.TagExprs.{TagExpr, plain, choose, Disjunction, disjunction, Disjunctions, no_or, or, Conjunction, conjunction, Conjunctions, no_and, and, Comparison, no_compare, compare, Sum, sum, Sums, no_sum, add, Product, product, Products, no_product, multiply, Operand, sign, number, tag, parens}
-use Rattle.sn_ast.specs.declared.tag_expr.Operator.{Operator}
 use Rattle.sn_ast.specs.declared.tag_expr.TExpr.{TExpr}
-use Rattle.sn_ast.specs.declared.terminal.Infix.{Infix}
 use Rattle.sn_ast.specs.declared.terminal.Infix.TheVariants as kind
-use Rattle.sn_ast.specs.declared.terminal.Sign.{Sign}
 use Rattle.sn_ast.specs.declared.terminal.Symbol.TheVariants.{Colon}
 use Rattle.sn_ast.specs.declared.terminal.Terminal.{Terminal}
 use Rattle.sn_ast.specs.declared.terminal.Terminal.TheVariants.{Symbol}
