@@ -1,24 +1,16 @@
 -- A command and its files are found to be one thing, where the bytes of the files are told.
 use Rattle.std.proofs.Common.{ℕ, List, ◌≡◌, ◌<◌, ◌≤◌, refl, sym, ◌∙◌, ap, subst, inl, inr, length, arith}
-use Rattle.std.specs.Prelude.{Result, Ok, Err, Option, Some, None}
-use Rattle.sn_input.specs.Reading.{ReadsFile}
-use Rattle.sn_input.specs.declared.input.Input.{Input}
-use Rattle.sn_input.specs.declared.input.InputFault.{InputFault}
-use Rattle.sn_input.specs.declared.input.InputFault.TheVariants as input_fault
-use Rattle.sn_once.specs.Stuck.{first_stuck}
+use Rattle.std.specs.Prelude.{Result, Ok, Err, Option, Some}
 use Rattle.sn_outcomes.proofs.Loaded.{IsFound, found_once, straight_found, refused_found}
-use Rattle.sn_outcomes.proofs.RecordFiles.{file_read_once}
+use Rattle.sn_outcomes.proofs.Inputs.{Found, printout, Comes, comes_once, refusal_comes, routed_comes}
 use Rattle.sn_outcomes.proofs.Sources.{text_once}
 use Rattle.sn_outcomes.specs.Told.{AreTold}
-use Rattle.sn_output.specs.Printed.{printed, ending}
-use Rattle.sn_top.specs.Answer.{Printout, whole, IsRefusedSource, IsRefusedInput, Finds, FindsText, FindsFor, IsAnswered, Outside, found_status}
-use Rattle.sn_top.specs.Load.{Limits, limits_of, HasNoRoute, HasWrongLine, HasManyNames, stream_of}
+use Rattle.sn_top.specs.Answer.{whole, IsRefusedSource, IsRefusedInput, Finds, FindsText, FindsFor, IsAnswered, Outside, found_status}
+use Rattle.sn_top.specs.Load.{Limits, limits_of, WhyNoItems}
 use Rattle.sn_top.specs.Seen.{File}
 use Rattle.sn_top.specs.Source.{FindsSource}
 use Rattle.sn_top.specs.declared.load.Program.{Program}
 use Rattle.sn_top.specs.declared.serve.TheConstants.{SOURCE_LIMIT, INPUT_LIMIT}
-use Rattle.sn_top.specs.declared.status.LineFault.{LineFault}
-use Rattle.sn_top.specs.declared.status.LineFault.TheVariants as line
 use Rattle.sn_top.specs.declared.status.Refusal.{Refusal}
 use Rattle.sn_top.specs.declared.status.Refusal.TheVariants.{TooLarge, Source as SourceAt, NoMain, TooDeep, LargeTree, TooManyNames, Line, NotBuilt}
 use Rattle.sn_top.specs.declared.status.Status.{Status}
@@ -26,49 +18,16 @@ use Rattle.sn_top.specs.declared.status.Which.TheVariants.{Source, Input as Inpu
 use Rattle.sn_top.specs.declared.words.Command.{Command}
 use Rattle.sn_top.specs.declared.words.Command.TheVariants.{Once, Print}
 
-abbrev Found : Type 0
-Found = Result Printout Refusal
-
--- what comes of a stream: it is printed, unless a record lacks a route
-abbrev printout : List (List ℕ) → Limits → Program → Input → Printout
-printout names limits program input = record { bytes = printed names (stream_of limits program input); ending = ending (stream_of limits program input) }
-
-abbrev unless_stuck : Printout → Option ℕ → Found
-unless_stuck p None = Ok p
-unless_stuck p (Some place) = Err NotBuilt
-
--- the refusal of a record file; want of memory is none
-abbrev file_refusal : InputFault → Refusal
-file_refusal (input_fault.BadLine n) = Line (line.BadLine n)
-file_refusal (input_fault.Twice n kind name) = Line (line.Twice n kind name)
-file_refusal (input_fault.TooMany n) = Line (line.TooMany n)
-file_refusal input_fault.TooManyNames = TooManyNames
-file_refusal input_fault.Memory = NoMain
-
--- what comes of what a record file is read as
-answer : Limits → Program → Result Input InputFault → Found
-answer limits program (Ok input) = unless_stuck (printout input.names limits program input) (first_stuck (stream_of limits program input))
-answer limits program (Err fault) = Err (file_refusal fault)
-
-answer_ok : (limits : Limits) (program : Program) (input : Input) (stuck : Option ℕ) → first_stuck (stream_of limits program input) ≡ stuck →
-    answer limits program (Ok input) ≡ unless_stuck (printout input.names limits program input) stuck
-unfolding answer
-answer_ok limits program input stuck e = ap (unless_stuck (printout input.names limits program input)) e
-
-answer_wrong : (limits : Limits) (program : Program) (fault : InputFault) → answer limits program (Err fault) ≡ Err (file_refusal fault)
-unfolding answer
-answer_wrong limits program fault = refl
-
 -- what is found of an input
 data Feeds (limits : Limits) (program : Program) (more : List ℕ) : Found → Type 0 where
   large : INPUT_LIMIT < length more → Feeds limits program more (Err (TooLarge InputFile))
-  fed : {found : Found} (read : Result Input InputFault) → length more ≤ INPUT_LIMIT → ReadsFile program.names more read → found ≡ answer limits program read → Feeds limits program more found
+  fed : {found : Found} → length more ≤ INPUT_LIMIT → Comes limits program more found → Feeds limits program more found
 
 feeds_once : (limits : Limits) (program : Program) (more : List ℕ) (found other : Found) → Feeds limits program more found → Feeds limits program more other → found ≡ other
 feeds_once limits program more found other (Feeds.large l) (Feeds.large k) = refl
-feeds_once limits program more found other (Feeds.large l) (Feeds.fed s w g e) = absurd (omega arith)
-feeds_once limits program more found other (Feeds.fed r w f d) (Feeds.large l) = absurd (omega arith)
-feeds_once limits program more found other (Feeds.fed r w f d) (Feeds.fed s v g e) = d ∙ ap (answer limits program) (file_read_once program.names more r s f g) ∙ sym e
+feeds_once limits program more found other (Feeds.large l) (Feeds.fed w g) = absurd (omega arith)
+feeds_once limits program more found other (Feeds.fed w f) (Feeds.large l) = absurd (omega arith)
+feeds_once limits program more found other (Feeds.fed w f) (Feeds.fed v g) = comes_once limits program more found other f g
 
 -- what is found of a source and an input
 data Goes (limits : Limits) (bytes more : List ℕ) : Found → Type 0 where
@@ -96,20 +55,8 @@ goes_once limits bytes more found other (Goes.accepted p w f d) (Goes.accepted q
 wrong_source : (limits : Limits) (bytes more : List ℕ) (refusal : Refusal) → IsRefusedSource refusal bytes → Goes limits bytes more (Err refusal)
 wrong_source limits bytes more refusal r = Goes.refused refusal r.0 (refused_found bytes refusal r.1)
 
-wrong_line : (limits : Limits) (program : Program) (more : List ℕ) (fault : LineFault) → length more ≤ INPUT_LIMIT → HasWrongLine fault program more → Feeds limits program more (Err (Line fault))
-wrong_line limits program more (line.BadLine n) w f = Feeds.fed (Err (input_fault.BadLine n)) w f (sym (answer_wrong limits program (input_fault.BadLine n)))
-wrong_line limits program more (line.Twice n kind name) w f = Feeds.fed (Err (input_fault.Twice n kind name)) w f (sym (answer_wrong limits program (input_fault.Twice n kind name)))
-wrong_line limits program more (line.TooMany n) w f = Feeds.fed (Err (input_fault.TooMany n)) w f (sym (answer_wrong limits program (input_fault.TooMany n)))
-
-many_names : (limits : Limits) (program : Program) (more : List ℕ) → length more ≤ INPUT_LIMIT → HasManyNames program more → Feeds limits program more (Err TooManyNames)
-many_names limits program more w f = Feeds.fed (Err input_fault.TooManyNames) w f (sym (answer_wrong limits program input_fault.TooManyNames))
-
-no_route : (limits : Limits) (program : Program) (more : List ℕ) → length more ≤ INPUT_LIMIT → HasNoRoute limits program more → Feeds limits program more (Err NotBuilt)
-no_route limits program more w f = Feeds.fed (Ok f.input) w f.read (sym (answer_ok limits program f.input (Some f.place) f.stuck))
-
-wrong_input : (limits : Limits) (bytes more : List ℕ) (refusal : Refusal) (Why : Program → List ℕ → Type 0) → IsRefusedInput (Some more) Why bytes →
-    ((program : Program) → length more ≤ INPUT_LIMIT → Why program more → Feeds limits program more (Err refusal)) → Goes limits bytes more (Err refusal)
-wrong_input limits bytes more refusal Why r feeds = Goes.accepted r.0 r.1.within (straight_found bytes r.0 r.1.main) (feeds r.0 r.2.0 r.2.1)
+wrong_input : (limits : Limits) (bytes more : List ℕ) (refusal : Refusal) → IsRefusedInput (Some more) (λ program more. WhyNoItems limits program more refusal) bytes → Goes limits bytes more (Err refusal)
+wrong_input limits bytes more refusal r = Goes.accepted r.0 r.1.within (straight_found bytes r.0 r.1.main) (Feeds.fed r.2.0 (refusal_comes limits r.0 more refusal r.2.1))
 
 goes : (limits : Limits) (bytes more : List ℕ) (found : Found) → Finds limits (Some bytes) (Some more) found → Goes limits bytes more found
 goes limits bytes more (Err (TooLarge Source)) f = Goes.large f
@@ -119,16 +66,15 @@ goes limits bytes more (Err NoMain) f = wrong_source limits bytes more NoMain f
 goes limits bytes more (Err (TooDeep at)) f = wrong_source limits bytes more (TooDeep at) f
 goes limits bytes more (Err (LargeTree at)) f = wrong_source limits bytes more (LargeTree at) f
 goes limits bytes more (Err TooManyNames) (inl f) = wrong_source limits bytes more TooManyNames f
-goes limits bytes more (Err TooManyNames) (inr f) = wrong_input limits bytes more TooManyNames HasManyNames f (λ program. many_names limits program more)
-goes limits bytes more (Err (Line fault)) f = wrong_input limits bytes more (Line fault) (HasWrongLine fault) f (λ program. wrong_line limits program more fault)
+goes limits bytes more (Err TooManyNames) (inr f) = wrong_input limits bytes more TooManyNames f
+goes limits bytes more (Err (Line fault)) f = wrong_input limits bytes more (Line fault) f
 goes limits bytes more (Err NotBuilt) (inl f) = wrong_source limits bytes more NotBuilt f
-goes limits bytes more (Err NotBuilt) (inr f) = wrong_input limits bytes more NotBuilt (HasNoRoute limits) f (λ program. no_route limits program more)
+goes limits bytes more (Err NotBuilt) (inr f) = wrong_input limits bytes more NotBuilt f
 goes limits bytes more (Ok p) f =
     let prints = f.2 in
-    let input = prints.input in
-    let fields : p ≡ printout input.names limits f.0 input = λ i. record { bytes = prints.bytes_are i; ending = prints.ending_is i } in
+    let fields : p ≡ printout limits f.0 prints.input = λ i. record { bytes = prints.bytes_are i; ending = prints.ending_is i } in
     Goes.accepted f.0 f.1.within (straight_found bytes f.0 f.1.main)
-    (Feeds.fed (Ok input) prints.within prints.routed.read (ap Ok fields ∙ sym (answer_ok limits f.0 input None prints.routed.routed)))
+    (Feeds.fed prints.within (subst (λ x. Comes limits f.0 more (Ok x)) (sym fields) (routed_comes limits f.0 more prints.input prints.routed)))
 
 finds_once : (limits : Limits) (bytes more : List ℕ) (source input : Option (List ℕ)) (found other : Found) → source ≡ Some bytes → input ≡ Some more →
     Finds limits source input found → Finds limits source input other → found ≡ other

@@ -9,5 +9,6 @@ pub mod RecordFiles
 pub mod Programs
 pub mod Sources
 pub mod Loaded
+pub mod Inputs
 pub mod Commands
 pub mod SourceAlone

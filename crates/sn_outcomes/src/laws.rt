@@ -19,7 +19,7 @@ ghost use Rattle.sn_parser.specs.Answer.{Faults, IsFault as IsParseFault, IsProg
 ghost use Rattle.sn_parser.specs.declared.parsing.ParseFault.{ParseFault as SomeParseFault};
 ghost use Rattle.sn_parser.specs.declared.parsing.ParseFault.TheVariants as parse_fault;
 ghost use Rattle.sn_top.specs.Answer.{Finds, FindsFor, IsAnswered, Outside, Printout};
-ghost use Rattle.sn_top.specs.Load.{Limits};
+ghost use Rattle.sn_top.specs.Load.{IsRouted, Limits, WhyNoItems};
 ghost use Rattle.sn_top.specs.Scope.{IsStraight, WhyNoProgram};
 ghost use Rattle.sn_top.specs.Seen.{File};
 ghost use Rattle.sn_top.specs.Source.{FindsSource, IsSource};
@@ -79,6 +79,17 @@ pub fn source_is_resolved_once()
 pub fn record_file_is_read_once()
     ensures one_outcome { (names : List (List ℕ)) (bytes : List ℕ) (found other : Result SomeInput SomeInputFault) → ReadsFile names bytes found → ReadsFile names bytes other
         → found ≡ other }
+{}
+
+/// The bytes of an input give a program one list of records, each with its route through the network, or one refusal, and
+/// never both.
+pub fn input_is_answered_once()
+    ensures one_input { (limits : Limits) (program : SomeProgram) (bytes : List ℕ) (input other : SomeInput) → IsRouted limits program bytes input
+        → IsRouted limits program bytes other → input ≡ other }
+    ensures one_refusal { (limits : Limits) (program : SomeProgram) (bytes : List ℕ) (refusal other : SomeRefusal) → WhyNoItems limits program bytes refusal
+        → WhyNoItems limits program bytes other → refusal ≡ other }
+    ensures never_both { (limits : Limits) (program : SomeProgram) (bytes : List ℕ) (input : SomeInput) (refusal : SomeRefusal) → IsRouted limits program bytes input
+        → WhyNoItems limits program bytes refusal → ⊥ }
 {}
 
 /// Of a command and its files one thing is found, and so there is one status, where the bytes of the files that it reads are
