@@ -13,10 +13,11 @@ use Rattle.sn_ast.specs.declared.terminal.Infix.TheVariants as kind
 use Rattle.sn_ast.specs.declared.terminal.Keyword.TheVariants.{If, Else, Let, Out}
 use Rattle.sn_ast.specs.declared.terminal.Sign.{Sign}
 use Rattle.sn_ast.specs.declared.terminal.Symbol.{Symbol as SomeSymbol}
-use Rattle.sn_ast.specs.declared.terminal.Symbol.TheVariants.{OpenParen, OpenBracket, Comma}
+use Rattle.sn_ast.specs.declared.terminal.Symbol.TheVariants.{OpenParen, OpenBracket}
 use Rattle.sn_ast.specs.declared.terminal.Terminal.{Terminal}
 use Rattle.sn_ast.specs.declared.terminal.Terminal.TheVariants.{Keyword, Symbol}
 use Rattle.sn_outcomes.proofs.Fronts.{rank, symbol_rank, behind, front_place, front_infix, along}
+use Rattle.sn_outcomes.proofs.LabelOnce.{comma_closes}
 
 -- the first token may begin an operand
 abbrev other_begins : SomeSymbol → Bool
@@ -54,11 +55,6 @@ closing_begins Square at ts (inr e) = absurd cc
 
 not_closing : (b : Bracket) (s : SomeSymbol) (at : ℕ) (ts : List Terminal) → s ≡ closing b → BeginsExpr (Symbol s at ∷ ts) → ⊥
 not_closing b s at ts e p = closing_begins b at ts (subst (λ t. BeginsExpr (Symbol t at ∷ ts)) e p)
-
-comma_closes : (b : Bracket) → Comma ≡ closing b → ⊥
-comma_closes Paren e = absurd cc
-comma_closes Brace e = absurd cc
-comma_closes Square e = absurd cc
 
 module _ {F : Type 0 → Type 0} (m : Measuring F) where
   operand_begins : {e : F BExpr} {ts us : List Terminal} → Operand m ts e us → begins_operand ts ≡ true

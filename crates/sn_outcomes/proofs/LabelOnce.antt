@@ -15,7 +15,8 @@ use Rattle.sn_ast.specs.declared.terminal.Symbol.TheVariants.{Comma}
 use Rattle.sn_ast.specs.declared.terminal.Terminal.{Terminal}
 use Rattle.sn_outcomes.proofs.Fronts.{type_rank, behind, along}
 
-comma_closes : (b : Bracket) → Comma ≡ closing b → ⊥
+-- a comma closes nothing
+pub comma_closes : (b : Bracket) → Comma ≡ closing b → ⊥
 comma_closes Paren e = absurd cc
 comma_closes Brace e = absurd cc
 comma_closes Square e = absurd cc
