@@ -1,0 +1,14 @@
+pub mod Fronts
+pub mod TagOnce
+pub mod LabelOnce
+pub mod BoxOnce
+pub mod NetworkOnce
+pub mod DeclarationOnce
+pub mod Tokens
+pub mod RecordFiles
+pub mod Programs
+pub mod Sources
+pub mod Loaded
+pub mod Inputs
+pub mod Commands
+pub mod SourceAlone

@@ -1,0 +1,30 @@
+-- Where the bytes of the files of a command are told, and what is found whatever an input holds.
+use Rattle.std.specs.Prelude.{◌≡◌, ℕ, List, Some}
+use Rattle.sn_top.specs.Seen.{File}
+use Rattle.sn_top.specs.declared.status.Refusal.{Refusal}
+use Rattle.sn_top.specs.declared.status.Refusal.TheVariants.{TooLarge, Source as SourceAt, NoMain, TooDeep, LargeTree, TooManyNames, Line, NotBuilt}
+use Rattle.sn_top.specs.declared.status.Which.TheVariants.{Source, Input}
+use Rattle.sn_top.specs.declared.words.Command.{Command}
+use Rattle.sn_top.specs.declared.words.Command.TheVariants.{Once, Print}
+
+-- the bytes of the file are told
+pub record IsTold (file : File) : Type 0 where
+  pub bytes : List ℕ
+  pub are : file.told ≡ Some bytes
+
+-- those of each file that the command reads
+abbrev pub AreTold : Command → (List ℕ → File) → Type 0
+AreTold (Once source input fuel depth) file = IsTold (file source) × IsTold (file input)
+AreTold (Print source) file = IsTold (file source)
+
+-- no input is refused so
+abbrev pub IsOfSource : Refusal → Type 0
+IsOfSource (TooLarge Source) = Unit {0}
+IsOfSource (TooLarge Input) = ⊥
+IsOfSource (SourceAt fault at) = Unit {0}
+IsOfSource NoMain = Unit {0}
+IsOfSource (TooDeep at) = Unit {0}
+IsOfSource (LargeTree at) = Unit {0}
+IsOfSource TooManyNames = ⊥
+IsOfSource (Line fault) = ⊥
+IsOfSource NotBuilt = ⊥

@@ -1,0 +1,105 @@
+//! Laws of outcomes, each as the contract of a function that does nothing.
+//!
+//! Each layer is said by a relation between what is read and what comes of it. These laws say that such a relation holds of
+//! one outcome alone, so that "this is found where this is so" can be read as "and nothing else is".
+ghost use Rattle.std.specs.Prelude.{◌≡◌, ◌≢◌, ℕ, List, Option, Some, Result, Err};
+ghost use Rattle.sn_ast.specs.declared.declaration.Decl.{Decl as SomeDecl};
+ghost use Rattle.sn_ast.specs.declared.declaration.Program.{Program as SomeTree};
+ghost use Rattle.sn_ast.specs.declared.measure.Measured.{Measured as SomeMeasured};
+ghost use Rattle.sn_ast.specs.declared.terminal.Terminal.{Terminal as SomeTerminal};
+ghost use Rattle.sn_input.specs.Reading.{ReadsFile};
+ghost use Rattle.sn_input.specs.declared.input.Input.{Input as SomeInput};
+ghost use Rattle.sn_input.specs.declared.input.InputFault.{InputFault as SomeInputFault};
+ghost use Rattle.sn_lexer.specs.Answer.{IsFault as IsLexFault, LexesAs};
+ghost use Rattle.sn_lexer.specs.declared.token.LexFault.{LexFault as SomeLexFault};
+ghost use Rattle.sn_lexer.specs.declared.token.LexFault.TheVariants as lex_fault;
+ghost use Rattle.sn_lexer.specs.declared.token.Token.{Token as SomeToken};
+ghost use Rattle.sn_outcomes.specs.Told.{AreTold, IsOfSource};
+ghost use Rattle.sn_parser.specs.Answer.{Faults, IsFault as IsParseFault, IsProgram, Spell, Spells};
+ghost use Rattle.sn_parser.specs.declared.parsing.ParseFault.{ParseFault as SomeParseFault};
+ghost use Rattle.sn_parser.specs.declared.parsing.ParseFault.TheVariants as parse_fault;
+ghost use Rattle.sn_top.specs.Answer.{Finds, FindsFor, IsAnswered, Outside, Printout};
+ghost use Rattle.sn_top.specs.Load.{IsRouted, Limits, WhyNoItems};
+ghost use Rattle.sn_top.specs.Scope.{IsStraight, WhyNoProgram};
+ghost use Rattle.sn_top.specs.Seen.{File};
+ghost use Rattle.sn_top.specs.Source.{FindsSource, IsSource};
+ghost use Rattle.sn_top.specs.declared.load.Program.{Program as SomeProgram};
+ghost use Rattle.sn_top.specs.declared.status.Refusal.{Refusal as SomeRefusal};
+ghost use Rattle.sn_top.specs.declared.status.Status.{Status as SomeStatus};
+ghost use Rattle.sn_top.specs.declared.words.Command.{Command as SomeCommand};
+
+/// The bytes of a source give one list of tokens, or one refusal at one place, and never both. Want of memory is said of
+/// any source, and so it is left out, here and below.
+pub fn tokens_are_one()
+    ensures one_list { (source : List ℕ) (tokens others : List SomeToken) → LexesAs source tokens → LexesAs source others → tokens ≡ others }
+    ensures one_refusal { (source : List ℕ) (fault other : SomeLexFault) → IsLexFault source fault → IsLexFault source other → fault ≢ lex_fault.Memory
+        → other ≢ lex_fault.Memory → fault ≡ other }
+    ensures never_both { (source : List ℕ) (tokens : List SomeToken) (fault : SomeLexFault) → LexesAs source tokens → IsLexFault source fault → fault ≡ lex_fault.Memory }
+{}
+
+/// The grammar is unambiguous: terminals spell one list of declarations, with one place and one measure each, whatever the
+/// limits.
+pub fn grammar_is_unambiguous()
+    ensures one_list { (said : List SomeTerminal) (decls others : List (ℕ × SomeMeasured SomeDecl)) → Spells said decls → Spells said others → decls ≡ others }
+{}
+
+/// Terminals spell one program within the limits, or are unexpected at one place, or too deep at one place, and no two of
+/// these.
+pub fn terminals_are_one_program()
+    ensures one_program { (said : List SomeTerminal) (program other : SomeTree) → IsProgram said program → IsProgram said other → program ≡ other }
+    ensures one_refusal { (size : ℕ) (said : List SomeTerminal) (fault other : SomeParseFault) → IsParseFault size said fault → IsParseFault size said other
+        → fault ≢ parse_fault.Memory → other ≢ parse_fault.Memory → fault ≡ other }
+    ensures never_both { (size : ℕ) (said : List SomeTerminal) (program : SomeTree) (fault : SomeParseFault) → IsProgram said program → IsParseFault size said fault
+        → fault ≡ parse_fault.Memory }
+{}
+
+/// The same of the tokens of a source, each of which says one terminal.
+pub fn tokens_are_one_program()
+    ensures one_program { (source : List ℕ) (tokens : List SomeToken) (program other : SomeTree) → Spell source tokens program → Spell source tokens other → program ≡ other }
+    ensures one_refusal { (source : List ℕ) (tokens : List SomeToken) (fault other : SomeParseFault) → Faults source tokens fault → Faults source tokens other
+        → fault ≢ parse_fault.Memory → other ≢ parse_fault.Memory → fault ≡ other }
+    ensures never_both { (source : List ℕ) (tokens : List SomeToken) (program : SomeTree) (fault : SomeParseFault) → Spell source tokens program → Faults source tokens fault
+        → fault ≡ parse_fault.Memory }
+{}
+
+/// The bytes of a source are one program, and so one canonical text, or one refusal at one place.
+pub fn source_is_read_once()
+    ensures one_program { (bytes : List ℕ) (program other : SomeTree) → IsSource bytes program → IsSource bytes other → program ≡ other }
+    ensures one_outcome { (bytes : List ℕ) (found other : Result (List ℕ) SomeRefusal) → FindsSource bytes found → FindsSource bytes other → found ≡ other }
+{}
+
+/// The bytes of a source give one program to run, with its names resolved, or one refusal, and never both.
+pub fn source_is_resolved_once()
+    ensures one_program { (bytes : List ℕ) (program other : SomeProgram) → IsStraight bytes program → IsStraight bytes other → program ≡ other }
+    ensures one_refusal { (bytes : List ℕ) (refusal other : SomeRefusal) → WhyNoProgram bytes refusal → WhyNoProgram bytes other → refusal ≡ other }
+    ensures never_both { (bytes : List ℕ) (program : SomeProgram) (refusal : SomeRefusal) → IsStraight bytes program → WhyNoProgram bytes refusal → ⊥ }
+{}
+
+/// A record file gives one thing to names that are there: the records with the names, or one refusal.
+pub fn record_file_is_read_once()
+    ensures one_outcome { (names : List (List ℕ)) (bytes : List ℕ) (found other : Result SomeInput SomeInputFault) → ReadsFile names bytes found → ReadsFile names bytes other
+        → found ≡ other }
+{}
+
+/// The bytes of an input give a program one list of records, each with its route through the network, or one refusal, and
+/// never both.
+pub fn input_is_answered_once()
+    ensures one_input { (limits : Limits) (program : SomeProgram) (bytes : List ℕ) (input other : SomeInput) → IsRouted limits program bytes input
+        → IsRouted limits program bytes other → input ≡ other }
+    ensures one_refusal { (limits : Limits) (program : SomeProgram) (bytes : List ℕ) (refusal other : SomeRefusal) → WhyNoItems limits program bytes refusal
+        → WhyNoItems limits program bytes other → refusal ≡ other }
+    ensures never_both { (limits : Limits) (program : SomeProgram) (bytes : List ℕ) (input : SomeInput) (refusal : SomeRefusal) → IsRouted limits program bytes input
+        → WhyNoItems limits program bytes refusal → ⊥ }
+{}
+
+/// Of a command and its files one thing is found, and so there is one status, where the bytes of the files that it reads are
+/// told. Where those of a file are not told, any outcome that needs them may be found. But what the source is refused for,
+/// where its own bytes are told, is all that is found, whatever is told of the input.
+pub fn command_has_one_outcome()
+    ensures one_outcome { (command : SomeCommand) (file : List ℕ → File) (found other : Result Printout SomeRefusal) → AreTold command file → FindsFor command file found
+        → FindsFor command file other → found ≡ other }
+    ensures one_status { (command : SomeCommand) (outside : Outside) (status other : SomeStatus) → AreTold command outside.file → IsAnswered command outside status
+        → IsAnswered command outside other → status ≡ other }
+    ensures source_alone { (limits : Limits) (bytes : List ℕ) (input : Option (List ℕ)) (refusal : SomeRefusal) (other : Result Printout SomeRefusal) → IsOfSource refusal
+        → Finds limits (Some bytes) input (Err refusal) → Finds limits (Some bytes) input other → other ≡ Err refusal }
+{}
