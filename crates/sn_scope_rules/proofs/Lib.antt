@@ -1,0 +1,9 @@
+pub mod Standing
+pub mod Checks
+pub mod Labels
+pub mod Filters
+pub mod Networks
+pub mod Idents
+pub mod Boxes
+pub mod Declarations
+pub mod Resolutions
