@@ -18,7 +18,6 @@ use Rattle.sn_box_scope.specs.Boxes.{box_required, fun_required, names_apart, tu
 use Rattle.sn_box_scope.specs.Expressions.{expr_required, output_number, output_required, parts_required, required_step}
 use Rattle.sn_box_scope.specs.Functions.{builtin_named, call_required, called_size, size_required}
 use Rattle.sn_box_scope.specs.Variables.{field_variable, is_named, label_variable, last_named, variable_number, variable_required, with_bound}
-use Rattle.sn_box_scope.specs.declared.variables.Variable.{Variable}
 use Rattle.sn_label_scope.specs.Labels.{no_repeats}
 use Rattle.sn_label_scope.specs.Refusals.{Check, required}
 use Rattle.sn_label_scope.specs.declared.refusal.Reason.TheVariants.{Unknown, Twice, Arity}
@@ -26,7 +25,7 @@ use Rattle.sn_label_scope.specs.declared.refusal.Refusal.{Refusal}
 use Rattle.sn_names.specs.Names.{entered, is_held}
 use Rattle.sn_net.specs.Boxes.{has_size}
 use Rattle.sn_record.specs.Value.{is_printable_text}
-use Rattle.sn_scope_rules.specs.Boxes.{BoxBreaks, ExprBreaks, FormBreaks, FunBreaks, IdentsBreak, Seen, form_of, output_sizes, parts_in, parts_of, place_of, seen}
+use Rattle.sn_scope_rules.specs.Boxes.{BoxBreaks, ExprBreaks, FormBreaks, FunBreaks, IdentsBreak, Seen, Variable, form_of, output_sizes, parts_in, parts_of, place_of, seen}
 use Rattle.sn_scope_rules.specs.Boxes.BoxBreaks.{in_body, in_fun, in_input, in_names, in_output}
 use Rattle.sn_scope_rules.specs.Boxes.ExprBreaks.{in_form}
 use Rattle.sn_scope_rules.specs.Boxes.FormBreaks.{argument_count, no_such_function, no_such_name, no_such_tag, not_printable, output_count}
@@ -86,7 +85,7 @@ module _ (declaration : BoxDecl) where
   expr_from : (e : Seen) (r : Refusal) → Breaks e r → Here e r
   expr_from e r (in_form {part} at breaks) = sides (within_cases parts_of Form part e at breaks)
     where
-      abbrev Form : Seen → Type 0
+      Form : Seen → Type 0
       Form n = FormBreaks declaration n.variables (place_of n.expr) (form_of n.expr) r
       sides : Form e ⊎ ((part : Seen) × StandsIn part (parts_of e) × ((y : Seen) × StandsWithin parts_of y part × Form y)) → Here e r
       sides (inl one) = inl one
@@ -117,7 +116,7 @@ module _ (declaration : BoxDecl) where
       (sym (fold-roll-BExpr (ℕ → List Variable → Check) (List Variable → Check) (required_step declaration) (λ e. e.form e.at) (record { at = place; form = form }))) (sym (out-roll-BExpr (record { at = place; form = form }))) (found place variables))
       (expr_to (seen variables e)) (expr_from (seen variables e))
     where
-      abbrev e : BExpr
+      e : BExpr
       e = roll-BExpr (record { at = place; form = form })
 
   abbrev Found : Type 0
@@ -223,7 +222,7 @@ module _ (declaration : BoxDecl) where
   tag_finds name place variables = alone_finds (BForm-F.Tag name) place variables (variable_required true name variables) (Fails ok Unknown name.at) (finds_required ok Unknown name.at)
       (λ r fails. subst (FormBreaks declaration variables place (BForm-F.Tag name)) fails.1 (no_such_tag (sym (stands_is true name.text variables) ∙ fails.0))) from (among_none Breaks)
     where
-      abbrev ok : Bool
+      ok : Bool
       ok = nat_lt (variable_number true name.text variables) (length variables)
       from : (r : Refusal) → FormBreaks declaration variables place (BForm-F.Tag name) r → Fails ok Unknown name.at r
       from r (no_such_tag none) = (stands_is true name.text variables ∙ none, refl)
@@ -232,7 +231,7 @@ module _ (declaration : BoxDecl) where
   name_finds name place variables = alone_finds (BForm-F.Name name) place variables (variable_required false name variables) (Fails ok Unknown name.at) (finds_required ok Unknown name.at)
       (λ r fails. subst (FormBreaks declaration variables place (BForm-F.Name name)) fails.1 (no_such_name (sym (stands_is false name.text variables) ∙ fails.0))) from (among_none Breaks)
     where
-      abbrev ok : Bool
+      ok : Bool
       ok = nat_lt (variable_number false name.text variables) (length variables)
       from : (r : Refusal) → FormBreaks declaration variables place (BForm-F.Name name) r → Fails ok Unknown name.at r
       from r (no_such_name none) = (stands_is false name.text variables ∙ none, refl)
@@ -263,7 +262,7 @@ module _ (declaration : BoxDecl) where
       (after_parts (BForm-F.Call name (exprs parts)) place variables (parts_required (each check_of (exprs parts)) variables) (call_required declaration.funs name (length (exprs parts))) (Misfits found (length (exprs parts)) name.at)
       (all_find parts variables) (size_finds found (length (exprs parts)) name.at) (misfit_to name (exprs parts) variables place found refl) (misfit_from name (exprs parts) variables place))
     where
-      abbrev found : Option ℕ
+      found : Option ℕ
       found = called_size declaration.funs name.text
 
   out_finds : (n : ℕ) (parts : List Found) (place : ℕ) (variables : List Variable)
@@ -273,7 +272,7 @@ module _ (declaration : BoxDecl) where
       (after_parts (BForm-F.Out n (exprs parts)) place variables (parts_required (each check_of (exprs parts)) variables) (required ok Arity place) (Fails ok Arity place)
       (all_find parts variables) (finds_required ok Arity place) (λ r fails. subst (FormBreaks declaration variables place (BForm-F.Out n (exprs parts))) fails.1 (output_count fails.0)) from)
     where
-      abbrev ok : Bool
+      ok : Bool
       ok = has_size (output_sizes declaration) (output_number (length declaration.outputs) n) (length (exprs parts))
       from : (r : Refusal) → FormBreaks declaration variables place (BForm-F.Out n (exprs parts)) r → Fails ok Arity place r
       from r (output_count wrong) = (wrong, refl)
@@ -341,7 +340,7 @@ module _ (declaration : BoxDecl) where
         (finds_both (required few Arity fun.name.at) (λ least. body (names_apart [] fun.params least)) (Fails few Arity fun.name.at) (λ r. IdentsBreak fun.params r ⊎ InFunBody r) (finds_required few Arity fun.name.at)
         (finds_both (names_apart [] fun.params) body (IdentsBreak fun.params) InFunBody (idents_find fun.params) (expr_finds fun.body (each field_variable fun.params))))) fun_to fun_from
       where
-        abbrev body : Check
+        body : Check
         body = expr_required declaration fun.body (each field_variable fun.params)
 
 -- a box: its tuples, the names of its functions, its functions, and its body
@@ -383,9 +382,9 @@ module _ (names : List (List ℕ)) (declaration : BoxDecl) where
       (finds_both funs body (Among (FunBreaks declaration) declaration.funs) InBody (finds_each (fun_required declaration) (FunBreaks declaration) (fun_finds declaration) declaration.funs)
       (expr_finds declaration declaration.body (each label_variable declaration.input.labels)))))) box_to box_from
     where
-      abbrev outputs : Check
+      outputs : Check
       outputs least = fold (tuple_required names) least declaration.outputs
-      abbrev funs : Check
+      funs : Check
       funs least = fold (fun_required declaration) least declaration.funs
-      abbrev body : Check
+      body : Check
       body = expr_required declaration declaration.body (each label_variable declaration.input.labels)

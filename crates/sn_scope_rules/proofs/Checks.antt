@@ -141,15 +141,15 @@ noted_goes None new = record { stands = inr refl; first = after }
 noted_goes (Some l) new =
     (elim (comes_before new l) as (λ b. comes_before new l ≡ b → Goes (Some l) (λ r. new ≡ r) (if b then Some new else Some l)) [
       | true ↦ λ earlier. record { stands = inr refl; first = after_new earlier }
-      | false ↦ λ later. record { stands = inl refl; first = after_old later }
+      | false ↦ λ after. record { stands = inl refl; first = after_old after }
     ]) refl
   where
     after_new : comes_before new l ≡ true → (r : Refusal) → Either (Some l) (λ r. new ≡ r) r → comes_before r new ≡ false
     after_new earlier r (inl was) = order_trans r l new (same_first l r was) (order_other new l earlier)
     after_new earlier r (inr same) = subst (λ r. comes_before r new ≡ false) same (order_itself new)
     after_old : comes_before new l ≡ false → (r : Refusal) → Either (Some l) (λ r. new ≡ r) r → comes_before r l ≡ false
-    after_old later r (inl was) = same_first l r was
-    after_old later r (inr same) = subst (λ r. comes_before r l ≡ false) same later
+    after_old after r (inl was) = same_first l r was
+    after_old after r (inr same) = subst (λ r. comes_before r l ≡ false) same after
 
 pub finds_required : (ok : Bool) (reason : Reason) (at : ℕ) → Finds (required ok reason at) (Fails ok reason at)
 finds_required true reason at least = goes_nothing least (Fails true reason at) (λ r fails. absurd_true fails.0)

@@ -1,5 +1,6 @@
 -- What declarations refuse is what breaks their rules.
-use Rattle.std.proofs.Common.{◌≡◌, ℕ, ◌-◌, not, Bool, true, List, [], ◌∷◌, ◌++◌, length, take, get_or, map as each, Option, Some, None, ◌⊎◌, inl, inr, refl, sym, ap, ◌∙◌, subst, subst₂, map-id}
+use Rattle.std.proofs.Common.{◌≡◌, ℕ, ◌-◌, not, Bool, true, List, [], ◌∷◌, ◌++◌, length, take, get_or, map as each, Option, Some, None, ◌⊎◌, inl, inr, refl, sym, ap, ◌∙◌, subst, subst₂, map-id, arith}
+use Rattle.std.proofs.lemmas.List.{length_push}
 use Rattle.sn_ast.specs.declared.declaration.BoxDecl.{BoxDecl}
 use Rattle.sn_ast.specs.declared.declaration.Decl.{Decl}
 use Rattle.sn_ast.specs.declared.declaration.Decl.TheFolds.{fold-roll-Decl, fold-roll-NetDecl, ind-Decl, map-Decl}
@@ -42,11 +43,22 @@ use Rattle.sn_scope_rules.proofs.Networks.{network_finds}
 use Rattle.sn_scope_rules.proofs.Standing.{none_behind}
 
 -- the last of a list, and what stands before it
+one_fewer : {A : Type 0} (xs : List A) (x : A) → length (xs ++ x ∷ []) - 1 ≡ length xs
+one_fewer xs x = let more = length_push xs x in omega arith
+
+at_end : {A : Type 0} (xs : List A) (x d : A) → get_or (xs ++ x ∷ []) (length xs) d ≡ x
+at_end [] x d = refl
+at_end (y ∷ xs) x d = at_end xs x d
+
+up_to_end : {A : Type 0} (xs : List A) (x : A) → take (length xs) (xs ++ x ∷ []) ≡ xs
+up_to_end [] x = refl
+up_to_end (y ∷ xs) x = ap (λ more. y ∷ more) (up_to_end xs x)
+
 last_of : {A : Type 0} (xs : List A) (x d : A) → get_or (xs ++ x ∷ []) (length (xs ++ x ∷ []) - 1) d ≡ x
-last_of xs x d = ?
+last_of xs x d = ap (λ n. get_or (xs ++ x ∷ []) n d) (one_fewer xs x) ∙ at_end xs x d
 
 before_last : {A : Type 0} (xs : List A) (x : A) → take (length (xs ++ x ∷ []) - 1) (xs ++ x ∷ []) ≡ xs
-before_last xs x = ?
+before_last xs x = ap (λ n. take n (xs ++ x ∷ [])) (one_fewer xs x) ∙ up_to_end xs x
 
 -- the scope that ends is the one that was entered
 left_entered : (inner : Scopes) (outer : List Scope) (current : Scope) → inner.outer ≡ outer ++ current ∷ [] → left_scope inner ≡ record { outer = outer; current = current }
@@ -157,7 +169,7 @@ module _ (names : List (List ℕ)) where
       (subst (λ (scopes : Scopes). Goes signed.refusals (Taken st.scopes name) (required (not (is_held scopes.current.names name.text)) Twice name.at signed.refusals)) (sym (signature_keeps sig st))
       (finds_required (not (is_held st.scopes.current.names name.text)) Twice name.at signed.refusals))
     where
-      abbrev signed : Declarations
+      signed : Declarations
       signed = with_signature names sig st
 
   net_signature_refuses : (sig : Option Sig) → Refuses (λ st. InSig st.scopes sig) (with_net_signature names sig)
@@ -181,19 +193,22 @@ module _ (names : List (List ℕ)) where
   inner_at : (st : Declarations) (d : Decl) (ds : List Decl) (r : Refusal) (before : List Decl) (e : Decl) → StandsBehind e before (d ∷ ds) → DeclBreaks names (behind names before st) e r
       → DeclBreaks names st d r ⊎ Inner (after names d st) ds r
   inner_at st d ds r [] e foremost one = inl one
-  inner_at st d ds r (d ∷ before) e (further at) one = inr (before, e, at, one)
+  inner_at st d ds r (f ∷ before) e (further at) one = inr (before, e, at, one)
 
-  row_holds : {A : Type 0} (decl : A → Decl) → ((x : A) → DeclHolds (decl x)) → (xs : List A) → Refuses (λ st. Inner st (each decl xs)) (behind names (each decl xs)) × Keeps (behind names (each decl xs))
-  row_holds decl holds [] = (λ st. goes_nothing st.refusals (Inner st []) (λ r one. none_behind one.1 one.0 one.2), λ st. refl)
-  row_holds decl holds (x ∷ xs) = (refused, λ st. (rest.1 (after names (decl x) st)) ∙ (holds x).1 st)
+  abbrev RowHolds : List Decl → Type 0
+  RowHolds decls = Refuses (λ st. Inner st decls) (behind names decls) × Keeps (behind names decls)
+
+  row_cons : (d : Decl) (ds : List Decl) → DeclHolds d → RowHolds ds → RowHolds (d ∷ ds)
+  row_cons d ds one rest = (refused, λ st. rest.1 (after names d st) ∙ one.1 st)
     where
-      abbrev rest : Refuses (λ st. Inner st (each decl xs)) (behind names (each decl xs)) × Keeps (behind names (each decl xs))
-      rest = row_holds decl holds xs
-      refused : Refuses (λ st. Inner st (decl x ∷ each decl xs)) (behind names (decl x ∷ each decl xs))
-      refused st = goes_same st.refusals (λ r. DeclBreaks names st (decl x) r ⊎ Inner (after names (decl x) st) (each decl xs) r) (Inner st (decl x ∷ each decl xs)) (behind names (each decl xs) (after names (decl x) st)).refusals
-          (goes_on st.refusals (DeclBreaks names st (decl x)) (after names (decl x) st).refusals (Inner (after names (decl x) st) (each decl xs)) (behind names (each decl xs) (after names (decl x) st)).refusals
-          ((holds x).0 st) (rest.0 (after names (decl x) st)))
-          (inner_cons st (decl x) (each decl xs)) (λ r one. inner_at st (decl x) (each decl xs) r one.0 one.1 one.2 one.3)
+      refused : Refuses (λ st. Inner st (d ∷ ds)) (behind names (d ∷ ds))
+      refused st = goes_same st.refusals (λ r. DeclBreaks names st d r ⊎ Inner (after names d st) ds r) (Inner st (d ∷ ds)) (behind names ds (after names d st)).refusals
+          (goes_on st.refusals (DeclBreaks names st d) (after names d st).refusals (Inner (after names d st) ds) (behind names ds (after names d st)).refusals (one.0 st) (rest.0 (after names d st)))
+          (inner_cons st d ds) (λ r one. inner_at st d ds r one.0 one.1 one.2 one.3)
+
+  row_holds : {A : Type 0} (decl : A → Decl) → ((x : A) → DeclHolds (decl x)) → (xs : List A) → RowHolds (each decl xs)
+  row_holds decl holds [] = (λ st. goes_nothing st.refusals (Inner st []) (λ r one. none_behind one.1 one.0 one.2), λ st. refl)
+  row_holds decl holds (x ∷ xs) = row_cons (decl x) (each decl xs) (holds x) (row_holds decl holds xs)
 
   abbrev Held : Type 0
   Held = (d : Decl) × DeclHolds d
@@ -221,7 +236,7 @@ module _ (names : List (List ℕ)) where
     abbrev claimed : Change
     claimed st = with_claim name (net_signature sig st) (net_number names connect (inner_of st)) (opened st).claims (closed st)
 
-    rows : Refuses (λ st. Inner st (decls_of decls)) (behind names (decls_of decls)) × Keeps (behind names (decls_of decls))
+    rows : RowHolds (decls_of decls)
     rows = row_holds (λ (e : Held). e.0) (λ e. e.1) decls
 
     scope_left : (st : Declarations) → (claimed st).scopes ≡ st.scopes
@@ -239,7 +254,7 @@ module _ (names : List (List ℕ)) where
         (goes_on (inner_of st).refusals (NetworkBreaks names (inner_of st).scopes connect) (closed st).refusals (Taken st.scopes name) last (network_finds names (inner_of st).scopes connect (inner_of st).refusals)
         (finds_required (not (is_held st.scopes.current.names name.text)) Twice name.at (closed st).refusals))))
       where
-        abbrev last : Option Refusal
+        last : Option Refusal
         last = required (not (is_held st.scopes.current.names name.text)) Twice name.at (closed st).refusals
 
     net_keeps : Keeps net_change

@@ -160,7 +160,7 @@ module _ (names : List (List ℕ)) (pattern : Labels) where
           (items_find (with_item set item) items))
       to (λ r one. behind_cases with_item set (Item r) item one.1 items one.0 one.2 one.3)
     where
-      abbrev new : Bool
+      new : Bool
       new = not (contains set (target (part_at names item)))
       to : (r : Refusal) → Item r set item ⊎ Behind with_item (with_item set item) (Item r) items → Behind with_item set (Item r) (item ∷ items)
       to r (inl one) = behind_first with_item set (Item r) item items one

@@ -53,7 +53,7 @@ module _ (names : List (List ℕ)) (scopes : Scopes) where
   network_from : (net : NetExpr) (r : Refusal) → Breaks net r → Here net r
   network_from net r (in_form {part} at breaks) = sides (within_cases parts_of Form part net at breaks)
     where
-      abbrev Form : NetExpr → Type 0
+      Form : NetExpr → Type 0
       Form n = FormBreaks names scopes (place_of n) (form_of n) r
       sides : Form net ⊎ ((part : NetExpr) × StandsIn part (parts_of net) × ((y : NetExpr) × StandsWithin parts_of y part × Form y)) → Here net r
       sides (inl one) = inl one
@@ -83,7 +83,7 @@ module _ (names : List (List ℕ)) (scopes : Scopes) where
       (sym (fold-roll-NetExpr (ℕ → Check) Check (required_step names scopes) (λ n. n.form n.at) (record { at = place; form = form }))) (sym (out-roll-NetExpr (record { at = place; form = form }))) (found place))
       (network_to net) (network_from net)
     where
-      abbrev net : NetExpr
+      net : NetExpr
       net = roll-NetExpr (record { at = place; form = form })
 
   abbrev Found : Type 0
@@ -143,7 +143,7 @@ module _ (names : List (List ℕ)) (scopes : Scopes) where
       (finds_both (required (is_between 2 8 (length patterns)) Arity place) (λ least. fold (variant_required names) least patterns) (Fails (is_between 2 8 (length patterns)) Arity place) (Among InPattern patterns)
       (finds_required (is_between 2 8 (length patterns)) Arity place) (finds_each (variant_required names) InPattern (λ pattern. labels_break names pattern.labels) patterns)) to from
     where
-      abbrev InCell : Refusal → Type 0
+      InCell : Refusal → Type 0
       InCell r = Fails (is_between 2 8 (length patterns)) Arity place r ⊎ Among InPattern patterns r
       to : (r : Refusal) → InCell r → LevelBreaks place (NetForm-F.Sync patterns) r
       to r (inl fails) = inl (subst (FormBreaks names scopes place (NetForm-F.Sync patterns)) fails.1 (pattern_count fails.0))
@@ -170,7 +170,7 @@ module _ (names : List (List ℕ)) (scopes : Scopes) where
       (finds_both (required (is_between 2 64 (length (each check_of (exprs parts)))) Arity place) (all_required (each check_of (exprs parts))) (Fails (is_between 2 64 (length (each check_of (exprs parts)))) Arity place) (Among Breaks (exprs parts))
       (finds_required (is_between 2 64 (length (each check_of (exprs parts)))) Arity place) (all_find parts)) to from
     where
-      abbrev InChoice : Refusal → Type 0
+      InChoice : Refusal → Type 0
       InChoice r = Fails (is_between 2 64 (length (each check_of (exprs parts)))) Arity place r ⊎ Among Breaks (exprs parts) r
       as_many : is_between 2 64 (length (each check_of (exprs parts))) ≡ is_between 2 64 (length (exprs parts))
       as_many = ap (is_between 2 64) (length-map (exprs parts) check_of)
@@ -206,7 +206,7 @@ module _ (names : List (List ℕ)) (scopes : Scopes) where
       (finds_both (check_of body.0) (λ least. guard_required names (variant_at names exit) guard (variant_required names least exit)) (Breaks body.0) (λ r. InPattern exit r ⊎ InGuard exit guard r) body.1
       (finds_both (λ least. variant_required names least exit) (guard_required names (variant_at names exit) guard) (InPattern exit) (InGuard exit guard) (labels_break names exit.labels) (guard_finds exit guard))) to from
     where
-      abbrev InStar : Refusal → Type 0
+      InStar : Refusal → Type 0
       InStar r = Breaks body.0 r ⊎ (InPattern exit r ⊎ InGuard exit guard r)
       to : (r : Refusal) → InStar r → LevelBreaks place (NetForm-F.Star det body.0 exit guard) r
       to r (inl one) = inr (body.0, here, one)

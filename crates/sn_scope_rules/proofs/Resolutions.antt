@@ -15,7 +15,7 @@ use Rattle.sn_scope.specs.Trees.{claims_within, most_nodes}
 use Rattle.sn_scope.specs.declared.declarations.Declarations.{Declarations}
 use Rattle.sn_scope.specs.declared.resolution.Resolved.{Resolved}
 use Rattle.sn_scope.specs.declared.resolution.ScopeFault.{ScopeFault}
-use Rattle.sn_scope.specs.declared.resolution.ScopeFault.TheVariants.{Unknown, Twice, Arity, NoMain, GuardTag, TooLarge, TooManyNames}
+use Rattle.sn_scope.specs.declared.resolution.ScopeFault.TheVariants.{Unknown, Twice, Arity, Memory, NoMain, GuardTag, TooLarge, TooManyNames}
 use Rattle.sn_scope_rules.specs.Programs.{ProgramBreaks}
 use Rattle.sn_scope_rules.specs.Refusals.{IsFirst, arity, guard_tag, twice, unknown}
 use Rattle.sn_scope_rules.proofs.Checks.{IsLeast}
@@ -49,6 +49,7 @@ refusal_of (GuardTag at) = Some (guard_tag at)
 refusal_of NoMain = None
 refusal_of TooManyNames = None
 refusal_of (TooLarge at) = None
+refusal_of Memory = None
 
 abbrev refusal_in : Result Resolved ScopeFault → Option Refusal
 refusal_in (Ok made) = None

@@ -51,12 +51,12 @@ behind_more enter set P x xs rest = (x ∷ rest.0, rest.1, further rest.2, rest.
 pub behind_cases : {A S : Type 0} (enter : S → A → S) (set : S) (P : S → A → Type 0) (x y : A) (xs before : List A) →
     StandsBehind y before (x ∷ xs) → P (fold enter set before) y → P set x ⊎ Behind enter (enter set x) P xs
 behind_cases enter set P x y xs [] foremost p = inl p
-behind_cases enter set P x y xs (x ∷ before) (further at) p = inr (before, y, at, p)
+behind_cases enter set P x y xs (z ∷ before) (further at) p = inr (before, y, at, p)
 
 -- an element stands behind those before it
 pub in_behind : {A : Type 0} (x : A) (xs : List A) → StandsIn x xs → (before : List A) × StandsBehind x before xs
 in_behind x xs here = ([], foremost)
-in_behind x xs (later {y} {ys} at) = let there = in_behind x ys at in (y ∷ there.0, further there.1)
+in_behind x _ (later {y} {xs} at) = let there = in_behind x xs at in (y ∷ there.0, further there.1)
 
 pub behind_in : {A : Type 0} (x : A) (before xs : List A) → StandsBehind x before xs → StandsIn x xs
 behind_in x before xs foremost = here

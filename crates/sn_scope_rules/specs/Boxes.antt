@@ -13,7 +13,6 @@ use Rattle.sn_ast.specs.declared.label.Tuple.{Tuple}
 use Rattle.sn_box_scope.specs.Expressions.{output_number}
 use Rattle.sn_box_scope.specs.Functions.{builtin_named, called_size}
 use Rattle.sn_box_scope.specs.Variables.{field_variable, is_named, label_variable, with_bound}
-use Rattle.sn_box_scope.specs.declared.variables.Variable.{Variable}
 use Rattle.sn_label_scope.specs.declared.refusal.Refusal.{Refusal}
 use Rattle.sn_names.specs.Names.{is_held}
 use Rattle.sn_net.specs.Boxes.{has_size}
@@ -21,6 +20,13 @@ use Rattle.sn_record.specs.Value.{is_printable_text}
 use Rattle.sn_scope_rules.specs.Labels.{LabelsBreak}
 use Rattle.sn_scope_rules.specs.Refusals.{arity, twice, unknown}
 use Rattle.sn_scope_rules.specs.Standing.{StandsBehind, StandsIn, StandsWithin}
+
+-- what stands for a name: what the crate of boxes makes of a parameter
+abbrev made_by : {A B : Type 0} → (A → B) → Type 0
+made_by {A} {B} make = B
+
+abbrev pub Variable : Type 0
+Variable = made_by field_variable
 
 -- an expression with the variables that stand where it does
 pub record Seen : Type 0 where
