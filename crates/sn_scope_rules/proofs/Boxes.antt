@@ -1,6 +1,5 @@
 -- Checks of boxes find what breaks their rules.
-use Rattle.std.proofs.Common.{◌≡◌, ℕ, suc, ◌+◌, ◌<◌, ◌≤◌, ◌==◌, Bool, true, false, not, ◌||◌, nat_lt, nat_le, if◌then◌else◌, List, [], ◌∷◌, ◌++◌, length, map as each, Option, Some, None, bytes_eq, fold, ◌⊎◌, inl, inr, refl, sym, ap, ◌∙◌, subst, subst₂, arith}
-use Rattle.std.specs.FinMap as finite
+use Rattle.std.proofs.Common.{◌≡◌, ℕ, ◌+◌, ◌≤◌, ◌==◌, Bool, true, false, ◌||◌, nat_lt, nat_le, if◌then◌else◌, List, [], ◌∷◌, length, map as each, Option, Some, None, fold, ◌⊎◌, inl, inr, refl, sym, ap, ◌∙◌, subst, subst₂, arith}
 use Rattle.std.specs.List.{list_any}
 use Rattle.std.specs.Option.{is_none}
 use Rattle.std.proofs.lemmas.Bool.Decides.{nat_tests}
@@ -9,7 +8,7 @@ use Rattle.sn_ast.specs.declared.box_expr.BExpr.{BExpr, fold-roll-BExpr}
 use Rattle.sn_ast.specs.declared.box_expr.BForm.{BForm, fold-BForm}
 use Rattle.sn_ast.specs.declared.box_expr.BForm.TheFolds.{fold-roll-BForm, ind-BExpr, map-BForm}
 use Rattle.sn_ast.specs.declared.box_expr.BForm.TheOpen.{BForm-F}
-use Rattle.sn_ast.specs.declared.box_expr.BForm.TheViews.{out-BForm, out-BExpr, out-roll-BForm, out-roll-BExpr, roll-BForm, roll-BExpr}
+use Rattle.sn_ast.specs.declared.box_expr.BForm.TheViews.{out-BForm, out-roll-BForm, out-roll-BExpr, roll-BForm, roll-BExpr}
 use Rattle.sn_ast.specs.declared.declaration.BoxDecl.{BoxDecl}
 use Rattle.sn_ast.specs.declared.declaration.FunDecl.{FunDecl}
 use Rattle.sn_ast.specs.declared.label.Ident.{Ident}
@@ -18,11 +17,9 @@ use Rattle.sn_box_scope.specs.Boxes.{box_required, fun_required, names_apart, tu
 use Rattle.sn_box_scope.specs.Expressions.{expr_required, output_number, output_required, parts_required, required_step}
 use Rattle.sn_box_scope.specs.Functions.{builtin_named, call_required, called_size, size_required}
 use Rattle.sn_box_scope.specs.Variables.{field_variable, is_named, label_variable, last_named, variable_number, variable_required, with_bound}
-use Rattle.sn_label_scope.specs.Labels.{no_repeats}
 use Rattle.sn_label_scope.specs.Refusals.{Check, required}
 use Rattle.sn_label_scope.specs.declared.refusal.Reason.TheVariants.{Unknown, Twice, Arity}
 use Rattle.sn_label_scope.specs.declared.refusal.Refusal.{Refusal}
-use Rattle.sn_names.specs.Names.{entered, is_held}
 use Rattle.sn_net.specs.Boxes.{has_size}
 use Rattle.sn_record.specs.Value.{is_printable_text}
 use Rattle.sn_scope_rules.specs.Boxes.{BoxBreaks, ExprBreaks, FormBreaks, FunBreaks, IdentsBreak, Seen, Variable, form_of, output_sizes, parts_in, parts_of, place_of, seen}
@@ -30,11 +27,9 @@ use Rattle.sn_scope_rules.specs.Boxes.BoxBreaks.{in_body, in_fun, in_input, in_n
 use Rattle.sn_scope_rules.specs.Boxes.ExprBreaks.{in_form}
 use Rattle.sn_scope_rules.specs.Boxes.FormBreaks.{argument_count, no_such_function, no_such_name, no_such_tag, not_printable, output_count}
 use Rattle.sn_scope_rules.specs.Boxes.FunBreaks.{built_in, in_fun_body, in_parameters, parameter_count}
-use Rattle.sn_scope_rules.specs.Boxes.IdentsBreak.{ident_twice}
 use Rattle.sn_scope_rules.specs.Labels.{LabelsBreak}
 use Rattle.sn_scope_rules.specs.Refusals.{arity, unknown}
 use Rattle.sn_scope_rules.specs.Standing.{StandsIn, StandsWithin}
-use Rattle.sn_scope_rules.specs.Standing.StandsIn.{here, later}
 use Rattle.sn_scope_rules.specs.Standing.StandsWithin.{deeper, itself}
 use Rattle.sn_scope_rules.proofs.Checks.{Among, Fails, Finds, among_cases, among_cons, among_none, finds_both, finds_each, finds_nothing, finds_required, finds_same}
 use Rattle.sn_scope_rules.proofs.Idents.{idents_find}
@@ -50,6 +45,7 @@ last_is tag name found place (variable ∷ variables) n within =
   where
     below : nat_lt place n ≡ true
     below = grind (arith, nat_tests, within)
+
     one_more : (b : Bool) → (nat_lt (if b then place else found) n || list_any (is_named tag name) variables) ≡ (nat_lt found n || (b || list_any (is_named tag name) variables))
     one_more true = ap (λ x. x || list_any (is_named tag name) variables) below ∙ either (nat_lt found n)
       where
@@ -87,6 +83,7 @@ module _ (declaration : BoxDecl) where
     where
       Form : Seen → Type 0
       Form n = FormBreaks declaration n.variables (place_of n.expr) (form_of n.expr) r
+
       sides : Form e ⊎ ((part : Seen) × StandsIn part (parts_of e) × ((y : Seen) × StandsWithin parts_of y part × Form y)) → Here e r
       sides (inl one) = inl one
       sides (inr one) = inr (one.0, one.1, in_form one.2.1 one.2.2)
@@ -132,6 +129,7 @@ module _ (declaration : BoxDecl) where
       alone : (r : Refusal) → Breaks (seen variables e.0) r ⊎ Among Breaks [] r → Breaks (seen variables e.0) r
       alone r (inl breaks) = breaks
       alone r (inr none) = absurd (among_none Breaks r none)
+
       from : (r : Refusal) → Among Breaks (seen variables e.0 ∷ []) r → Breaks (seen variables e.0) r
       from r one = alone r (among_cases Breaks (seen variables e.0) [] r one)
 
@@ -207,6 +205,7 @@ module _ (declaration : BoxDecl) where
       forth : (r : Refusal) → Among Breaks (parts_in variables x) r ⊎ Own r → LevelBreaks place variables x r
       forth r (inl one) = inr one
       forth r (inr own) = inl (to r own)
+
       back : (r : Refusal) → LevelBreaks place variables x r → Among Breaks (parts_in variables x) r ⊎ Own r
       back r (inl one) = inr (from r one)
       back r (inr one) = inl one
@@ -224,6 +223,7 @@ module _ (declaration : BoxDecl) where
     where
       ok : Bool
       ok = nat_lt (variable_number true name.text variables) (length variables)
+
       from : (r : Refusal) → FormBreaks declaration variables place (BForm-F.Tag name) r → Fails ok Unknown name.at r
       from r (no_such_tag none) = (stands_is true name.text variables ∙ none, refl)
 
@@ -233,6 +233,7 @@ module _ (declaration : BoxDecl) where
     where
       ok : Bool
       ok = nat_lt (variable_number false name.text variables) (length variables)
+
       from : (r : Refusal) → FormBreaks declaration variables place (BForm-F.Name name) r → Fails ok Unknown name.at r
       from r (no_such_name none) = (stands_is false name.text variables ∙ none, refl)
 
@@ -274,6 +275,7 @@ module _ (declaration : BoxDecl) where
     where
       ok : Bool
       ok = has_size (output_sizes declaration) (output_number (length declaration.outputs) n) (length (exprs parts))
+
       from : (r : Refusal) → FormBreaks declaration variables place (BForm-F.Out n (exprs parts)) r → Fails ok Arity place r
       from r (output_count wrong) = (wrong, refl)
 
@@ -384,7 +386,9 @@ module _ (names : List (List ℕ)) (declaration : BoxDecl) where
     where
       outputs : Check
       outputs least = fold (tuple_required names) least declaration.outputs
+
       funs : Check
       funs least = fold (fun_required declaration) least declaration.funs
+
       body : Check
       body = expr_required declaration declaration.body (each label_variable declaration.input.labels)

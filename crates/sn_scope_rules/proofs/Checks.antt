@@ -1,5 +1,5 @@
 -- What checks find: the least of the refusals so far and of those of a part.
-use Rattle.std.proofs.Common.{◌≡◌, ℕ, Bool, true, false, ◌==◌, ◌&&◌, ◌||◌, nat_lt, if◌then◌else◌, List, [], ◌∷◌, Option, Some, None, fold, ◌⊎◌, inl, inr, refl, sym, ap, subst, arith}
+use Rattle.std.proofs.Common.{◌≡◌, ℕ, Bool, true, false, ◌==◌, ◌&&◌, ◌||◌, nat_lt, if◌then◌else◌, List, [], ◌∷◌, Option, Some, None, fold, ◌⊎◌, inl, inr, refl, subst, arith}
 use Rattle.std.proofs.lemmas.Bool.Decides.{nat_tests}
 use Rattle.sn_label_scope.specs.Refusals.{Check, comes_before, noted, rank, required}
 use Rattle.sn_label_scope.specs.declared.refusal.Reason.{Reason}
@@ -109,6 +109,7 @@ goes_on old P None Q (Some l) one other = record { stands = inr (inr (found othe
     found : Either None Q l → Q l
     found (inl was) = cc
     found (inr q) = q
+
     after : (r : Refusal) → Either old P r ⊎ Q r → comes_before r l ≡ false
     after r (inl p) = absurd (one r p)
     after r (inr q) = other.first r (inr q)
@@ -118,9 +119,11 @@ goes_on old P (Some m) Q (Some l) one other = record { stands = found other.stan
     or_first : Option Refusal → Refusal
     or_first None = m
     or_first (Some r) = r
+
     found : Either (Some m) Q l → Either old (λ r. P r ⊎ Q r) l
     found (inl was) = subst (λ o. Either old (λ r. P r ⊎ Q r) (or_first o)) was (either_left old P Q m one.stands)
     found (inr q) = inr (inr q)
+
     after : (r : Refusal) → Either old P r ⊎ Q r → comes_before r l ≡ false
     after r (inl p) = order_trans r m l (one.first r p) (other.first m (inl refl))
     after r (inr q) = other.first r (inr q)
@@ -147,6 +150,7 @@ noted_goes (Some l) new =
     after_new : comes_before new l ≡ true → (r : Refusal) → Either (Some l) (λ r. new ≡ r) r → comes_before r new ≡ false
     after_new earlier r (inl was) = order_trans r l new (same_first l r was) (order_other new l earlier)
     after_new earlier r (inr same) = subst (λ r. comes_before r new ≡ false) same (order_itself new)
+
     after_old : comes_before new l ≡ false → (r : Refusal) → Either (Some l) (λ r. new ≡ r) r → comes_before r l ≡ false
     after_old after r (inl was) = same_first l r was
     after_old after r (inr same) = subst (λ r. comes_before r l ≡ false) same after

@@ -1,5 +1,5 @@
 -- What declarations refuse is what breaks their rules.
-use Rattle.std.proofs.Common.{◌≡◌, ℕ, ◌-◌, not, Bool, true, List, [], ◌∷◌, ◌++◌, length, take, get_or, map as each, Option, Some, None, ◌⊎◌, inl, inr, refl, sym, ap, ◌∙◌, subst, subst₂, map-id, arith}
+use Rattle.std.proofs.Common.{◌≡◌, ℕ, ◌-◌, not, List, [], ◌∷◌, ◌++◌, length, take, get_or, map as each, Option, Some, None, ◌⊎◌, inl, inr, refl, sym, ap, ◌∙◌, subst, subst₂, map-id, arith}
 use Rattle.std.proofs.lemmas.List.{length_push}
 use Rattle.sn_ast.specs.declared.declaration.BoxDecl.{BoxDecl}
 use Rattle.sn_ast.specs.declared.declaration.Decl.{Decl}
@@ -18,8 +18,7 @@ use Rattle.sn_label_scope.specs.Refusals.{required}
 use Rattle.sn_label_scope.specs.declared.refusal.Reason.TheVariants.{Twice}
 use Rattle.sn_label_scope.specs.declared.refusal.Refusal.{Refusal}
 use Rattle.sn_names.specs.Names.{is_held}
-use Rattle.sn_scope.specs.Declarations.{Change, after, after_box, after_net, after_sig, after_type, all_after, decl_step, declarations_of, ended, net_number, net_signature, net_step, start, with_claim, with_net_signature, with_signature, within}
-use Rattle.sn_scope.specs.Networks.{network_required}
+use Rattle.sn_scope.specs.Declarations.{Change, after, after_box, after_net, after_sig, after_type, all_after, decl_step, declarations_of, ended, net_number, net_signature, net_step, start, with_claim, with_net_signature, with_signature}
 use Rattle.sn_scope.specs.Numbering.{names_of}
 use Rattle.sn_scope.specs.Scopes.{empty_scope, left_scope}
 use Rattle.sn_scope.specs.Types.{type_required}
@@ -33,7 +32,6 @@ use Rattle.sn_scope_rules.specs.Networks.{NetworkBreaks}
 use Rattle.sn_scope_rules.specs.Programs.{DeclBreaks, ProgramBreaks, behind, inside, name_in, name_of}
 use Rattle.sn_scope_rules.specs.Programs.DeclBreaks.{in_box, in_inner, in_net_sig, in_network, in_sig, in_type, name_twice}
 use Rattle.sn_scope_rules.specs.Programs.ProgramBreaks.{in_decl}
-use Rattle.sn_scope_rules.specs.Refusals.{twice}
 use Rattle.sn_scope_rules.specs.Standing.{StandsBehind}
 use Rattle.sn_scope_rules.specs.Standing.StandsBehind.{foremost, further}
 use Rattle.sn_scope_rules.proofs.Boxes.{box_finds}
@@ -248,9 +246,9 @@ module _ (names : List (List ℕ)) where
         subst₂ (λ (scopes : Scopes) (least : Option Refusal). Goes st.refusals (InNet st net_form) (required (not (is_held scopes.current.names name.text)) Twice name.at least))
         (sym (scope_left st)) (sym (claim_keeps name (net_signature sig st) (net_number names connect (inner_of st)) (opened st).claims (closed st)).0)
         (goes_on st.refusals (InSig st.scopes sig) (opened st).refusals
-            (λ r. Inner (inside names sig st) (decls_of decls) r ⊎ (NetworkBreaks names (inner_of st).scopes connect r ⊎ Taken st.scopes name r)) last (net_signature_refuses sig st)
+        (λ r. Inner (inside names sig st) (decls_of decls) r ⊎ (NetworkBreaks names (inner_of st).scopes connect r ⊎ Taken st.scopes name r)) last (net_signature_refuses sig st)
         (goes_on (opened st).refusals (Inner (inside names sig st) (decls_of decls)) (inner_of st).refusals
-            (λ r. NetworkBreaks names (inner_of st).scopes connect r ⊎ Taken st.scopes name r) last (rows.0 (inside names sig st))
+        (λ r. NetworkBreaks names (inner_of st).scopes connect r ⊎ Taken st.scopes name r) last (rows.0 (inside names sig st))
         (goes_on (inner_of st).refusals (NetworkBreaks names (inner_of st).scopes connect) (closed st).refusals (Taken st.scopes name) last (network_finds names (inner_of st).scopes connect (inner_of st).refusals)
         (finds_required (not (is_held st.scopes.current.names name.text)) Twice name.at (closed st).refusals))))
       where
@@ -291,6 +289,7 @@ program_refuses program = least (declarations_of (names_of program) program).ref
   where
     from : (r : Refusal) → ProgramBreaks program r → Inner (names_of program) start program.decls r
     from r (in_decl {before} {decl} at one) = (before, decl, at, one)
+
     least : (left : Option Refusal) → Goes None (ProgramBreaks program) left → IsLeast (ProgramBreaks program) left
     least None none = λ r one. none r (inr one)
     least (Some l) first = record { stands = own l first.stands; first = λ other one. first.first other (inr one) }

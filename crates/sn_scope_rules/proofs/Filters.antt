@@ -1,5 +1,5 @@
 -- Checks of expressions over tags and of filters find what breaks their rules.
-use Rattle.std.proofs.Common.{◌≡◌, ℕ, Bool, true, false, not, List, [], ◌∷◌, ◌++◌, length, fold, ◌⊎◌, inl, inr, refl, sym, ap, subst, subst₂}
+use Rattle.std.proofs.Common.{◌≡◌, ℕ, Bool, false, not, List, [], ◌∷◌, ◌++◌, length, fold, ◌⊎◌, inl, inr, refl, sym, ap, subst, subst₂}
 use Rattle.std.specs.FinMap as finite
 use Rattle.sn_ast.specs.declared.label.Ident.{Ident}
 use Rattle.sn_ast.specs.declared.label.LabelAt.{LabelAt}
@@ -29,9 +29,7 @@ use Rattle.sn_scope_rules.specs.Filters.ItemsBreak.{in_source, set_twice}
 use Rattle.sn_scope_rules.specs.Filters.NamesOther.{no_such_tag}
 use Rattle.sn_scope_rules.specs.Filters.SourceBreaks.{computes_from_no_tag, copies_no_label, renames_no_field}
 use Rattle.sn_scope_rules.specs.Labels.{LabelsBreak}
-use Rattle.sn_scope_rules.specs.Refusals.{twice, unknown}
 use Rattle.sn_scope_rules.specs.Standing.{StandsIn}
-use Rattle.sn_scope_rules.specs.Standing.StandsIn.{here, later}
 use Rattle.sn_scope_rules.proofs.Checks.{Among, Fails, Finds, among_cases, among_cons, among_none, finds_both, finds_each, finds_nothing, finds_required, finds_same}
 use Rattle.sn_scope_rules.proofs.Labels.{held_from, labels_break}
 use Rattle.sn_scope_rules.proofs.Standing.{Behind, behind_cases, behind_first, behind_in, behind_more, in_behind, in_either, in_left, in_right, none_behind}
@@ -156,12 +154,13 @@ module _ (names : List (List ℕ)) (pattern : Labels) where
   items_find set [] = finds_nothing (λ r. Behind with_item set (Item r) []) (λ r one. none_behind one.1 one.0 one.2)
   items_find set (item ∷ items) = finds_same (items_required names pattern set (item ∷ items)) (λ r. Item r set item ⊎ Behind with_item (with_item set item) (Item r) items) (λ r. Behind with_item set (Item r) (item ∷ items))
       (finds_both (λ least. required new Twice item.target.name.at (source_required names pattern item least)) (items_required names pattern (with_item set item) items) (λ r. Item r set item) (λ r. Behind with_item (with_item set item) (Item r) items)
-          (finds_both (source_required names pattern item) (required new Twice item.target.name.at) (SourceBreaks names pattern item.target item.source) (Fails new Twice item.target.name.at) (source_finds item.target item.source) (finds_required new Twice item.target.name.at))
-          (items_find (with_item set item) items))
+      (finds_both (source_required names pattern item) (required new Twice item.target.name.at) (SourceBreaks names pattern item.target item.source) (Fails new Twice item.target.name.at) (source_finds item.target item.source) (finds_required new Twice item.target.name.at))
+      (items_find (with_item set item) items))
       to (λ r one. behind_cases with_item set (Item r) item one.1 items one.0 one.2 one.3)
     where
       new : Bool
       new = not (contains set (target (part_at names item)))
+
       to : (r : Refusal) → Item r set item ⊎ Behind with_item (with_item set item) (Item r) items → Behind with_item set (Item r) (item ∷ items)
       to r (inl one) = behind_first with_item set (Item r) item items one
       to r (inr one) = behind_more with_item set (Item r) item items one
@@ -203,8 +202,8 @@ module _ (names : List (List ℕ)) (place : ℕ) (pattern : Variant) (templates 
   pub filter_finds : Finds (filter_required names place pattern templates) (FilterBreaks names place pattern templates)
   filter_finds = finds_same (filter_required names place pattern templates) InFilter (FilterBreaks names place pattern templates)
       (finds_both (λ least. variant_required names (required count_right Arity place least) pattern) (λ least. fold (template_required names (variant_at names pattern)) least templates)
-          (λ r. Fails count_right Arity place r ⊎ LabelsBreak names pattern.labels r) (Among InTemplate templates)
-          (finds_both (required count_right Arity place) (λ least. variant_required names least pattern) (Fails count_right Arity place) (LabelsBreak names pattern.labels)
-              (finds_required count_right Arity place) (labels_break names pattern.labels))
-          (finds_each (template_required names (variant_at names pattern)) InTemplate (λ template. items_break names (variant_at names pattern) template.items) templates))
+      (λ r. Fails count_right Arity place r ⊎ LabelsBreak names pattern.labels r) (Among InTemplate templates)
+      (finds_both (required count_right Arity place) (λ least. variant_required names least pattern) (Fails count_right Arity place) (LabelsBreak names pattern.labels)
+      (finds_required count_right Arity place) (labels_break names pattern.labels))
+      (finds_each (template_required names (variant_at names pattern)) InTemplate (λ template. items_break names (variant_at names pattern) template.items) templates))
       filter_to filter_from

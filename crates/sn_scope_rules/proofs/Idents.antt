@@ -1,6 +1,5 @@
 -- Checks of lists of names find those that stand before.
 use Rattle.std.proofs.Common.{◌≡◌, ℕ, Bool, true, false, not, ◌||◌, if◌then◌else◌, List, [], ◌∷◌, ◌++◌, map as each, bytes_eq, fold, ◌⊎◌, inl, inr, refl, sym, ap, ◌∙◌, subst}
-use Rattle.std.specs.List.{list_any}
 use Rattle.std.proofs.lemmas.List.Folds.{list_any-append}
 use Rattle.sn_ast.specs.declared.label.Ident.{Ident}
 use Rattle.sn_box_scope.specs.Boxes.{names_apart}
@@ -57,7 +56,7 @@ apart_find : (seen : List (List ℕ)) (idents : List Ident) → Finds (names_apa
 apart_find seen [] = finds_nothing (λ r. Behind with_name seen (Again r) []) (λ r one. none_behind one.1 one.0 one.2)
 apart_find seen (name ∷ idents) = finds_same (names_apart seen (name ∷ idents)) (λ r. Again r seen name ⊎ Behind with_name (with_name seen name) (Again r) idents) (λ r. Behind with_name seen (Again r) (name ∷ idents))
     (finds_both (required (not (is_held seen name.text)) Twice name.at) (names_apart (with_name seen name) idents) (λ r. Again r seen name) (λ r. Behind with_name (with_name seen name) (Again r) idents)
-        (finds_required (not (is_held seen name.text)) Twice name.at) (apart_find (with_name seen name) idents))
+    (finds_required (not (is_held seen name.text)) Twice name.at) (apart_find (with_name seen name) idents))
     to (λ r one. behind_cases with_name seen (Again r) name one.1 idents one.0 one.2 one.3)
   where
     to : (r : Refusal) → Again r seen name ⊎ Behind with_name (with_name seen name) (Again r) idents → Behind with_name seen (Again r) (name ∷ idents)

@@ -1,14 +1,13 @@
 -- Checks of labels, types and signatures find what breaks their rules.
-use Rattle.std.proofs.Common.{◌≡◌, ℕ, Bool, true, false, not, List, [], ◌∷◌, Option, Some, None, is_some, fold, ◌⊎◌, inl, inr, refl, sym, ap, subst}
+use Rattle.std.proofs.Common.{◌≡◌, ℕ, Bool, true, false, not, List, [], ◌∷◌, Option, Some, None, is_some, ◌⊎◌, inl, inr, refl, ap, subst}
 use Rattle.std.specs.FinMap as finite
 use Rattle.sn_ast.specs.declared.label.Ident.{Ident}
 use Rattle.sn_ast.specs.declared.label.LabelAt.{LabelAt}
-use Rattle.sn_ast.specs.declared.label.Sig.{Sig}
 use Rattle.sn_ast.specs.declared.label.Sig.TheVariants.{Arrow, Named as NamedSig}
 use Rattle.sn_ast.specs.declared.label.TypePart.{TypePart}
 use Rattle.sn_ast.specs.declared.label.TypePart.TheVariants.{Set, Named as NamedType}
 use Rattle.sn_ast.specs.declared.label.Variant.{Variant}
-use Rattle.sn_label_scope.specs.Labels.{label_at, no_repeats, variant_required}
+use Rattle.sn_label_scope.specs.Labels.{label_at, no_repeats}
 use Rattle.sn_label_scope.specs.Refusals.{required}
 use Rattle.sn_label_scope.specs.declared.refusal.Reason.TheVariants.{Unknown, Twice}
 use Rattle.sn_label_scope.specs.declared.refusal.Refusal.{Refusal}
@@ -21,7 +20,6 @@ use Rattle.sn_scope_rules.specs.Labels.LabelsBreak.{label_twice}
 use Rattle.sn_scope_rules.specs.Labels.PartBreaks.{in_variant, no_such_type}
 use Rattle.sn_scope_rules.specs.Labels.TypeBreaks.{in_part}
 use Rattle.sn_scope_rules.specs.Labels.SigBreaks.{in_input, in_output, no_such_signature}
-use Rattle.sn_scope_rules.specs.Refusals.{twice, unknown}
 use Rattle.sn_scope_rules.proofs.Checks.{Among, Fails, Finds, finds_both, finds_each, finds_nothing, finds_required, finds_same}
 use Rattle.sn_scope_rules.proofs.Standing.{Behind, behind_cases, behind_first, behind_more, none_behind}
 
@@ -45,7 +43,7 @@ module _ (names : List (List ℕ)) where
   labels_find set [] = finds_nothing (λ r. Behind with_label set (Again r) []) (λ r one. none_behind one.1 one.0 one.2)
   labels_find set (label ∷ labels) = finds_same (no_repeats names set (label ∷ labels)) (λ r. Again r set label ⊎ Behind with_label (with_label set label) (Again r) labels) (λ r. Behind with_label set (Again r) (label ∷ labels))
       (finds_both (required (not (contains set (label_at names label))) Twice label.name.at) (no_repeats names (with_label set label) labels) (λ r. Again r set label) (λ r. Behind with_label (with_label set label) (Again r) labels)
-          (finds_required (not (contains set (label_at names label))) Twice label.name.at) (labels_find (with_label set label) labels))
+      (finds_required (not (contains set (label_at names label))) Twice label.name.at) (labels_find (with_label set label) labels))
       to (λ r one. behind_cases with_label set (Again r) label one.1 labels one.0 one.2 one.3)
     where
       to : (r : Refusal) → Again r set label ⊎ Behind with_label (with_label set label) (Again r) labels → Behind with_label set (Again r) (label ∷ labels)

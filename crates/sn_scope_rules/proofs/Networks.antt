@@ -1,5 +1,5 @@
 -- Checks of networks find what breaks their rules.
-use Rattle.std.proofs.Common.{◌≡◌, ℕ, Bool, true, false, List, [], ◌∷◌, length, map as each, Option, Some, None, fold, ◌⊎◌, inl, inr, refl, sym, ap, ◌∙◌, subst, subst₂}
+use Rattle.std.proofs.Common.{◌≡◌, ℕ, Bool, List, [], ◌∷◌, length, map as each, Option, Some, None, fold, ◌⊎◌, inl, inr, refl, sym, ap, ◌∙◌, subst, subst₂}
 use Rattle.std.proofs.lemmas.List.{length-map}
 use Rattle.sn_ast.specs.declared.label.Ident.{Ident}
 use Rattle.sn_ast.specs.declared.label.Variant.{Variant}
@@ -7,7 +7,7 @@ use Rattle.sn_ast.specs.declared.network.NetExpr.{NetExpr, fold-roll-NetExpr}
 use Rattle.sn_ast.specs.declared.network.NetForm.{NetForm, fold-NetForm}
 use Rattle.sn_ast.specs.declared.network.NetForm.TheFolds.{fold-roll-NetForm, ind-NetExpr, map-NetForm}
 use Rattle.sn_ast.specs.declared.network.NetForm.TheOpen.{NetForm-F}
-use Rattle.sn_ast.specs.declared.network.NetForm.TheViews.{out-NetForm, out-NetExpr, out-roll-NetForm, out-roll-NetExpr, roll-NetForm, roll-NetExpr}
+use Rattle.sn_ast.specs.declared.network.NetForm.TheViews.{out-NetForm, out-roll-NetForm, out-roll-NetExpr, roll-NetForm, roll-NetExpr}
 use Rattle.sn_ast.specs.declared.network.TemplateAt.{TemplateAt}
 use Rattle.sn_ast.specs.declared.tag_expr.TExpr.{TExpr}
 use Rattle.sn_label_scope.specs.Labels.{variant_at, variant_required}
@@ -55,6 +55,7 @@ module _ (names : List (List ℕ)) (scopes : Scopes) where
     where
       Form : NetExpr → Type 0
       Form n = FormBreaks names scopes (place_of n) (form_of n) r
+
       sides : Form net ⊎ ((part : NetExpr) × StandsIn part (parts_of net) × ((y : NetExpr) × StandsWithin parts_of y part × Form y)) → Here net r
       sides (inl one) = inl one
       sides (inr one) = inr (one.0, one.1, in_form one.2.1 one.2.2)
@@ -112,6 +113,7 @@ module _ (names : List (List ℕ)) (scopes : Scopes) where
     where
       broken : (r : Refusal) → FormBreaks names scopes place (NetForm-F.Name name) r → Fails (is_part (meaning_of scopes name.text)) Unknown name.at r
       broken r (no_such_part missing) = (missing, refl)
+
       from : (r : Refusal) → LevelBreaks place (NetForm-F.Name name) r → Fails (is_part (meaning_of scopes name.text)) Unknown name.at r
       from r (inl one) = broken r one
       from r (inr one) = absurd (among_none Breaks r one)
@@ -121,6 +123,7 @@ module _ (names : List (List ℕ)) (scopes : Scopes) where
     where
       unbroken : (r : Refusal) → FormBreaks names scopes place NetForm-F.Identity r → ⊥
       unbroken r one = elim one [ ]
+
       nothing : (r : Refusal) → LevelBreaks place NetForm-F.Identity r → ⊥
       nothing r (inl one) = unbroken r one
       nothing r (inr one) = among_none Breaks r one
@@ -131,6 +134,7 @@ module _ (names : List (List ℕ)) (scopes : Scopes) where
     where
       broken : (r : Refusal) → FormBreaks names scopes place (NetForm-F.Filter pattern templates) r → FilterBreaks names place pattern templates r
       broken r (in_filter one) = one
+
       from : (r : Refusal) → LevelBreaks place (NetForm-F.Filter pattern templates) r → FilterBreaks names place pattern templates r
       from r (inl one) = broken r one
       from r (inr one) = absurd (among_none Breaks r one)
@@ -145,12 +149,15 @@ module _ (names : List (List ℕ)) (scopes : Scopes) where
     where
       InCell : Refusal → Type 0
       InCell r = Fails (is_between 2 8 (length patterns)) Arity place r ⊎ Among InPattern patterns r
+
       to : (r : Refusal) → InCell r → LevelBreaks place (NetForm-F.Sync patterns) r
       to r (inl fails) = inl (subst (FormBreaks names scopes place (NetForm-F.Sync patterns)) fails.1 (pattern_count fails.0))
       to r (inr one) = inl (in_cell_pattern one.1 one.2)
+
       broken : (r : Refusal) → FormBreaks names scopes place (NetForm-F.Sync patterns) r → InCell r
       broken r (pattern_count wrong) = inl (wrong, refl)
       broken r (in_cell_pattern {pattern = pattern} at one) = inr (pattern, at, one)
+
       from : (r : Refusal) → LevelBreaks place (NetForm-F.Sync patterns) r → InCell r
       from r (inl one) = broken r one
       from r (inr one) = absurd (among_none Breaks r one)
@@ -160,6 +167,7 @@ module _ (names : List (List ℕ)) (scopes : Scopes) where
     where
       unbroken : (r : Refusal) → FormBreaks names scopes place (NetForm-F.Serial (exprs parts)) r → ⊥
       unbroken r one = elim one [ ]
+
       from : (r : Refusal) → LevelBreaks place (NetForm-F.Serial (exprs parts)) r → Among Breaks (exprs parts) r
       from r (inl one) = absurd (unbroken r one)
       from r (inr one) = one
@@ -172,13 +180,17 @@ module _ (names : List (List ℕ)) (scopes : Scopes) where
     where
       InChoice : Refusal → Type 0
       InChoice r = Fails (is_between 2 64 (length (each check_of (exprs parts)))) Arity place r ⊎ Among Breaks (exprs parts) r
+
       as_many : is_between 2 64 (length (each check_of (exprs parts))) ≡ is_between 2 64 (length (exprs parts))
       as_many = ap (is_between 2 64) (length-map (exprs parts) check_of)
+
       to : (r : Refusal) → InChoice r → LevelBreaks place (NetForm-F.Choice det (exprs parts)) r
       to r (inl fails) = inl (subst (FormBreaks names scopes place (NetForm-F.Choice det (exprs parts))) fails.1 (branch_count (sym as_many ∙ fails.0)))
       to r (inr one) = inr one
+
       broken : (r : Refusal) → FormBreaks names scopes place (NetForm-F.Choice det (exprs parts)) r → InChoice r
       broken r (branch_count wrong) = inl (as_many ∙ wrong, refl)
+
       from : (r : Refusal) → LevelBreaks place (NetForm-F.Choice det (exprs parts)) r → InChoice r
       from r (inl one) = broken r one
       from r (inr one) = inr one
@@ -208,10 +220,12 @@ module _ (names : List (List ℕ)) (scopes : Scopes) where
     where
       InStar : Refusal → Type 0
       InStar r = Breaks body.0 r ⊎ (InPattern exit r ⊎ InGuard exit guard r)
+
       to : (r : Refusal) → InStar r → LevelBreaks place (NetForm-F.Star det body.0 exit guard) r
       to r (inl one) = inr (body.0, here, one)
       to r (inr (inl one)) = inl (in_exit one)
       to r (inr (inr one)) = inl (guard_to det body.0 exit guard place r one)
+
       from : (r : Refusal) → LevelBreaks place (NetForm-F.Star det body.0 exit guard) r → InStar r
       from r (inl one) = inr (star_broken det body.0 exit guard place r one)
       from r (inr one) = inl (one_part body.0 r one)
@@ -221,6 +235,7 @@ module _ (names : List (List ℕ)) (scopes : Scopes) where
     where
       unbroken : (r : Refusal) → FormBreaks names scopes place (NetForm-F.Split det body.0 tag) r → ⊥
       unbroken r one = elim one [ ]
+
       from : (r : Refusal) → LevelBreaks place (NetForm-F.Split det body.0 tag) r → Breaks body.0 r
       from r (inl one) = absurd (unbroken r one)
       from r (inr one) = one_part body.0 r one

@@ -1,5 +1,5 @@
 -- Elements of lists, and of lists that are made of others.
-use Rattle.std.proofs.Common.{List, [], ◌∷◌, ◌++◌, ◌⊎◌, inl, inr, fold, map as each}
+use Rattle.std.proofs.Common.{List, [], ◌∷◌, ◌++◌, ◌⊎◌, inl, inr, fold}
 use Rattle.sn_scope_rules.specs.Standing.{StandsBehind, StandsIn, StandsWithin}
 use Rattle.sn_scope_rules.specs.Standing.StandsBehind.{foremost, further}
 use Rattle.sn_scope_rules.specs.Standing.StandsIn.{here, later}

@@ -1,5 +1,5 @@
 -- What is refused in boxes.
-use Rattle.std.specs.Prelude.{◌≡◌, ℕ, Bool, true, false, ◌==◌, nat_le, List, [], ◌∷◌, length, map as each, Option, Some, None}
+use Rattle.std.specs.Prelude.{◌≡◌, ℕ, true, false, ◌==◌, nat_le, List, [], ◌∷◌, length, map as each, Some, None}
 use Rattle.std.specs.List.{list_any}
 use Rattle.std.specs.Option.{is_none}
 use Rattle.sn_ast.specs.declared.box_expr.BExpr.{BExpr}
