@@ -32,6 +32,7 @@ use Rattle.sn_scope_rules.specs.Refusals.{arity, unknown}
 use Rattle.sn_scope_rules.specs.Standing.{StandsIn, StandsWithin}
 use Rattle.sn_scope_rules.specs.Standing.StandsWithin.{deeper, itself}
 use Rattle.sn_scope_rules.proofs.Checks.{Among, Fails, Finds, among_cases, among_cons, among_none, finds_both, finds_each, finds_nothing, finds_required, finds_same}
+use Rattle.sn_scope_rules.proofs.Held.{HeldBox}
 use Rattle.sn_scope_rules.proofs.Idents.{idents_find}
 use Rattle.sn_scope_rules.proofs.Labels.{labels_break}
 use Rattle.sn_scope_rules.proofs.Standing.{within_cases}
@@ -351,7 +352,7 @@ module _ (names : List (List ℕ)) (declaration : BoxDecl) where
   fun_names = each (λ fun. fun.name) declaration.funs
 
   abbrev InTuple : Tuple → Refusal → Type 0
-  InTuple tuple = LabelsBreak names tuple.labels
+  InTuple tuple = LabelsBreak tuple.labels
 
   abbrev InBody : Refusal → Type 0
   InBody = ExprBreaks declaration (seen (each label_variable declaration.input.labels) declaration.body)
@@ -359,14 +360,14 @@ module _ (names : List (List ℕ)) (declaration : BoxDecl) where
   abbrev InBox : Refusal → Type 0
   InBox r = InTuple declaration.input r ⊎ (Among InTuple declaration.outputs r ⊎ (IdentsBreak fun_names r ⊎ (Among (FunBreaks declaration) declaration.funs r ⊎ InBody r)))
 
-  box_to : (r : Refusal) → InBox r → BoxBreaks names declaration r
+  box_to : (r : Refusal) → InBox r → BoxBreaks declaration r
   box_to r (inl one) = in_input one
   box_to r (inr (inl one)) = in_output one.1 one.2
   box_to r (inr (inr (inl one))) = in_names one
   box_to r (inr (inr (inr (inl one)))) = in_fun one.1 one.2
   box_to r (inr (inr (inr (inr one)))) = in_body one
 
-  box_from : (r : Refusal) → BoxBreaks names declaration r → InBox r
+  box_from : (r : Refusal) → BoxBreaks declaration r → InBox r
   box_from r (in_input one) = inl one
   box_from r (in_output {output} at one) = inr (inl (output, at, one))
   box_from r (in_names one) = inr (inr (inl one))
@@ -374,14 +375,14 @@ module _ (names : List (List ℕ)) (declaration : BoxDecl) where
   box_from r (in_body one) = inr (inr (inr (inr one)))
 
   -- the check of a box finds what breaks its rules
-  pub box_finds : Finds (box_required names declaration) (BoxBreaks names declaration)
-  box_finds = finds_same (box_required names declaration) InBox (BoxBreaks names declaration)
+  pub box_finds : HeldBox names declaration → Finds (box_required names declaration) (BoxBreaks declaration)
+  box_finds held = finds_same (box_required names declaration) InBox (BoxBreaks declaration)
       (finds_both (λ least. tuple_required names least declaration.input) (λ least. body (funs (names_apart [] fun_names (outputs least)))) (InTuple declaration.input)
-      (λ r. Among InTuple declaration.outputs r ⊎ (IdentsBreak fun_names r ⊎ (Among (FunBreaks declaration) declaration.funs r ⊎ InBody r))) (labels_break names declaration.input.labels)
+      (λ r. Among InTuple declaration.outputs r ⊎ (IdentsBreak fun_names r ⊎ (Among (FunBreaks declaration) declaration.funs r ⊎ InBody r))) (labels_break names declaration.input.labels held.0)
       (finds_both outputs (λ least. body (funs (names_apart [] fun_names least))) (Among InTuple declaration.outputs) (λ r. IdentsBreak fun_names r ⊎ (Among (FunBreaks declaration) declaration.funs r ⊎ InBody r))
-      (finds_each (tuple_required names) InTuple (λ tuple. labels_break names tuple.labels) declaration.outputs)
+      (finds_each (tuple_required names) InTuple declaration.outputs (λ tuple at. labels_break names tuple.labels (held.1 tuple at)))
       (finds_both (names_apart [] fun_names) (λ least. body (funs least)) (IdentsBreak fun_names) (λ r. Among (FunBreaks declaration) declaration.funs r ⊎ InBody r) (idents_find fun_names)
-      (finds_both funs body (Among (FunBreaks declaration) declaration.funs) InBody (finds_each (fun_required declaration) (FunBreaks declaration) (fun_finds declaration) declaration.funs)
+      (finds_both funs body (Among (FunBreaks declaration) declaration.funs) InBody (finds_each (fun_required declaration) (FunBreaks declaration) declaration.funs (λ fun at. fun_finds declaration fun))
       (expr_finds declaration declaration.body (each label_variable declaration.input.labels)))))) box_to box_from
     where
       outputs : Check

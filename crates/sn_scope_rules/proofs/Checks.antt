@@ -178,9 +178,9 @@ pub among_none : {A : Type 0} (P : A → Refusal → Type 0) (r : Refusal) → A
 among_none P r one = none_in one.0 one.1
 
 -- a check of each element finds what is refused in some element
-pub finds_each : {A : Type 0} (check : Option Refusal → A → Option Refusal) (P : A → Refusal → Type 0) → ((x : A) → Finds (λ least. check least x) (P x)) →
-    (xs : List A) → Finds (λ least. fold check least xs) (Among P xs)
-finds_each check P one [] = finds_nothing (Among P []) (among_none P)
-finds_each check P one (x ∷ xs) = finds_same (λ least. fold check (check least x) xs) (λ r. P x r ⊎ Among P xs r) (Among P (x ∷ xs))
-    (finds_both (λ least. check least x) (λ least. fold check least xs) (P x) (Among P xs) (one x) (finds_each check P one xs))
+pub finds_each : {A : Type 0} (check : Option Refusal → A → Option Refusal) (P : A → Refusal → Type 0) (xs : List A) → ((x : A) → StandsIn x xs → Finds (λ least. check least x) (P x)) →
+    Finds (λ least. fold check least xs) (Among P xs)
+finds_each check P [] one = finds_nothing (Among P []) (among_none P)
+finds_each check P (x ∷ xs) one = finds_same (λ least. fold check (check least x) xs) (λ r. P x r ⊎ Among P xs r) (Among P (x ∷ xs))
+    (finds_both (λ least. check least x) (λ least. fold check least xs) (P x) (Among P xs) (one x here) (finds_each check P xs (λ y at. one y (later at))))
     (among_cons P x xs) (among_cases P x xs)

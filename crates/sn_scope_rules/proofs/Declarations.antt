@@ -33,9 +33,12 @@ use Rattle.sn_scope_rules.specs.Programs.{DeclBreaks, ProgramBreaks, behind, ins
 use Rattle.sn_scope_rules.specs.Programs.DeclBreaks.{in_box, in_inner, in_net_sig, in_network, in_sig, in_type, name_twice}
 use Rattle.sn_scope_rules.specs.Programs.ProgramBreaks.{in_decl}
 use Rattle.sn_scope_rules.specs.Standing.{StandsBehind}
+use Rattle.sn_scope_rules.specs.Standing.StandsIn.{here, later}
 use Rattle.sn_scope_rules.specs.Standing.StandsBehind.{foremost, further}
 use Rattle.sn_scope_rules.proofs.Boxes.{box_finds}
 use Rattle.sn_scope_rules.proofs.Checks.{Either, Fails, Goes, IsLeast, finds_both, finds_required, goes_nothing, goes_on, goes_same}
+use Rattle.sn_scope_rules.proofs.Entries.{program_held}
+use Rattle.sn_scope_rules.proofs.Held.{Each, HeldBox, HeldDecl, HeldDeclLevel, HeldNet, HeldNetDecl, HeldNetSig, HeldSig, HeldType, decl_level}
 use Rattle.sn_scope_rules.proofs.Labels.{arrow_finds, held_from, named_finds, type_finds}
 use Rattle.sn_scope_rules.proofs.Networks.{network_finds}
 use Rattle.sn_scope_rules.proofs.Standing.{none_behind}
@@ -71,21 +74,21 @@ module _ (names : List (List ℕ)) where
 
   abbrev InSig : Scopes → Option Sig → Refusal → Type 0
   InSig scopes None r = ⊥
-  InSig scopes (Some sig) r = SigBreaks names scopes sig r
+  InSig scopes (Some sig) r = SigBreaks scopes sig r
 
   -- what is refused in one of several declarations
   abbrev Inner : Declarations → List Decl → Refusal → Type 0
   Inner st decls r = (before : List Decl) × (d : Decl) × StandsBehind d before decls × DeclBreaks names (behind names before st) d r
 
   abbrev InNet : Declarations → NetDecl-F Decl NetDecl → Refusal → Type 0
-  InNet st net r = InSig st.scopes net.sig r ⊎ (Inner (inside names net.sig st) net.decls r ⊎ (NetworkBreaks names (behind names net.decls (inside names net.sig st)).scopes net.connect r ⊎ Taken st.scopes net.name r))
+  InNet st net r = InSig st.scopes net.sig r ⊎ (Inner (inside names net.sig st) net.decls r ⊎ (NetworkBreaks (behind names net.decls (inside names net.sig st)).scopes net.connect r ⊎ Taken st.scopes net.name r))
 
   -- what is refused in a declaration, by its form
   abbrev Level : Declarations → Decl-F Decl NetDecl → Refusal → Type 0
-  Level st (Decl-F.BoxDecl declaration) r = BoxBreaks names declaration r ⊎ Taken st.scopes declaration.name r
+  Level st (Decl-F.BoxDecl declaration) r = BoxBreaks declaration r ⊎ Taken st.scopes declaration.name r
   Level st (Decl-F.NetDecl net) r = InNet st (out-NetDecl net) r
-  Level st (Decl-F.TypeDecl name parts) r = TypeBreaks names st.scopes parts r ⊎ Taken st.scopes name r
-  Level st (Decl-F.SigDecl name sig) r = SigBreaks names st.scopes sig r ⊎ Taken st.scopes name r
+  Level st (Decl-F.TypeDecl name parts) r = TypeBreaks st.scopes parts r ⊎ Taken st.scopes name r
+  Level st (Decl-F.SigDecl name sig) r = SigBreaks st.scopes sig r ⊎ Taken st.scopes name r
 
   taken_to : (st : Declarations) (decl : Decl) (name : Ident) (r : Refusal) → name_of decl ≡ name → Taken st.scopes name r → DeclBreaks names st decl r
   taken_to st decl name r is = subst (λ (n : Ident). Taken st.scopes n r → DeclBreaks names st decl r) is own
@@ -132,47 +135,50 @@ module _ (names : List (List ℕ)) where
   Keeps change = (st : Declarations) → (change st).scopes.outer ≡ st.scopes.outer
 
   abbrev DeclHolds : Decl → Type 0
-  DeclHolds d = Refuses (λ st. DeclBreaks names st d) (after names d) × Keeps (after names d)
+  DeclHolds d = HeldDecl names d → Refuses (λ st. DeclBreaks names st d) (after names d) × Keeps (after names d)
 
   abbrev NetHolds : NetDecl → Type 0
-  NetHolds net = Refuses (λ st. InNet st (out-NetDecl net)) (after_net names net) × Keeps (after_net names net)
+  NetHolds net = HeldNetDecl names (out-NetDecl net) × Each (HeldDecl names) (out-NetDecl net).decls → Refuses (λ st. InNet st (out-NetDecl net)) (after_net names net) × Keeps (after_net names net)
 
-  decl_holds : (x : Decl-F Decl NetDecl) (change : Change) → after names (roll-Decl x) ≡ change → Refuses (λ st. Level st x) change → Keeps change → DeclHolds (roll-Decl x)
-  decl_holds x change is refuses keeps = (refused, subst Keeps (sym is) keeps)
+  decl_holds : (x : Decl-F Decl NetDecl) (change : Change) → after names (roll-Decl x) ≡ change → (HeldDeclLevel names x → Refuses (λ st. Level st x) change × Keeps change) → DeclHolds (roll-Decl x)
+  decl_holds x change is holds held = (refused, subst Keeps (sym is) (holds known).1)
     where
+      known : HeldDeclLevel names x
+      known = subst (HeldDeclLevel names) (out-roll-Decl x) (decl_level names (roll-Decl x) held)
+
       refused : Refuses (λ st. DeclBreaks names st (roll-Decl x)) (after names (roll-Decl x))
       refused st = goes_same st.refusals (Level st x) (DeclBreaks names st (roll-Decl x)) (after names (roll-Decl x) st).refusals
-          (subst (λ (c : Change). Goes st.refusals (Level st x) (c st).refusals) (sym is) (refuses st))
+          (subst (λ (c : Change). Goes st.refusals (Level st x) (c st).refusals) (sym is) ((holds known).0 st))
           (λ r one. level_to x st (roll-Decl x) r (out-roll-Decl x) one)
           (λ r one. subst (λ y. Level st y r) (out-roll-Decl x) (level_from st (roll-Decl x) r one))
 
-  box_refuses : (declaration : BoxDecl) → Refuses (λ st. Level st (Decl-F.BoxDecl declaration)) (after_box names declaration)
-  box_refuses declaration st = finds_both (box_required names declaration) (required (not (is_held st.scopes.current.names declaration.name.text)) Twice declaration.name.at) (BoxBreaks names declaration) (Taken st.scopes declaration.name)
-      (box_finds names declaration) (finds_required (not (is_held st.scopes.current.names declaration.name.text)) Twice declaration.name.at) st.refusals
+  box_refuses : (declaration : BoxDecl) → HeldBox names declaration → Refuses (λ st. Level st (Decl-F.BoxDecl declaration)) (after_box names declaration)
+  box_refuses declaration held st = finds_both (box_required names declaration) (required (not (is_held st.scopes.current.names declaration.name.text)) Twice declaration.name.at) (BoxBreaks declaration) (Taken st.scopes declaration.name)
+      (box_finds names declaration held) (finds_required (not (is_held st.scopes.current.names declaration.name.text)) Twice declaration.name.at) st.refusals
 
-  type_refuses : (name : Ident) (parts : List TypePart) → Refuses (λ st. Level st (Decl-F.TypeDecl name parts)) (after_type names name parts)
-  type_refuses name parts st = finds_both (type_required names st.scopes parts) (required (not (is_held st.scopes.current.names name.text)) Twice name.at) (TypeBreaks names st.scopes parts) (Taken st.scopes name)
-      (type_finds names st.scopes parts) (finds_required (not (is_held st.scopes.current.names name.text)) Twice name.at) st.refusals
+  type_refuses : (name : Ident) (parts : List TypePart) → HeldType names parts → Refuses (λ st. Level st (Decl-F.TypeDecl name parts)) (after_type names name parts)
+  type_refuses name parts held st = finds_both (type_required names st.scopes parts) (required (not (is_held st.scopes.current.names name.text)) Twice name.at) (TypeBreaks st.scopes parts) (Taken st.scopes name)
+      (type_finds names st.scopes parts held) (finds_required (not (is_held st.scopes.current.names name.text)) Twice name.at) st.refusals
 
-  signature_refuses : (sig : Sig) → Refuses (λ st. SigBreaks names st.scopes sig) (with_signature names sig)
-  signature_refuses (Arrow input output) st = arrow_finds names st.scopes input output st.refusals
-  signature_refuses (NamedSig name) st = named_finds names st.scopes name st.refusals
+  signature_refuses : (sig : Sig) → HeldSig names sig → Refuses (λ st. SigBreaks st.scopes sig) (with_signature names sig)
+  signature_refuses (Arrow input output) held st = arrow_finds names st.scopes input output held.0 held.1 st.refusals
+  signature_refuses (NamedSig name) held st = named_finds names st.scopes name st.refusals
 
   signature_keeps : (sig : Sig) (st : Declarations) → (with_signature names sig st).scopes ≡ st.scopes
   signature_keeps (Arrow input output) st = refl
   signature_keeps (NamedSig name) st = refl
 
-  sig_refuses : (name : Ident) (sig : Sig) → Refuses (λ st. Level st (Decl-F.SigDecl name sig)) (after_sig names name sig)
-  sig_refuses name sig st = goes_on st.refusals (SigBreaks names st.scopes sig) signed.refusals (Taken st.scopes name) (after_sig names name sig st).refusals (signature_refuses sig st)
+  sig_refuses : (name : Ident) (sig : Sig) → HeldSig names sig → Refuses (λ st. Level st (Decl-F.SigDecl name sig)) (after_sig names name sig)
+  sig_refuses name sig held st = goes_on st.refusals (SigBreaks st.scopes sig) signed.refusals (Taken st.scopes name) (after_sig names name sig st).refusals (signature_refuses sig held st)
       (subst (λ (scopes : Scopes). Goes signed.refusals (Taken st.scopes name) (required (not (is_held scopes.current.names name.text)) Twice name.at signed.refusals)) (sym (signature_keeps sig st))
       (finds_required (not (is_held st.scopes.current.names name.text)) Twice name.at signed.refusals))
     where
       signed : Declarations
       signed = with_signature names sig st
 
-  net_signature_refuses : (sig : Option Sig) → Refuses (λ st. InSig st.scopes sig) (with_net_signature names sig)
-  net_signature_refuses None st = goes_nothing st.refusals (InSig st.scopes None) (λ r one. one)
-  net_signature_refuses (Some sig) st = signature_refuses sig st
+  net_signature_refuses : (sig : Option Sig) → HeldNetSig names sig → Refuses (λ st. InSig st.scopes sig) (with_net_signature names sig)
+  net_signature_refuses None held st = goes_nothing st.refusals (InSig st.scopes None) (λ r one. one)
+  net_signature_refuses (Some sig) held st = signature_refuses sig held st
 
   net_signature_keeps : (sig : Option Sig) (st : Declarations) → (with_net_signature names sig st).scopes ≡ st.scopes
   net_signature_keeps None st = refl
@@ -196,7 +202,7 @@ module _ (names : List (List ℕ)) where
   abbrev RowHolds : List Decl → Type 0
   RowHolds decls = Refuses (λ st. Inner st decls) (behind names decls) × Keeps (behind names decls)
 
-  row_cons : (d : Decl) (ds : List Decl) → DeclHolds d → RowHolds ds → RowHolds (d ∷ ds)
+  row_cons : (d : Decl) (ds : List Decl) → Refuses (λ st. DeclBreaks names st d) (after names d) × Keeps (after names d) → RowHolds ds → RowHolds (d ∷ ds)
   row_cons d ds one rest = (refused, λ st. rest.1 (after names d st) ∙ one.1 st)
     where
       refused : Refuses (λ st. Inner st (d ∷ ds)) (behind names (d ∷ ds))
@@ -204,9 +210,9 @@ module _ (names : List (List ℕ)) where
           (goes_on st.refusals (DeclBreaks names st d) (after names d st).refusals (Inner (after names d st) ds) (behind names ds (after names d st)).refusals (one.0 st) (rest.0 (after names d st)))
           (inner_cons st d ds) (λ r one. inner_at st d ds r one.0 one.1 one.2 one.3)
 
-  row_holds : {A : Type 0} (decl : A → Decl) → ((x : A) → DeclHolds (decl x)) → (xs : List A) → RowHolds (each decl xs)
-  row_holds decl holds [] = (λ st. goes_nothing st.refusals (Inner st []) (λ r one. none_behind one.1 one.0 one.2), λ st. refl)
-  row_holds decl holds (x ∷ xs) = row_cons (decl x) (each decl xs) (holds x) (row_holds decl holds xs)
+  row_holds : {A : Type 0} (decl : A → Decl) → ((x : A) → DeclHolds (decl x)) → (xs : List A) → Each (HeldDecl names) (each decl xs) → RowHolds (each decl xs)
+  row_holds decl holds [] held = (λ st. goes_nothing st.refusals (Inner st []) (λ r one. none_behind one.1 one.0 one.2), λ st. refl)
+  row_holds decl holds (x ∷ xs) held = row_cons (decl x) (each decl xs) (holds x (held (decl x) here)) (row_holds decl holds xs (λ d at. held d (later at)))
 
   abbrev Held : Type 0
   Held = (d : Decl) × DeclHolds d
@@ -214,13 +220,13 @@ module _ (names : List (List ℕ)) where
   abbrev decls_of : List Held → List Decl
   decls_of decls = each (λ (e : Held). e.0) decls
 
+  abbrev net_form : Ident → Option Sig → List Held → NetExpr → NetDecl-F Decl NetDecl
+  net_form name sig decls connect = record { name = name; sig = sig; decls = decls_of decls; connect = connect }
+
   -- a net: its signature, its inner declarations, its network, and its name
-  module _ (name : Ident) (sig : Option Sig) (decls : List Held) (connect : NetExpr) where
+  module _ (name : Ident) (sig : Option Sig) (decls : List Held) (connect : NetExpr) (known : HeldNetSig names sig × HeldNet names connect) (inner_known : Each (HeldDecl names) (decls_of decls)) where
     abbrev net_change : Change
     net_change = net_step names (record { name = name; sig = sig; decls = each (after names) (decls_of decls); connect = connect })
-
-    abbrev net_form : NetDecl-F Decl NetDecl
-    net_form = record { name = name; sig = sig; decls = decls_of decls; connect = connect }
 
     abbrev opened : Change
     opened st = with_net_signature names sig st
@@ -235,21 +241,21 @@ module _ (names : List (List ℕ)) where
     claimed st = with_claim name (net_signature sig st) (net_number names connect (inner_of st)) (opened st).claims (closed st)
 
     rows : RowHolds (decls_of decls)
-    rows = row_holds (λ (e : Held). e.0) (λ e. e.1) decls
+    rows = row_holds (λ (e : Held). e.0) (λ e. e.1) decls inner_known
 
     scope_left : (st : Declarations) → (claimed st).scopes ≡ st.scopes
     scope_left st = (claim_keeps name (net_signature sig st) (net_number names connect (inner_of st)) (opened st).claims (closed st)).1
         ∙ left_entered (inner_of st).scopes (opened st).scopes.outer (opened st).scopes.current (rows.1 (inside names sig st)) ∙ net_signature_keeps sig st
 
-    net_refuses : Refuses (λ st. InNet st net_form) net_change
+    net_refuses : Refuses (λ st. InNet st (net_form name sig decls connect)) net_change
     net_refuses st =
-        subst₂ (λ (scopes : Scopes) (least : Option Refusal). Goes st.refusals (InNet st net_form) (required (not (is_held scopes.current.names name.text)) Twice name.at least))
+        subst₂ (λ (scopes : Scopes) (least : Option Refusal). Goes st.refusals (InNet st (net_form name sig decls connect)) (required (not (is_held scopes.current.names name.text)) Twice name.at least))
         (sym (scope_left st)) (sym (claim_keeps name (net_signature sig st) (net_number names connect (inner_of st)) (opened st).claims (closed st)).0)
         (goes_on st.refusals (InSig st.scopes sig) (opened st).refusals
-        (λ r. Inner (inside names sig st) (decls_of decls) r ⊎ (NetworkBreaks names (inner_of st).scopes connect r ⊎ Taken st.scopes name r)) last (net_signature_refuses sig st)
+        (λ r. Inner (inside names sig st) (decls_of decls) r ⊎ (NetworkBreaks (inner_of st).scopes connect r ⊎ Taken st.scopes name r)) last (net_signature_refuses sig known.0 st)
         (goes_on (opened st).refusals (Inner (inside names sig st) (decls_of decls)) (inner_of st).refusals
-        (λ r. NetworkBreaks names (inner_of st).scopes connect r ⊎ Taken st.scopes name r) last (rows.0 (inside names sig st))
-        (goes_on (inner_of st).refusals (NetworkBreaks names (inner_of st).scopes connect) (closed st).refusals (Taken st.scopes name) last (network_finds names (inner_of st).scopes connect (inner_of st).refusals)
+        (λ r. NetworkBreaks (inner_of st).scopes connect r ⊎ Taken st.scopes name r) last (rows.0 (inside names sig st))
+        (goes_on (inner_of st).refusals (NetworkBreaks (inner_of st).scopes connect) (closed st).refusals (Taken st.scopes name) last (network_finds names (inner_of st).scopes connect known.1 (inner_of st).refusals)
         (finds_required (not (is_held st.scopes.current.names name.text)) Twice name.at (closed st).refusals))))
       where
         last : Option Refusal
@@ -258,34 +264,33 @@ module _ (names : List (List ℕ)) where
     net_keeps : Keeps net_change
     net_keeps st = ap (λ (scopes : Scopes). scopes.outer) (scope_left st)
 
-    net_holds : NetHolds (roll-NetDecl net_form)
-    net_holds = (refused, subst Keeps (sym (fold-roll-NetDecl Change Change (decl_step names) (net_step names) net_form)) net_keeps)
-      where
-        refused : Refuses (λ st. InNet st (out-NetDecl (roll-NetDecl net_form))) (after_net names (roll-NetDecl net_form))
-        refused st = subst₂ (λ (form : NetDecl-F Decl NetDecl) (c : Change). Goes st.refusals (InNet st form) (c st).refusals)
-            (sym (out-roll-NetDecl net_form)) (sym (fold-roll-NetDecl Change Change (decl_step names) (net_step names) net_form)) (net_refuses st)
+  net_holds : (name : Ident) (sig : Option Sig) (decls : List Held) (connect : NetExpr) → NetHolds (roll-NetDecl (net_form name sig decls connect))
+  net_holds name sig decls connect = subst₂ (λ (form : NetDecl-F Decl NetDecl) (c : Change). HeldNetDecl names form × Each (HeldDecl names) form.decls → Refuses (λ st. InNet st form) c × Keeps c)
+      (sym (out-roll-NetDecl (net_form name sig decls connect))) (sym (fold-roll-NetDecl Change Change (decl_step names) (net_step names) (net_form name sig decls connect)))
+      (λ held. (net_refuses name sig decls connect held.0 held.1, net_keeps name sig decls connect held.0 held.1))
 
   -- a declaration refuses what breaks its rules
   decl_refuses : (d : Decl) → DeclHolds d
   decl_refuses = ind-Decl DeclHolds NetHolds
       (λ x y is. subst (λ z. DeclHolds (roll-Decl z)) is
       (elim y as (λ z. DeclHolds (roll-Decl (map-Decl _ _ Decl NetDecl (λ e. e.0) (λ e. e.0) z))) [
-        | Decl-F.BoxDecl b ↦ decl_holds (Decl-F.BoxDecl b) (after_box names b) (fold-roll-Decl Change Change (decl_step names) (net_step names) (Decl-F.BoxDecl b)) (box_refuses b) (λ st. refl)
-        | Decl-F.NetDecl net ↦ decl_holds (Decl-F.NetDecl net.0) (after_net names net.0) (fold-roll-Decl Change Change (decl_step names) (net_step names) (Decl-F.NetDecl net.0)) net.1.0 net.1.1
-        | Decl-F.TypeDecl name parts ↦ decl_holds (Decl-F.TypeDecl name parts) (after_type names name parts) (fold-roll-Decl Change Change (decl_step names) (net_step names) (Decl-F.TypeDecl name parts)) (type_refuses name parts) (λ st. refl)
-        | Decl-F.SigDecl name sig ↦ decl_holds (Decl-F.SigDecl name sig) (after_sig names name sig) (fold-roll-Decl Change Change (decl_step names) (net_step names) (Decl-F.SigDecl name sig)) (sig_refuses name sig)
-            (λ st. ap (λ (scopes : Scopes). scopes.outer) (signature_keeps sig st))
+        | Decl-F.BoxDecl b ↦ decl_holds (Decl-F.BoxDecl b) (after_box names b) (fold-roll-Decl Change Change (decl_step names) (net_step names) (Decl-F.BoxDecl b)) (λ held. (box_refuses b held.0, λ st. refl))
+        | Decl-F.NetDecl net ↦ decl_holds (Decl-F.NetDecl net.0) (after_net names net.0) (fold-roll-Decl Change Change (decl_step names) (net_step names) (Decl-F.NetDecl net.0)) net.1
+        | Decl-F.TypeDecl name parts ↦ decl_holds (Decl-F.TypeDecl name parts) (after_type names name parts) (fold-roll-Decl Change Change (decl_step names) (net_step names) (Decl-F.TypeDecl name parts)) (λ held. (type_refuses name parts held.0, λ st. refl))
+        | Decl-F.SigDecl name sig ↦ decl_holds (Decl-F.SigDecl name sig) (after_sig names name sig) (fold-roll-Decl Change Change (decl_step names) (net_step names) (Decl-F.SigDecl name sig)) 
+            (λ held. (sig_refuses name sig held.0, λ st. ap (λ (scopes : Scopes). scopes.outer) (signature_keeps sig st)))
       ]))
       (λ x y is. subst (λ z. NetHolds (roll-NetDecl z)) is (net_holds y.name y.sig y.decls y.connect))
 
   -- several declarations, from the beginning
-  pub all_refuse : (decls : List Decl) → Goes None (Inner start decls) (all_after (each (after names) decls) start).refusals
-  all_refuse decls = subst (λ (ds : List Decl). Goes None (Inner start ds) (behind names ds start).refusals) (map-id decls) ((row_holds (λ d. d) decl_refuses decls).0 start)
+  pub all_refuse : (decls : List Decl) → Each (HeldDecl names) decls → Goes None (Inner start decls) (all_after (each (after names) decls) start).refusals
+  all_refuse decls held = subst (λ (ds : List Decl). Goes None (Inner start ds) (behind names ds start).refusals) (map-id decls)
+      ((row_holds (λ d. d) decl_refuses decls (subst (Each (HeldDecl names)) (sym (map-id decls)) held)).0 start)
 
 -- the refusal of a program is the least of what breaks its rules
 pub program_refuses : (program : Program) → IsLeast (ProgramBreaks program) (declarations_of (names_of program) program).refusals
 program_refuses program = least (declarations_of (names_of program) program).refusals (goes_same None (Inner (names_of program) start program.decls) (ProgramBreaks program) (declarations_of (names_of program) program).refusals
-    (all_refuse (names_of program) program.decls) (λ r one. in_decl one.2 one.3) from)
+    (all_refuse (names_of program) program.decls (program_held program)) (λ r one. in_decl one.2 one.3) from)
   where
     from : (r : Refusal) → ProgramBreaks program r → Inner (names_of program) start program.decls r
     from r (in_decl {before} {decl} at one) = (before, decl, at, one)

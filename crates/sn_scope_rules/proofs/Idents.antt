@@ -29,7 +29,7 @@ or_true true = refl
 or_true false = refl
 
 -- a name is among the entered ones where it is one of them or was there
-held_entered : (seen : List (List ℕ)) (n m : List ℕ) → is_held (entered seen n) m ≡ (is_held seen m || bytes_eq n m)
+pub held_entered : (seen : List (List ℕ)) (n m : List ℕ) → is_held (entered seen n) m ≡ (is_held seen m || bytes_eq n m)
 held_entered seen n m =
     (elim (is_held seen n) as (λ b. is_held seen n ≡ b → is_held (if b then seen else seen ++ n ∷ []) m ≡ (is_held seen m || bytes_eq n m)) [
       | true ↦ λ held. there held (bytes_eq n m) refl

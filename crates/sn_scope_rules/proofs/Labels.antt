@@ -1,5 +1,5 @@
 -- Checks of labels, types and signatures find what breaks their rules.
-use Rattle.std.proofs.Common.{◌≡◌, ℕ, Bool, true, false, not, List, [], ◌∷◌, Option, Some, None, is_some, ◌⊎◌, inl, inr, refl, ap, subst}
+use Rattle.std.proofs.Common.{◌≡◌, ℕ, Bool, true, false, not, List, [], ◌∷◌, Option, Some, None, is_some, ◌⊎◌, inl, inr, refl, sym, ap, ◌∙◌, subst}
 use Rattle.std.specs.FinMap as finite
 use Rattle.sn_ast.specs.declared.label.Ident.{Ident}
 use Rattle.sn_ast.specs.declared.label.LabelAt.{LabelAt}
@@ -21,7 +21,9 @@ use Rattle.sn_scope_rules.specs.Labels.PartBreaks.{in_variant, no_such_type}
 use Rattle.sn_scope_rules.specs.Labels.TypeBreaks.{in_part}
 use Rattle.sn_scope_rules.specs.Labels.SigBreaks.{in_input, in_output, no_such_signature}
 use Rattle.sn_scope_rules.proofs.Checks.{Among, Fails, Finds, finds_both, finds_each, finds_nothing, finds_required, finds_same}
-use Rattle.sn_scope_rules.proofs.Standing.{Behind, behind_cases, behind_first, behind_more, none_behind}
+use Rattle.sn_scope_rules.proofs.Held.{HeldLabels, HeldPart, HeldType}
+use Rattle.sn_scope_rules.proofs.Texts.{contains_label}
+use Rattle.sn_scope_rules.proofs.Standing.{Behind, behind_cases, behind_first, behind_in, behind_more, none_behind}
 
 -- what must not hold, and does
 pub held_from : (b : Bool) → not b ≡ false → b ≡ true
@@ -50,56 +52,58 @@ module _ (names : List (List ℕ)) where
       to r (inl one) = behind_first with_label set (Again r) label labels one
       to r (inr one) = behind_more with_label set (Again r) label labels one
 
-  labels_to : (labels : List LabelAt) (r : Refusal) → Behind with_label finite.empty (Again r) labels → LabelsBreak names labels r
-  labels_to labels r one = subst (LabelsBreak names labels) one.3.1 (label_twice one.2 (held_from _ one.3.0))
+  labels_to : (labels : List LabelAt) → HeldLabels names labels → (r : Refusal) → Behind with_label finite.empty (Again r) labels → LabelsBreak labels r
+  labels_to labels held r one = subst (LabelsBreak labels) one.3.1
+      (label_twice one.2 (sym (contains_label names one.0 one.1.tag one.1.name.text (held one.1 (behind_in one.1 one.0 labels one.2))) ∙ held_from _ one.3.0))
 
-  labels_from : (labels : List LabelAt) (r : Refusal) → LabelsBreak names labels r → Behind with_label finite.empty (Again r) labels
-  labels_from labels r (label_twice {before} {label} at held) = (before, label, at, (ap not held, refl))
+  labels_from : (labels : List LabelAt) → HeldLabels names labels → (r : Refusal) → LabelsBreak labels r → Behind with_label finite.empty (Again r) labels
+  labels_from labels held r (label_twice {before} {label} at again) =
+      (before, label, at, (ap not (contains_label names before label.tag label.name.text (held label (behind_in label before labels at)) ∙ again), refl))
 
-  pub labels_break : (labels : List LabelAt) → Finds (no_repeats names finite.empty labels) (LabelsBreak names labels)
-  labels_break labels = finds_same (no_repeats names finite.empty labels) (λ r. Behind with_label finite.empty (Again r) labels) (LabelsBreak names labels) (labels_find finite.empty labels) (labels_to labels) (labels_from labels)
+  pub labels_break : (labels : List LabelAt) → HeldLabels names labels → Finds (no_repeats names finite.empty labels) (LabelsBreak labels)
+  labels_break labels held = finds_same (no_repeats names finite.empty labels) (λ r. Behind with_label finite.empty (Again r) labels) (LabelsBreak labels) (labels_find finite.empty labels) (labels_to labels held) (labels_from labels held)
 
   module _ (scopes : Scopes) where
-    part_named : (name : Ident) (r : Refusal) → Fails (is_some (type_of scopes name.text)) Unknown name.at r → PartBreaks names scopes (NamedType name) r
-    part_named name r fails = subst (PartBreaks names scopes (NamedType name)) fails.1 (no_such_type (none_from _ fails.0))
+    part_named : (name : Ident) (r : Refusal) → Fails (is_some (type_of scopes name.text)) Unknown name.at r → PartBreaks scopes (NamedType name) r
+    part_named name r fails = subst (PartBreaks scopes (NamedType name)) fails.1 (no_such_type (none_from _ fails.0))
 
-    part_unnamed : (name : Ident) (r : Refusal) → PartBreaks names scopes (NamedType name) r → Fails (is_some (type_of scopes name.text)) Unknown name.at r
+    part_unnamed : (name : Ident) (r : Refusal) → PartBreaks scopes (NamedType name) r → Fails (is_some (type_of scopes name.text)) Unknown name.at r
     part_unnamed name r (no_such_type none) = (ap is_some none, refl)
 
-    part_labels : (variant : Variant) (r : Refusal) → PartBreaks names scopes (Set variant) r → LabelsBreak names variant.labels r
+    part_labels : (variant : Variant) (r : Refusal) → PartBreaks scopes (Set variant) r → LabelsBreak variant.labels r
     part_labels variant r (in_variant one) = one
 
-    part_finds : (part : TypePart) → Finds (λ least. part_required names scopes least part) (PartBreaks names scopes part)
-    part_finds (Set variant) = finds_same (no_repeats names finite.empty variant.labels) (LabelsBreak names variant.labels) (PartBreaks names scopes (Set variant)) (labels_break variant.labels) (λ r one. in_variant one) (part_labels variant)
-    part_finds (NamedType name) = finds_same (required (is_some (type_of scopes name.text)) Unknown name.at) (Fails (is_some (type_of scopes name.text)) Unknown name.at) (PartBreaks names scopes (NamedType name))
+    part_finds : (part : TypePart) → HeldPart names part → Finds (λ least. part_required names scopes least part) (PartBreaks scopes part)
+    part_finds (Set variant) held = finds_same (no_repeats names finite.empty variant.labels) (LabelsBreak variant.labels) (PartBreaks scopes (Set variant)) (labels_break variant.labels held) (λ r one. in_variant one) (part_labels variant)
+    part_finds (NamedType name) held = finds_same (required (is_some (type_of scopes name.text)) Unknown name.at) (Fails (is_some (type_of scopes name.text)) Unknown name.at) (PartBreaks scopes (NamedType name))
         (finds_required (is_some (type_of scopes name.text)) Unknown name.at) (part_named name) (part_unnamed name)
 
-    type_from : (parts : List TypePart) (r : Refusal) → TypeBreaks names scopes parts r → Among (PartBreaks names scopes) parts r
+    type_from : (parts : List TypePart) (r : Refusal) → TypeBreaks scopes parts r → Among (PartBreaks scopes) parts r
     type_from parts r (in_part {part} at one) = (part, at, one)
 
-    pub type_finds : (parts : List TypePart) → Finds (type_required names scopes parts) (TypeBreaks names scopes parts)
-    type_finds parts = finds_same (type_required names scopes parts) (Among (PartBreaks names scopes) parts) (TypeBreaks names scopes parts) (finds_each (part_required names scopes) (PartBreaks names scopes) part_finds parts)
+    pub type_finds : (parts : List TypePart) → HeldType names parts → Finds (type_required names scopes parts) (TypeBreaks scopes parts)
+    type_finds parts held = finds_same (type_required names scopes parts) (Among (PartBreaks scopes) parts) (TypeBreaks scopes parts) (finds_each (part_required names scopes) (PartBreaks scopes) parts (λ part at. part_finds part (held part at)))
         (λ r one. in_part one.1 one.2) (type_from parts)
 
     -- a signature of two types, or the name of one
-    sig_to : (input output : List TypePart) (r : Refusal) → TypeBreaks names scopes input r ⊎ TypeBreaks names scopes output r → SigBreaks names scopes (Arrow input output) r
+    sig_to : (input output : List TypePart) (r : Refusal) → TypeBreaks scopes input r ⊎ TypeBreaks scopes output r → SigBreaks scopes (Arrow input output) r
     sig_to input output r (inl one) = in_input one
     sig_to input output r (inr one) = in_output one
 
-    sig_from : (input output : List TypePart) (r : Refusal) → SigBreaks names scopes (Arrow input output) r → TypeBreaks names scopes input r ⊎ TypeBreaks names scopes output r
+    sig_from : (input output : List TypePart) (r : Refusal) → SigBreaks scopes (Arrow input output) r → TypeBreaks scopes input r ⊎ TypeBreaks scopes output r
     sig_from input output r (in_input one) = inl one
     sig_from input output r (in_output one) = inr one
 
-    pub arrow_finds : (input output : List TypePart) → Finds (λ least. type_required names scopes output (type_required names scopes input least)) (SigBreaks names scopes (Arrow input output))
-    arrow_finds input output = finds_same (λ least. type_required names scopes output (type_required names scopes input least)) (λ r. TypeBreaks names scopes input r ⊎ TypeBreaks names scopes output r) (SigBreaks names scopes (Arrow input output))
-        (finds_both (type_required names scopes input) (type_required names scopes output) (TypeBreaks names scopes input) (TypeBreaks names scopes output) (type_finds input) (type_finds output)) (sig_to input output) (sig_from input output)
+    pub arrow_finds : (input output : List TypePart) → HeldType names input → HeldType names output → Finds (λ least. type_required names scopes output (type_required names scopes input least)) (SigBreaks scopes (Arrow input output))
+    arrow_finds input output held_in held_out = finds_same (λ least. type_required names scopes output (type_required names scopes input least)) (λ r. TypeBreaks scopes input r ⊎ TypeBreaks scopes output r) (SigBreaks scopes (Arrow input output))
+        (finds_both (type_required names scopes input) (type_required names scopes output) (TypeBreaks scopes input) (TypeBreaks scopes output) (type_finds input held_in) (type_finds output held_out)) (sig_to input output) (sig_from input output)
 
-    sig_named : (name : Ident) (r : Refusal) → Fails (is_some (signature_of scopes name.text)) Unknown name.at r → SigBreaks names scopes (NamedSig name) r
-    sig_named name r fails = subst (SigBreaks names scopes (NamedSig name)) fails.1 (no_such_signature (none_from _ fails.0))
+    sig_named : (name : Ident) (r : Refusal) → Fails (is_some (signature_of scopes name.text)) Unknown name.at r → SigBreaks scopes (NamedSig name) r
+    sig_named name r fails = subst (SigBreaks scopes (NamedSig name)) fails.1 (no_such_signature (none_from _ fails.0))
 
-    sig_unnamed : (name : Ident) (r : Refusal) → SigBreaks names scopes (NamedSig name) r → Fails (is_some (signature_of scopes name.text)) Unknown name.at r
+    sig_unnamed : (name : Ident) (r : Refusal) → SigBreaks scopes (NamedSig name) r → Fails (is_some (signature_of scopes name.text)) Unknown name.at r
     sig_unnamed name r (no_such_signature none) = (ap is_some none, refl)
 
-    pub named_finds : (name : Ident) → Finds (required (is_some (signature_of scopes name.text)) Unknown name.at) (SigBreaks names scopes (NamedSig name))
-    named_finds name = finds_same (required (is_some (signature_of scopes name.text)) Unknown name.at) (Fails (is_some (signature_of scopes name.text)) Unknown name.at) (SigBreaks names scopes (NamedSig name))
+    pub named_finds : (name : Ident) → Finds (required (is_some (signature_of scopes name.text)) Unknown name.at) (SigBreaks scopes (NamedSig name))
+    named_finds name = finds_same (required (is_some (signature_of scopes name.text)) Unknown name.at) (Fails (is_some (signature_of scopes name.text)) Unknown name.at) (SigBreaks scopes (NamedSig name))
         (finds_required (is_some (signature_of scopes name.text)) Unknown name.at) (sig_named name) (sig_unnamed name)

@@ -24,20 +24,21 @@ use Rattle.sn_scope_rules.specs.Networks.{FormBreaks, NetworkBreaks, form_of, pa
 use Rattle.sn_scope_rules.specs.Networks.FormBreaks.{branch_count, in_cell_pattern, in_exit, in_filter, no_such_guard_tag, no_such_part, pattern_count}
 use Rattle.sn_scope_rules.specs.Networks.NetworkBreaks.{in_form}
 use Rattle.sn_scope_rules.specs.Standing.{StandsIn, StandsWithin}
-use Rattle.sn_scope_rules.specs.Standing.StandsIn.{here}
+use Rattle.sn_scope_rules.specs.Standing.StandsIn.{here, later}
 use Rattle.sn_scope_rules.specs.Standing.StandsWithin.{deeper, itself}
 use Rattle.sn_scope_rules.proofs.Checks.{Among, Fails, Finds, among_cases, among_cons, among_none, finds_both, finds_each, finds_nothing, finds_required, finds_same}
 use Rattle.sn_scope_rules.proofs.Filters.{OtherTag, filter_finds, other_tags}
+use Rattle.sn_scope_rules.proofs.Held.{Each, HeldGuard, HeldLevel, HeldNet, net_level}
 use Rattle.sn_scope_rules.proofs.Labels.{labels_break}
 use Rattle.sn_scope_rules.proofs.Standing.{within_cases}
 
 module _ (names : List (List ℕ)) (scopes : Scopes) where
   abbrev Breaks : NetExpr → Refusal → Type 0
-  Breaks = NetworkBreaks names scopes
+  Breaks = NetworkBreaks scopes
 
   -- what is refused in a form, and in the networks that it is made of
   abbrev LevelBreaks : ℕ → NetForm-F NetForm NetExpr → Refusal → Type 0
-  LevelBreaks place x r = FormBreaks names scopes place x r ⊎ Among Breaks (parts_in x) r
+  LevelBreaks place x r = FormBreaks scopes place x r ⊎ Among Breaks (parts_in x) r
 
   -- what is refused in a network is refused in its form, or in one of its parts
   abbrev Here : NetExpr → Refusal → Type 0
@@ -54,7 +55,7 @@ module _ (names : List (List ℕ)) (scopes : Scopes) where
   network_from net r (in_form {part} at breaks) = sides (within_cases parts_of Form part net at breaks)
     where
       Form : NetExpr → Type 0
-      Form n = FormBreaks names scopes (place_of n) (form_of n) r
+      Form n = FormBreaks scopes (place_of n) (form_of n) r
 
       sides : Form net ⊎ ((part : NetExpr) × StandsIn part (parts_of net) × ((y : NetExpr) × StandsWithin parts_of y part × Form y)) → Here net r
       sides (inl one) = inl one
@@ -68,24 +69,27 @@ module _ (names : List (List ℕ)) (scopes : Scopes) where
   check_of = network_required names scopes
 
   abbrev FormFinds : NetForm → Type 0
-  FormFinds form = (place : ℕ) → Finds (form_check form place) (LevelBreaks place (out-NetForm form))
+  FormFinds form = HeldLevel names (out-NetForm form) → (place : ℕ) → Finds (form_check form place) (LevelBreaks place (out-NetForm form))
 
   abbrev NetworkFinds : NetExpr → Type 0
-  NetworkFinds net = Finds (check_of net) (Breaks net)
+  NetworkFinds net = HeldNet names net → Finds (check_of net) (Breaks net)
 
-  level : (x : NetForm-F NetForm NetExpr) → ((place : ℕ) → Finds (required_step names scopes (map-NetForm NetForm NetExpr (ℕ → Check) Check form_check check_of x) place) (LevelBreaks place x)) → FormFinds (roll-NetForm x)
-  level x found = subst₂ (λ (check : ℕ → Check) (form : NetForm-F NetForm NetExpr). (place : ℕ) → Finds (check place) (LevelBreaks place form))
+  level : (x : NetForm-F NetForm NetExpr) → (HeldLevel names x → (place : ℕ) → Finds (required_step names scopes (map-NetForm NetForm NetExpr (ℕ → Check) Check form_check check_of x) place) (LevelBreaks place x)) → FormFinds (roll-NetForm x)
+  level x found = subst₂ (λ (check : ℕ → Check) (form : NetForm-F NetForm NetExpr). HeldLevel names form → (place : ℕ) → Finds (check place) (LevelBreaks place form))
       (sym (fold-roll-NetForm (ℕ → Check) Check (required_step names scopes) (λ n. n.form n.at) x)) (sym (out-roll-NetForm x)) found
 
   -- a network finds what its form and its parts find
   whole : (place : ℕ) (form : NetForm) → FormFinds form → NetworkFinds (roll-NetExpr (record { at = place; form = form }))
-  whole place form found = finds_same (check_of net) (Here net) (Breaks net)
+  whole place form found held = finds_same (check_of net) (Here net) (Breaks net)
       (subst₂ (λ (check : Check) (n : _). Finds check (LevelBreaks n.at (out-NetForm n.form)))
-      (sym (fold-roll-NetExpr (ℕ → Check) Check (required_step names scopes) (λ n. n.form n.at) (record { at = place; form = form }))) (sym (out-roll-NetExpr (record { at = place; form = form }))) (found place))
+      (sym (fold-roll-NetExpr (ℕ → Check) Check (required_step names scopes) (λ n. n.form n.at) (record { at = place; form = form }))) (sym (out-roll-NetExpr (record { at = place; form = form }))) (found known place))
       (network_to net) (network_from net)
     where
       net : NetExpr
       net = roll-NetExpr (record { at = place; form = form })
+
+      known : HeldLevel names (out-NetForm form)
+      known = subst (λ n. HeldLevel names (out-NetForm n.form)) (out-roll-NetExpr (record { at = place; form = form })) (net_level names net held)
 
   abbrev Found : Type 0
   Found = (n : NetExpr) × NetworkFinds n
@@ -94,10 +98,10 @@ module _ (names : List (List ℕ)) (scopes : Scopes) where
   exprs parts = each (λ (e : Found). e.0) parts
 
   -- parts find what is refused in one of them
-  all_find : (parts : List Found) → Finds (all_required (each check_of (exprs parts))) (Among Breaks (exprs parts))
-  all_find [] = finds_nothing (Among Breaks []) (among_none Breaks)
-  all_find (part ∷ parts) = finds_same (λ least. all_required (each check_of (exprs parts)) (check_of part.0 least)) (λ r. Breaks part.0 r ⊎ Among Breaks (exprs parts) r) (Among Breaks (part.0 ∷ exprs parts))
-      (finds_both (check_of part.0) (all_required (each check_of (exprs parts))) (Breaks part.0) (Among Breaks (exprs parts)) part.1 (all_find parts)) (among_cons Breaks part.0 (exprs parts)) (among_cases Breaks part.0 (exprs parts))
+  all_find : (parts : List Found) → Each (HeldNet names) (exprs parts) → Finds (all_required (each check_of (exprs parts))) (Among Breaks (exprs parts))
+  all_find [] held = finds_nothing (Among Breaks []) (among_none Breaks)
+  all_find (part ∷ parts) held = finds_same (λ least. all_required (each check_of (exprs parts)) (check_of part.0 least)) (λ r. Breaks part.0 r ⊎ Among Breaks (exprs parts) r) (Among Breaks (part.0 ∷ exprs parts))
+      (finds_both (check_of part.0) (all_required (each check_of (exprs parts))) (Breaks part.0) (Among Breaks (exprs parts)) (part.1 (held part.0 here)) (all_find parts (λ n at. held n (later at)))) (among_cons Breaks part.0 (exprs parts)) (among_cases Breaks part.0 (exprs parts))
 
   -- one part alone
   one_part : (e : NetExpr) (r : Refusal) → Among Breaks (e ∷ []) r → Breaks e r
@@ -107,54 +111,54 @@ module _ (names : List (List ℕ)) (scopes : Scopes) where
       alone (inl breaks) = breaks
       alone (inr none) = absurd (among_none Breaks r none)
 
-  name_finds : (name : Ident) (place : ℕ) → Finds (required (is_part (meaning_of scopes name.text)) Unknown name.at) (LevelBreaks place (NetForm-F.Name name))
-  name_finds name place = finds_same (required (is_part (meaning_of scopes name.text)) Unknown name.at) (Fails (is_part (meaning_of scopes name.text)) Unknown name.at) (LevelBreaks place (NetForm-F.Name name))
-      (finds_required (is_part (meaning_of scopes name.text)) Unknown name.at) (λ r fails. inl (subst (FormBreaks names scopes place (NetForm-F.Name name)) fails.1 (no_such_part fails.0))) from
+  name_finds : (name : Ident) → HeldLevel names (NetForm-F.Name name) → (place : ℕ) → Finds (required (is_part (meaning_of scopes name.text)) Unknown name.at) (LevelBreaks place (NetForm-F.Name name))
+  name_finds name held place = finds_same (required (is_part (meaning_of scopes name.text)) Unknown name.at) (Fails (is_part (meaning_of scopes name.text)) Unknown name.at) (LevelBreaks place (NetForm-F.Name name))
+      (finds_required (is_part (meaning_of scopes name.text)) Unknown name.at) (λ r fails. inl (subst (FormBreaks scopes place (NetForm-F.Name name)) fails.1 (no_such_part fails.0))) from
     where
-      broken : (r : Refusal) → FormBreaks names scopes place (NetForm-F.Name name) r → Fails (is_part (meaning_of scopes name.text)) Unknown name.at r
+      broken : (r : Refusal) → FormBreaks scopes place (NetForm-F.Name name) r → Fails (is_part (meaning_of scopes name.text)) Unknown name.at r
       broken r (no_such_part missing) = (missing, refl)
 
       from : (r : Refusal) → LevelBreaks place (NetForm-F.Name name) r → Fails (is_part (meaning_of scopes name.text)) Unknown name.at r
       from r (inl one) = broken r one
       from r (inr one) = absurd (among_none Breaks r one)
 
-  identity_finds : (place : ℕ) → Finds (λ least. least) (LevelBreaks place NetForm-F.Identity)
-  identity_finds place = finds_nothing (LevelBreaks place NetForm-F.Identity) nothing
+  identity_finds : HeldLevel names NetForm-F.Identity → (place : ℕ) → Finds (λ least. least) (LevelBreaks place NetForm-F.Identity)
+  identity_finds held place = finds_nothing (LevelBreaks place NetForm-F.Identity) nothing
     where
-      unbroken : (r : Refusal) → FormBreaks names scopes place NetForm-F.Identity r → ⊥
+      unbroken : (r : Refusal) → FormBreaks scopes place NetForm-F.Identity r → ⊥
       unbroken r one = elim one [ ]
 
       nothing : (r : Refusal) → LevelBreaks place NetForm-F.Identity r → ⊥
       nothing r (inl one) = unbroken r one
       nothing r (inr one) = among_none Breaks r one
 
-  filters_find : (pattern : Variant) (templates : List TemplateAt) (place : ℕ) → Finds (filter_required names place pattern templates) (LevelBreaks place (NetForm-F.Filter pattern templates))
-  filters_find pattern templates place = finds_same (filter_required names place pattern templates) (FilterBreaks names place pattern templates) (LevelBreaks place (NetForm-F.Filter pattern templates))
-      (filter_finds names place pattern templates) (λ r one. inl (in_filter one)) from
+  filters_find : (pattern : Variant) (templates : List TemplateAt) → HeldLevel names (NetForm-F.Filter pattern templates) → (place : ℕ) → Finds (filter_required names place pattern templates) (LevelBreaks place (NetForm-F.Filter pattern templates))
+  filters_find pattern templates held place = finds_same (filter_required names place pattern templates) (FilterBreaks place pattern templates) (LevelBreaks place (NetForm-F.Filter pattern templates))
+      (filter_finds names place pattern templates held.0.0 held.0.1) (λ r one. inl (in_filter one)) from
     where
-      broken : (r : Refusal) → FormBreaks names scopes place (NetForm-F.Filter pattern templates) r → FilterBreaks names place pattern templates r
+      broken : (r : Refusal) → FormBreaks scopes place (NetForm-F.Filter pattern templates) r → FilterBreaks place pattern templates r
       broken r (in_filter one) = one
 
-      from : (r : Refusal) → LevelBreaks place (NetForm-F.Filter pattern templates) r → FilterBreaks names place pattern templates r
+      from : (r : Refusal) → LevelBreaks place (NetForm-F.Filter pattern templates) r → FilterBreaks place pattern templates r
       from r (inl one) = broken r one
       from r (inr one) = absurd (among_none Breaks r one)
 
   abbrev InPattern : Variant → Refusal → Type 0
-  InPattern pattern = LabelsBreak names pattern.labels
+  InPattern pattern = LabelsBreak pattern.labels
 
-  cell_finds : (patterns : List Variant) (place : ℕ) → Finds (λ least. fold (variant_required names) (required (is_between 2 8 (length patterns)) Arity place least) patterns) (LevelBreaks place (NetForm-F.Sync patterns))
-  cell_finds patterns place = finds_same (λ least. fold (variant_required names) (required (is_between 2 8 (length patterns)) Arity place least) patterns) InCell (LevelBreaks place (NetForm-F.Sync patterns))
+  cell_finds : (patterns : List Variant) → HeldLevel names (NetForm-F.Sync patterns) → (place : ℕ) → Finds (λ least. fold (variant_required names) (required (is_between 2 8 (length patterns)) Arity place least) patterns) (LevelBreaks place (NetForm-F.Sync patterns))
+  cell_finds patterns held place = finds_same (λ least. fold (variant_required names) (required (is_between 2 8 (length patterns)) Arity place least) patterns) InCell (LevelBreaks place (NetForm-F.Sync patterns))
       (finds_both (required (is_between 2 8 (length patterns)) Arity place) (λ least. fold (variant_required names) least patterns) (Fails (is_between 2 8 (length patterns)) Arity place) (Among InPattern patterns)
-      (finds_required (is_between 2 8 (length patterns)) Arity place) (finds_each (variant_required names) InPattern (λ pattern. labels_break names pattern.labels) patterns)) to from
+      (finds_required (is_between 2 8 (length patterns)) Arity place) (finds_each (variant_required names) InPattern patterns (λ pattern at. labels_break names pattern.labels (held.0 pattern at)))) to from
     where
       InCell : Refusal → Type 0
       InCell r = Fails (is_between 2 8 (length patterns)) Arity place r ⊎ Among InPattern patterns r
 
       to : (r : Refusal) → InCell r → LevelBreaks place (NetForm-F.Sync patterns) r
-      to r (inl fails) = inl (subst (FormBreaks names scopes place (NetForm-F.Sync patterns)) fails.1 (pattern_count fails.0))
+      to r (inl fails) = inl (subst (FormBreaks scopes place (NetForm-F.Sync patterns)) fails.1 (pattern_count fails.0))
       to r (inr one) = inl (in_cell_pattern one.1 one.2)
 
-      broken : (r : Refusal) → FormBreaks names scopes place (NetForm-F.Sync patterns) r → InCell r
+      broken : (r : Refusal) → FormBreaks scopes place (NetForm-F.Sync patterns) r → InCell r
       broken r (pattern_count wrong) = inl (wrong, refl)
       broken r (in_cell_pattern {pattern = pattern} at one) = inr (pattern, at, one)
 
@@ -162,21 +166,21 @@ module _ (names : List (List ℕ)) (scopes : Scopes) where
       from r (inl one) = broken r one
       from r (inr one) = absurd (among_none Breaks r one)
 
-  serial_finds : (parts : List Found) (place : ℕ) → Finds (all_required (each check_of (exprs parts))) (LevelBreaks place (NetForm-F.Serial (exprs parts)))
-  serial_finds parts place = finds_same (all_required (each check_of (exprs parts))) (Among Breaks (exprs parts)) (LevelBreaks place (NetForm-F.Serial (exprs parts))) (all_find parts) (λ r one. inr one) from
+  serial_finds : (parts : List Found) → HeldLevel names (NetForm-F.Serial (exprs parts)) → (place : ℕ) → Finds (all_required (each check_of (exprs parts))) (LevelBreaks place (NetForm-F.Serial (exprs parts)))
+  serial_finds parts held place = finds_same (all_required (each check_of (exprs parts))) (Among Breaks (exprs parts)) (LevelBreaks place (NetForm-F.Serial (exprs parts))) (all_find parts held.1) (λ r one. inr one) from
     where
-      unbroken : (r : Refusal) → FormBreaks names scopes place (NetForm-F.Serial (exprs parts)) r → ⊥
+      unbroken : (r : Refusal) → FormBreaks scopes place (NetForm-F.Serial (exprs parts)) r → ⊥
       unbroken r one = elim one [ ]
 
       from : (r : Refusal) → LevelBreaks place (NetForm-F.Serial (exprs parts)) r → Among Breaks (exprs parts) r
       from r (inl one) = absurd (unbroken r one)
       from r (inr one) = one
 
-  choice_finds : (det : Bool) (parts : List Found) (place : ℕ)
+  choice_finds : (det : Bool) (parts : List Found) → HeldLevel names (NetForm-F.Choice det (exprs parts)) → (place : ℕ)
       → Finds (λ least. all_required (each check_of (exprs parts)) (required (is_between 2 64 (length (each check_of (exprs parts)))) Arity place least)) (LevelBreaks place (NetForm-F.Choice det (exprs parts)))
-  choice_finds det parts place = finds_same (λ least. all_required (each check_of (exprs parts)) (required (is_between 2 64 (length (each check_of (exprs parts)))) Arity place least)) InChoice (LevelBreaks place (NetForm-F.Choice det (exprs parts)))
+  choice_finds det parts held place = finds_same (λ least. all_required (each check_of (exprs parts)) (required (is_between 2 64 (length (each check_of (exprs parts)))) Arity place least)) InChoice (LevelBreaks place (NetForm-F.Choice det (exprs parts)))
       (finds_both (required (is_between 2 64 (length (each check_of (exprs parts)))) Arity place) (all_required (each check_of (exprs parts))) (Fails (is_between 2 64 (length (each check_of (exprs parts)))) Arity place) (Among Breaks (exprs parts))
-      (finds_required (is_between 2 64 (length (each check_of (exprs parts)))) Arity place) (all_find parts)) to from
+      (finds_required (is_between 2 64 (length (each check_of (exprs parts)))) Arity place) (all_find parts held.1)) to from
     where
       InChoice : Refusal → Type 0
       InChoice r = Fails (is_between 2 64 (length (each check_of (exprs parts)))) Arity place r ⊎ Among Breaks (exprs parts) r
@@ -185,10 +189,10 @@ module _ (names : List (List ℕ)) (scopes : Scopes) where
       as_many = ap (is_between 2 64) (length-map (exprs parts) check_of)
 
       to : (r : Refusal) → InChoice r → LevelBreaks place (NetForm-F.Choice det (exprs parts)) r
-      to r (inl fails) = inl (subst (FormBreaks names scopes place (NetForm-F.Choice det (exprs parts))) fails.1 (branch_count (sym as_many ∙ fails.0)))
+      to r (inl fails) = inl (subst (FormBreaks scopes place (NetForm-F.Choice det (exprs parts))) fails.1 (branch_count (sym as_many ∙ fails.0)))
       to r (inr one) = inr one
 
-      broken : (r : Refusal) → FormBreaks names scopes place (NetForm-F.Choice det (exprs parts)) r → InChoice r
+      broken : (r : Refusal) → FormBreaks scopes place (NetForm-F.Choice det (exprs parts)) r → InChoice r
       broken r (branch_count wrong) = inl (as_many ∙ wrong, refl)
 
       from : (r : Refusal) → LevelBreaks place (NetForm-F.Choice det (exprs parts)) r → InChoice r
@@ -198,25 +202,25 @@ module _ (names : List (List ℕ)) (scopes : Scopes) where
   -- a guard names a tag that its exit pattern does not have
   abbrev InGuard : Variant → Option TExpr → Refusal → Type 0
   InGuard exit None r = ⊥
-  InGuard exit (Some e) r = OtherTag names (variant_at names exit) GuardTag e r
+  InGuard exit (Some e) r = OtherTag names exit.labels GuardTag e r
 
-  guard_finds : (exit : Variant) (guard : Option TExpr) → Finds (guard_required names (variant_at names exit) guard) (InGuard exit guard)
-  guard_finds exit None = finds_nothing (InGuard exit None) (λ r one. one)
-  guard_finds exit (Some e) = other_tags names (variant_at names exit) GuardTag e
+  guard_finds : (exit : Variant) (guard : Option TExpr) → HeldGuard names guard → Finds (guard_required names (variant_at names exit) guard) (InGuard exit guard)
+  guard_finds exit None held = finds_nothing (InGuard exit None) (λ r one. one)
+  guard_finds exit (Some e) held = other_tags names exit.labels GuardTag e held
 
-  guard_to : (det : Bool) (body : NetExpr) (exit : Variant) (guard : Option TExpr) (place : ℕ) (r : Refusal) → InGuard exit guard r → FormBreaks names scopes place (NetForm-F.Star det body exit guard) r
+  guard_to : (det : Bool) (body : NetExpr) (exit : Variant) (guard : Option TExpr) (place : ℕ) (r : Refusal) → InGuard exit guard r → FormBreaks scopes place (NetForm-F.Star det body exit guard) r
   guard_to det body exit None place r one = absurd one
-  guard_to det body exit (Some e) place r one = subst (FormBreaks names scopes place (NetForm-F.Star det body exit (Some e))) one.2 (no_such_guard_tag one.1)
+  guard_to det body exit (Some e) place r one = subst (FormBreaks scopes place (NetForm-F.Star det body exit (Some e))) one.2 (no_such_guard_tag one.1)
 
-  star_broken : (det : Bool) (body : NetExpr) (exit : Variant) (guard : Option TExpr) (place : ℕ) (r : Refusal) → FormBreaks names scopes place (NetForm-F.Star det body exit guard) r → InPattern exit r ⊎ InGuard exit guard r
+  star_broken : (det : Bool) (body : NetExpr) (exit : Variant) (guard : Option TExpr) (place : ℕ) (r : Refusal) → FormBreaks scopes place (NetForm-F.Star det body exit guard) r → InPattern exit r ⊎ InGuard exit guard r
   star_broken det body exit guard place r (in_exit one) = inl one
   star_broken det body exit guard place r (no_such_guard_tag {name = name} other) = inr (name, other, refl)
 
-  star_finds : (det : Bool) (body : Found) (exit : Variant) (guard : Option TExpr) (place : ℕ)
+  star_finds : (det : Bool) (body : Found) (exit : Variant) (guard : Option TExpr) → HeldLevel names (NetForm-F.Star det body.0 exit guard) → (place : ℕ)
       → Finds (λ least. guard_required names (variant_at names exit) guard (variant_required names (check_of body.0 least) exit)) (LevelBreaks place (NetForm-F.Star det body.0 exit guard))
-  star_finds det body exit guard place = finds_same (λ least. guard_required names (variant_at names exit) guard (variant_required names (check_of body.0 least) exit)) InStar (LevelBreaks place (NetForm-F.Star det body.0 exit guard))
-      (finds_both (check_of body.0) (λ least. guard_required names (variant_at names exit) guard (variant_required names least exit)) (Breaks body.0) (λ r. InPattern exit r ⊎ InGuard exit guard r) body.1
-      (finds_both (λ least. variant_required names least exit) (guard_required names (variant_at names exit) guard) (InPattern exit) (InGuard exit guard) (labels_break names exit.labels) (guard_finds exit guard))) to from
+  star_finds det body exit guard held place = finds_same (λ least. guard_required names (variant_at names exit) guard (variant_required names (check_of body.0 least) exit)) InStar (LevelBreaks place (NetForm-F.Star det body.0 exit guard))
+      (finds_both (check_of body.0) (λ least. guard_required names (variant_at names exit) guard (variant_required names least exit)) (Breaks body.0) (λ r. InPattern exit r ⊎ InGuard exit guard r) (body.1 (held.1 body.0 here))
+      (finds_both (λ least. variant_required names least exit) (guard_required names (variant_at names exit) guard) (InPattern exit) (InGuard exit guard) (labels_break names exit.labels held.0.0) (guard_finds exit guard held.0.1))) to from
     where
       InStar : Refusal → Type 0
       InStar r = Breaks body.0 r ⊎ (InPattern exit r ⊎ InGuard exit guard r)
@@ -230,10 +234,10 @@ module _ (names : List (List ℕ)) (scopes : Scopes) where
       from r (inl one) = inr (star_broken det body.0 exit guard place r one)
       from r (inr one) = inl (one_part body.0 r one)
 
-  split_finds : (det : Bool) (body : Found) (tag : Ident) (place : ℕ) → Finds (check_of body.0) (LevelBreaks place (NetForm-F.Split det body.0 tag))
-  split_finds det body tag place = finds_same (check_of body.0) (Breaks body.0) (LevelBreaks place (NetForm-F.Split det body.0 tag)) body.1 (λ r one. inr (body.0, here, one)) from
+  split_finds : (det : Bool) (body : Found) (tag : Ident) → HeldLevel names (NetForm-F.Split det body.0 tag) → (place : ℕ) → Finds (check_of body.0) (LevelBreaks place (NetForm-F.Split det body.0 tag))
+  split_finds det body tag held place = finds_same (check_of body.0) (Breaks body.0) (LevelBreaks place (NetForm-F.Split det body.0 tag)) (body.1 (held.1 body.0 here)) (λ r one. inr (body.0, here, one)) from
     where
-      unbroken : (r : Refusal) → FormBreaks names scopes place (NetForm-F.Split det body.0 tag) r → ⊥
+      unbroken : (r : Refusal) → FormBreaks scopes place (NetForm-F.Split det body.0 tag) r → ⊥
       unbroken r one = elim one [ ]
 
       from : (r : Refusal) → LevelBreaks place (NetForm-F.Split det body.0 tag) r → Breaks body.0 r
@@ -241,9 +245,9 @@ module _ (names : List (List ℕ)) (scopes : Scopes) where
       from r (inr one) = one_part body.0 r one
 
   -- the check of a network finds what breaks its rules
-  pub network_finds : (net : NetExpr) → Finds (network_required names scopes net) (NetworkBreaks names scopes net)
+  pub network_finds : (net : NetExpr) → HeldNet names net → Finds (network_required names scopes net) (NetworkBreaks scopes net)
   network_finds = ind-NetExpr FormFinds NetworkFinds
-      (λ x y is. subst (λ z. FormFinds (roll-NetForm z)) is (level (map-NetForm _ _ NetForm NetExpr (λ e. e.0) (λ e. e.0) y) (elim y as (λ z. (place : ℕ) → Finds
+      (λ x y is. subst (λ z. FormFinds (roll-NetForm z)) is (level (map-NetForm _ _ NetForm NetExpr (λ e. e.0) (λ e. e.0) y) (elim y as (λ z. HeldLevel names (map-NetForm _ _ NetForm NetExpr (λ e. e.0) (λ e. e.0) z) → (place : ℕ) → Finds
       (required_step names scopes (map-NetForm NetForm NetExpr (ℕ → Check) Check form_check check_of (map-NetForm _ _ NetForm NetExpr (λ e. e.0) (λ e. e.0) z)) place)
       (LevelBreaks place (map-NetForm _ _ NetForm NetExpr (λ e. e.0) (λ e. e.0) z))) [
         | NetForm-F.Name name ↦ name_finds name

@@ -97,9 +97,9 @@ pub data FunBreaks (declaration : BoxDecl) (fun : FunDecl) : Refusal → Type 0 
   in_fun_body : {r : Refusal} → ExprBreaks declaration (seen (each field_variable fun.params) fun.body) r → FunBreaks declaration fun r
 
 -- a label twice in a tuple, a function's name twice, what is refused in a function, or in the body, which sees the labels of the input
-pub data BoxBreaks (names : List (List ℕ)) (declaration : BoxDecl) : Refusal → Type 0 where
-  in_input : {r : Refusal} → LabelsBreak names declaration.input.labels r → BoxBreaks names declaration r
-  in_output : {output : Tuple} {r : Refusal} → StandsIn output declaration.outputs → LabelsBreak names output.labels r → BoxBreaks names declaration r
-  in_names : {r : Refusal} → IdentsBreak (each (λ fun. fun.name) declaration.funs) r → BoxBreaks names declaration r
-  in_fun : {fun : FunDecl} {r : Refusal} → StandsIn fun declaration.funs → FunBreaks declaration fun r → BoxBreaks names declaration r
-  in_body : {r : Refusal} → ExprBreaks declaration (seen (each label_variable declaration.input.labels) declaration.body) r → BoxBreaks names declaration r
+pub data BoxBreaks (declaration : BoxDecl) : Refusal → Type 0 where
+  in_input : {r : Refusal} → LabelsBreak declaration.input.labels r → BoxBreaks declaration r
+  in_output : {output : Tuple} {r : Refusal} → StandsIn output declaration.outputs → LabelsBreak output.labels r → BoxBreaks declaration r
+  in_names : {r : Refusal} → IdentsBreak (each (λ fun. fun.name) declaration.funs) r → BoxBreaks declaration r
+  in_fun : {fun : FunDecl} {r : Refusal} → StandsIn fun declaration.funs → FunBreaks declaration fun r → BoxBreaks declaration r
+  in_body : {r : Refusal} → ExprBreaks declaration (seen (each label_variable declaration.input.labels) declaration.body) r → BoxBreaks declaration r

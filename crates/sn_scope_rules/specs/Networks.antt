@@ -8,7 +8,6 @@ use Rattle.sn_ast.specs.declared.network.NetForm.TheOpen.{NetForm-F}
 use Rattle.sn_ast.specs.declared.network.NetForm.TheViews.{out-NetForm, out-NetExpr}
 use Rattle.sn_ast.specs.declared.network.TemplateAt.{TemplateAt}
 use Rattle.sn_ast.specs.declared.tag_expr.TExpr.{TExpr}
-use Rattle.sn_label_scope.specs.Labels.{variant_at}
 use Rattle.sn_label_scope.specs.declared.refusal.Refusal.{Refusal}
 use Rattle.sn_scope.specs.Filters.{is_between}
 use Rattle.sn_scope.specs.Networks.{is_part}
@@ -41,19 +40,19 @@ abbrev pub parts_of : NetExpr → List NetExpr
 parts_of net = parts_in (form_of net)
 
 -- what is refused in one form at its place, but for the networks that it is made of
-pub data FormBreaks (names : List (List ℕ)) (scopes : Scopes) (place : ℕ) : NetForm-F NetForm NetExpr → Refusal → Type 0 where
-  no_such_part : {name : Ident} → is_part (meaning_of scopes name.text) ≡ false → FormBreaks names scopes place (NetForm-F.Name name) (unknown name.at)
+pub data FormBreaks (scopes : Scopes) (place : ℕ) : NetForm-F NetForm NetExpr → Refusal → Type 0 where
+  no_such_part : {name : Ident} → is_part (meaning_of scopes name.text) ≡ false → FormBreaks scopes place (NetForm-F.Name name) (unknown name.at)
   in_filter : {pattern : Variant} {templates : List TemplateAt} {r : Refusal} →
-      FilterBreaks names place pattern templates r → FormBreaks names scopes place (NetForm-F.Filter pattern templates) r
-  pattern_count : {patterns : List Variant} → is_between 2 8 (length patterns) ≡ false → FormBreaks names scopes place (NetForm-F.Sync patterns) (arity place)
+      FilterBreaks place pattern templates r → FormBreaks scopes place (NetForm-F.Filter pattern templates) r
+  pattern_count : {patterns : List Variant} → is_between 2 8 (length patterns) ≡ false → FormBreaks scopes place (NetForm-F.Sync patterns) (arity place)
   in_cell_pattern : {patterns : List Variant} {pattern : Variant} {r : Refusal} →
-      StandsIn pattern patterns → LabelsBreak names pattern.labels r → FormBreaks names scopes place (NetForm-F.Sync patterns) r
-  branch_count : {det : Bool} {branches : List NetExpr} → is_between 2 64 (length branches) ≡ false → FormBreaks names scopes place (NetForm-F.Choice det branches) (arity place)
+      StandsIn pattern patterns → LabelsBreak pattern.labels r → FormBreaks scopes place (NetForm-F.Sync patterns) r
+  branch_count : {det : Bool} {branches : List NetExpr} → is_between 2 64 (length branches) ≡ false → FormBreaks scopes place (NetForm-F.Choice det branches) (arity place)
   in_exit : {det : Bool} {body : NetExpr} {exit : Variant} {guard : Option TExpr} {r : Refusal} →
-      LabelsBreak names exit.labels r → FormBreaks names scopes place (NetForm-F.Star det body exit guard) r
+      LabelsBreak exit.labels r → FormBreaks scopes place (NetForm-F.Star det body exit guard) r
   no_such_guard_tag : {det : Bool} {body : NetExpr} {exit : Variant} {e : TExpr} {name : Ident} →
-      NamesOther names (variant_at names exit) e name → FormBreaks names scopes place (NetForm-F.Star det body exit (Some e)) (guard_tag name.at)
+      NamesOther exit.labels e name → FormBreaks scopes place (NetForm-F.Star det body exit (Some e)) (guard_tag name.at)
 
 -- what is refused in a network that stands somewhere within it
-pub data NetworkBreaks (names : List (List ℕ)) (scopes : Scopes) (net : NetExpr) : Refusal → Type 0 where
-  in_form : {part : NetExpr} {r : Refusal} → StandsWithin parts_of part net → FormBreaks names scopes (place_of part) (form_of part) r → NetworkBreaks names scopes net r
+pub data NetworkBreaks (scopes : Scopes) (net : NetExpr) : Refusal → Type 0 where
+  in_form : {part : NetExpr} {r : Refusal} → StandsWithin parts_of part net → FormBreaks scopes (place_of part) (form_of part) r → NetworkBreaks scopes net r

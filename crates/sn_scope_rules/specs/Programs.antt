@@ -42,19 +42,19 @@ inside names sig st = within (with_net_signature names sig st)
 pub data DeclBreaks (names : List (List ℕ)) : Declarations → Decl → Refusal → Type 0 where
   name_twice : {st : Declarations} {decl : Decl} → is_held st.scopes.current.names (name_of decl).text ≡ true → DeclBreaks names st decl (twice (name_of decl).at)
   in_type : {st : Declarations} {decl : Decl} {r : Refusal} (name : Ident) (parts : List TypePart) →
-      out-Decl decl ≡ Decl-F.TypeDecl name parts → TypeBreaks names st.scopes parts r → DeclBreaks names st decl r
+      out-Decl decl ≡ Decl-F.TypeDecl name parts → TypeBreaks st.scopes parts r → DeclBreaks names st decl r
   in_sig : {st : Declarations} {decl : Decl} {r : Refusal} (name : Ident) (sig : Sig) →
-      out-Decl decl ≡ Decl-F.SigDecl name sig → SigBreaks names st.scopes sig r → DeclBreaks names st decl r
+      out-Decl decl ≡ Decl-F.SigDecl name sig → SigBreaks st.scopes sig r → DeclBreaks names st decl r
   in_box : {st : Declarations} {decl : Decl} {r : Refusal} (declaration : BoxDecl) →
-      out-Decl decl ≡ Decl-F.BoxDecl declaration → BoxBreaks names declaration r → DeclBreaks names st decl r
+      out-Decl decl ≡ Decl-F.BoxDecl declaration → BoxBreaks declaration r → DeclBreaks names st decl r
   in_net_sig : {st : Declarations} {decl : Decl} {r : Refusal} (net : NetDecl) (sig : Sig) →
-      out-Decl decl ≡ Decl-F.NetDecl net → (out-NetDecl net).sig ≡ Some sig → SigBreaks names st.scopes sig r → DeclBreaks names st decl r
+      out-Decl decl ≡ Decl-F.NetDecl net → (out-NetDecl net).sig ≡ Some sig → SigBreaks st.scopes sig r → DeclBreaks names st decl r
   in_inner : {st : Declarations} {decl : Decl} {r : Refusal} (net : NetDecl) (before : List Decl) (inner : Decl) →
       out-Decl decl ≡ Decl-F.NetDecl net → StandsBehind inner before (out-NetDecl net).decls →
       DeclBreaks names (behind names before (inside names (out-NetDecl net).sig st)) inner r → DeclBreaks names st decl r
   in_network : {st : Declarations} {decl : Decl} {r : Refusal} (net : NetDecl) →
       out-Decl decl ≡ Decl-F.NetDecl net →
-      NetworkBreaks names (behind names (out-NetDecl net).decls (inside names (out-NetDecl net).sig st)).scopes (out-NetDecl net).connect r → DeclBreaks names st decl r
+      NetworkBreaks (behind names (out-NetDecl net).decls (inside names (out-NetDecl net).sig st)).scopes (out-NetDecl net).connect r → DeclBreaks names st decl r
 
 -- what is refused in an outermost declaration
 pub data ProgramBreaks (program : Program) : Refusal → Type 0 where
