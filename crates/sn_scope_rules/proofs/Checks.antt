@@ -1,5 +1,5 @@
 -- What checks find: the least of the refusals so far and of those of a part.
-use Rattle.std.proofs.Common.{◌≡◌, ℕ, Bool, true, false, ◌==◌, ◌&&◌, ◌||◌, nat_lt, if◌then◌else◌, List, [], ◌∷◌, Option, Some, None, fold, ◌⊎◌, inl, inr, refl, subst, arith}
+use Rattle.std.proofs.Common.{◌≡◌, ℕ, Bool, true, false, not, ◌==◌, ◌&&◌, ◌||◌, nat_lt, if◌then◌else◌, List, [], ◌∷◌, Option, Some, None, fold, ◌⊎◌, inl, inr, refl, subst, arith}
 use Rattle.std.proofs.lemmas.Bool.Decides.{nat_tests}
 use Rattle.sn_label_scope.specs.Refusals.{Check, comes_before, noted, rank, required}
 use Rattle.sn_label_scope.specs.declared.refusal.Reason.{Reason}
@@ -184,3 +184,8 @@ finds_each check P [] one = finds_nothing (Among P []) (among_none P)
 finds_each check P (x ∷ xs) one = finds_same (λ least. fold check (check least x) xs) (λ r. P x r ⊎ Among P xs r) (Among P (x ∷ xs))
     (finds_both (λ least. check least x) (λ least. fold check least xs) (P x) (Among P xs) (one x here) (finds_each check P xs (λ y at. one y (later at))))
     (among_cons P x xs) (among_cases P x xs)
+
+-- what must not hold, and does
+pub held_from : (b : Bool) → not b ≡ false → b ≡ true
+held_from true same = refl
+held_from false same = cc

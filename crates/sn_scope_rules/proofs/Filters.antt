@@ -32,8 +32,8 @@ use Rattle.sn_scope_rules.specs.Labels.{LabelsBreak, has_label}
 use Rattle.sn_scope_rules.specs.Refusals.{unknown}
 use Rattle.sn_scope_rules.specs.Standing.{StandsIn}
 use Rattle.sn_scope_rules.specs.Standing.StandsIn.{here, later}
-use Rattle.sn_scope_rules.proofs.Checks.{Among, Fails, Finds, among_cases, among_cons, among_none, finds_both, finds_each, finds_nothing, finds_required, finds_same}
-use Rattle.sn_scope_rules.proofs.Labels.{held_from, labels_break}
+use Rattle.sn_scope_rules.proofs.Checks.{Among, Fails, Finds, among_cases, among_cons, among_none, finds_both, finds_each, finds_nothing, finds_required, finds_same, held_from}
+use Rattle.sn_scope_rules.proofs.Labels.{labels_break}
 use Rattle.sn_scope_rules.proofs.Held.{Each, HeldIdent, HeldItem, HeldLabel, HeldSource, HeldTags, HeldTemplate, HeldVariant}
 use Rattle.sn_scope_rules.proofs.Texts.{contains_label, contains_set, numbered}
 use Rattle.sn_scope_rules.proofs.Standing.{Behind, behind_cases, behind_first, behind_in, behind_more, in_behind, in_either, in_left, in_right, none_behind}

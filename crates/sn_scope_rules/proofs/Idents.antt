@@ -11,7 +11,7 @@ use Rattle.sn_names.proofs.NamesLaws.{same_text}
 use Rattle.sn_scope_rules.specs.Boxes.{IdentsBreak}
 use Rattle.sn_scope_rules.specs.Boxes.IdentsBreak.{ident_twice}
 use Rattle.sn_scope_rules.proofs.Checks.{Fails, Finds, finds_both, finds_nothing, finds_required, finds_same}
-use Rattle.sn_scope_rules.proofs.Labels.{held_from}
+use Rattle.sn_scope_rules.proofs.Checks.{held_from}
 use Rattle.sn_scope_rules.proofs.Standing.{Behind, behind_cases, behind_first, behind_more, none_behind}
 
 abbrev with_name : List (List ℕ) → Ident → List (List ℕ)

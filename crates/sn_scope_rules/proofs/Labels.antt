@@ -20,19 +20,12 @@ use Rattle.sn_scope_rules.specs.Labels.LabelsBreak.{label_twice}
 use Rattle.sn_scope_rules.specs.Labels.PartBreaks.{in_variant, no_such_type}
 use Rattle.sn_scope_rules.specs.Labels.TypeBreaks.{in_part}
 use Rattle.sn_scope_rules.specs.Labels.SigBreaks.{in_input, in_output, no_such_signature}
-use Rattle.sn_scope_rules.proofs.Checks.{Among, Fails, Finds, finds_both, finds_each, finds_nothing, finds_required, finds_same}
+use Rattle.sn_scope_rules.proofs.Checks.{Among, Fails, Finds, finds_both, finds_each, finds_nothing, finds_required, finds_same, held_from}
 use Rattle.sn_scope_rules.proofs.Held.{HeldLabels, HeldPart, HeldType}
 use Rattle.sn_scope_rules.proofs.Texts.{contains_label}
+use Rattle.sn_scope_rules.specs.Visible.{Around}
+use Rattle.sn_scope_rules.proofs.Visible.{Agrees, signature_stands, type_stands}
 use Rattle.sn_scope_rules.proofs.Standing.{Behind, behind_cases, behind_first, behind_in, behind_more, none_behind}
-
--- what must not hold, and does
-pub held_from : (b : Bool) → not b ≡ false → b ≡ true
-held_from true same = refl
-held_from false same = cc
-
-pub none_from : {A : Type 0} (found : Option A) → is_some found ≡ false → found ≡ None
-none_from None same = refl
-none_from (Some x) same = cc
 
 module _ (names : List (List ℕ)) where
   abbrev with_label : Labels → LabelAt → Labels
@@ -63,47 +56,47 @@ module _ (names : List (List ℕ)) where
   pub labels_break : (labels : List LabelAt) → HeldLabels names labels → Finds (no_repeats names finite.empty labels) (LabelsBreak labels)
   labels_break labels held = finds_same (no_repeats names finite.empty labels) (λ r. Behind with_label finite.empty (Again r) labels) (LabelsBreak labels) (labels_find finite.empty labels) (labels_to labels held) (labels_from labels held)
 
-  module _ (scopes : Scopes) where
-    part_named : (name : Ident) (r : Refusal) → Fails (is_some (type_of scopes name.text)) Unknown name.at r → PartBreaks scopes (NamedType name) r
-    part_named name r fails = subst (PartBreaks scopes (NamedType name)) fails.1 (no_such_type (none_from _ fails.0))
+  module _ (scopes : Scopes) (around : Around) (same : Agrees scopes around) where
+    part_named : (name : Ident) (r : Refusal) → Fails (is_some (type_of scopes name.text)) Unknown name.at r → PartBreaks around (NamedType name) r
+    part_named name r fails = subst (PartBreaks around (NamedType name)) fails.1 (no_such_type (sym (type_stands scopes around same name.text) ∙ fails.0))
 
-    part_unnamed : (name : Ident) (r : Refusal) → PartBreaks scopes (NamedType name) r → Fails (is_some (type_of scopes name.text)) Unknown name.at r
-    part_unnamed name r (no_such_type none) = (ap is_some none, refl)
+    part_unnamed : (name : Ident) (r : Refusal) → PartBreaks around (NamedType name) r → Fails (is_some (type_of scopes name.text)) Unknown name.at r
+    part_unnamed name r (no_such_type none) = (type_stands scopes around same name.text ∙ none, refl)
 
-    part_labels : (variant : Variant) (r : Refusal) → PartBreaks scopes (Set variant) r → LabelsBreak variant.labels r
+    part_labels : (variant : Variant) (r : Refusal) → PartBreaks around (Set variant) r → LabelsBreak variant.labels r
     part_labels variant r (in_variant one) = one
 
-    part_finds : (part : TypePart) → HeldPart names part → Finds (λ least. part_required names scopes least part) (PartBreaks scopes part)
-    part_finds (Set variant) held = finds_same (no_repeats names finite.empty variant.labels) (LabelsBreak variant.labels) (PartBreaks scopes (Set variant)) (labels_break variant.labels held) (λ r one. in_variant one) (part_labels variant)
-    part_finds (NamedType name) held = finds_same (required (is_some (type_of scopes name.text)) Unknown name.at) (Fails (is_some (type_of scopes name.text)) Unknown name.at) (PartBreaks scopes (NamedType name))
+    part_finds : (part : TypePart) → HeldPart names part → Finds (λ least. part_required names scopes least part) (PartBreaks around part)
+    part_finds (Set variant) held = finds_same (no_repeats names finite.empty variant.labels) (LabelsBreak variant.labels) (PartBreaks around (Set variant)) (labels_break variant.labels held) (λ r one. in_variant one) (part_labels variant)
+    part_finds (NamedType name) held = finds_same (required (is_some (type_of scopes name.text)) Unknown name.at) (Fails (is_some (type_of scopes name.text)) Unknown name.at) (PartBreaks around (NamedType name))
         (finds_required (is_some (type_of scopes name.text)) Unknown name.at) (part_named name) (part_unnamed name)
 
-    type_from : (parts : List TypePart) (r : Refusal) → TypeBreaks scopes parts r → Among (PartBreaks scopes) parts r
+    type_from : (parts : List TypePart) (r : Refusal) → TypeBreaks around parts r → Among (PartBreaks around) parts r
     type_from parts r (in_part {part} at one) = (part, at, one)
 
-    pub type_finds : (parts : List TypePart) → HeldType names parts → Finds (type_required names scopes parts) (TypeBreaks scopes parts)
-    type_finds parts held = finds_same (type_required names scopes parts) (Among (PartBreaks scopes) parts) (TypeBreaks scopes parts) (finds_each (part_required names scopes) (PartBreaks scopes) parts (λ part at. part_finds part (held part at)))
+    pub type_finds : (parts : List TypePart) → HeldType names parts → Finds (type_required names scopes parts) (TypeBreaks around parts)
+    type_finds parts held = finds_same (type_required names scopes parts) (Among (PartBreaks around) parts) (TypeBreaks around parts) (finds_each (part_required names scopes) (PartBreaks around) parts (λ part at. part_finds part (held part at)))
         (λ r one. in_part one.1 one.2) (type_from parts)
 
     -- a signature of two types, or the name of one
-    sig_to : (input output : List TypePart) (r : Refusal) → TypeBreaks scopes input r ⊎ TypeBreaks scopes output r → SigBreaks scopes (Arrow input output) r
+    sig_to : (input output : List TypePart) (r : Refusal) → TypeBreaks around input r ⊎ TypeBreaks around output r → SigBreaks around (Arrow input output) r
     sig_to input output r (inl one) = in_input one
     sig_to input output r (inr one) = in_output one
 
-    sig_from : (input output : List TypePart) (r : Refusal) → SigBreaks scopes (Arrow input output) r → TypeBreaks scopes input r ⊎ TypeBreaks scopes output r
+    sig_from : (input output : List TypePart) (r : Refusal) → SigBreaks around (Arrow input output) r → TypeBreaks around input r ⊎ TypeBreaks around output r
     sig_from input output r (in_input one) = inl one
     sig_from input output r (in_output one) = inr one
 
-    pub arrow_finds : (input output : List TypePart) → HeldType names input → HeldType names output → Finds (λ least. type_required names scopes output (type_required names scopes input least)) (SigBreaks scopes (Arrow input output))
-    arrow_finds input output held_in held_out = finds_same (λ least. type_required names scopes output (type_required names scopes input least)) (λ r. TypeBreaks scopes input r ⊎ TypeBreaks scopes output r) (SigBreaks scopes (Arrow input output))
-        (finds_both (type_required names scopes input) (type_required names scopes output) (TypeBreaks scopes input) (TypeBreaks scopes output) (type_finds input held_in) (type_finds output held_out)) (sig_to input output) (sig_from input output)
+    pub arrow_finds : (input output : List TypePart) → HeldType names input → HeldType names output → Finds (λ least. type_required names scopes output (type_required names scopes input least)) (SigBreaks around (Arrow input output))
+    arrow_finds input output held_in held_out = finds_same (λ least. type_required names scopes output (type_required names scopes input least)) (λ r. TypeBreaks around input r ⊎ TypeBreaks around output r) (SigBreaks around (Arrow input output))
+        (finds_both (type_required names scopes input) (type_required names scopes output) (TypeBreaks around input) (TypeBreaks around output) (type_finds input held_in) (type_finds output held_out)) (sig_to input output) (sig_from input output)
 
-    sig_named : (name : Ident) (r : Refusal) → Fails (is_some (signature_of scopes name.text)) Unknown name.at r → SigBreaks scopes (NamedSig name) r
-    sig_named name r fails = subst (SigBreaks scopes (NamedSig name)) fails.1 (no_such_signature (none_from _ fails.0))
+    sig_named : (name : Ident) (r : Refusal) → Fails (is_some (signature_of scopes name.text)) Unknown name.at r → SigBreaks around (NamedSig name) r
+    sig_named name r fails = subst (SigBreaks around (NamedSig name)) fails.1 (no_such_signature (sym (signature_stands scopes around same name.text) ∙ fails.0))
 
-    sig_unnamed : (name : Ident) (r : Refusal) → SigBreaks scopes (NamedSig name) r → Fails (is_some (signature_of scopes name.text)) Unknown name.at r
-    sig_unnamed name r (no_such_signature none) = (ap is_some none, refl)
+    sig_unnamed : (name : Ident) (r : Refusal) → SigBreaks around (NamedSig name) r → Fails (is_some (signature_of scopes name.text)) Unknown name.at r
+    sig_unnamed name r (no_such_signature none) = (signature_stands scopes around same name.text ∙ none, refl)
 
-    pub named_finds : (name : Ident) → Finds (required (is_some (signature_of scopes name.text)) Unknown name.at) (SigBreaks scopes (NamedSig name))
-    named_finds name = finds_same (required (is_some (signature_of scopes name.text)) Unknown name.at) (Fails (is_some (signature_of scopes name.text)) Unknown name.at) (SigBreaks scopes (NamedSig name))
+    pub named_finds : (name : Ident) → Finds (required (is_some (signature_of scopes name.text)) Unknown name.at) (SigBreaks around (NamedSig name))
+    named_finds name = finds_same (required (is_some (signature_of scopes name.text)) Unknown name.at) (Fails (is_some (signature_of scopes name.text)) Unknown name.at) (SigBreaks around (NamedSig name))
         (finds_required (is_some (signature_of scopes name.text)) Unknown name.at) (sig_named name) (sig_unnamed name)

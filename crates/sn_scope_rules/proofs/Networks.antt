@@ -30,15 +30,17 @@ use Rattle.sn_scope_rules.proofs.Checks.{Among, Fails, Finds, among_cases, among
 use Rattle.sn_scope_rules.proofs.Filters.{OtherTag, filter_finds, other_tags}
 use Rattle.sn_scope_rules.proofs.Held.{Each, HeldGuard, HeldLevel, HeldNet, net_level}
 use Rattle.sn_scope_rules.proofs.Labels.{labels_break}
+use Rattle.sn_scope_rules.specs.Visible.{Around}
+use Rattle.sn_scope_rules.proofs.Visible.{Agrees, part_stands}
 use Rattle.sn_scope_rules.proofs.Standing.{within_cases}
 
-module _ (names : List (List ℕ)) (scopes : Scopes) where
+module _ (names : List (List ℕ)) (scopes : Scopes) (around : Around) (same : Agrees scopes around) where
   abbrev Breaks : NetExpr → Refusal → Type 0
-  Breaks = NetworkBreaks scopes
+  Breaks = NetworkBreaks around
 
   -- what is refused in a form, and in the networks that it is made of
   abbrev LevelBreaks : ℕ → NetForm-F NetForm NetExpr → Refusal → Type 0
-  LevelBreaks place x r = FormBreaks scopes place x r ⊎ Among Breaks (parts_in x) r
+  LevelBreaks place x r = FormBreaks around place x r ⊎ Among Breaks (parts_in x) r
 
   -- what is refused in a network is refused in its form, or in one of its parts
   abbrev Here : NetExpr → Refusal → Type 0
@@ -55,7 +57,7 @@ module _ (names : List (List ℕ)) (scopes : Scopes) where
   network_from net r (in_form {part} at breaks) = sides (within_cases parts_of Form part net at breaks)
     where
       Form : NetExpr → Type 0
-      Form n = FormBreaks scopes (place_of n) (form_of n) r
+      Form n = FormBreaks around (place_of n) (form_of n) r
 
       sides : Form net ⊎ ((part : NetExpr) × StandsIn part (parts_of net) × ((y : NetExpr) × StandsWithin parts_of y part × Form y)) → Here net r
       sides (inl one) = inl one
@@ -113,10 +115,10 @@ module _ (names : List (List ℕ)) (scopes : Scopes) where
 
   name_finds : (name : Ident) → HeldLevel names (NetForm-F.Name name) → (place : ℕ) → Finds (required (is_part (meaning_of scopes name.text)) Unknown name.at) (LevelBreaks place (NetForm-F.Name name))
   name_finds name held place = finds_same (required (is_part (meaning_of scopes name.text)) Unknown name.at) (Fails (is_part (meaning_of scopes name.text)) Unknown name.at) (LevelBreaks place (NetForm-F.Name name))
-      (finds_required (is_part (meaning_of scopes name.text)) Unknown name.at) (λ r fails. inl (subst (FormBreaks scopes place (NetForm-F.Name name)) fails.1 (no_such_part fails.0))) from
+      (finds_required (is_part (meaning_of scopes name.text)) Unknown name.at) (λ r fails. inl (subst (FormBreaks around place (NetForm-F.Name name)) fails.1 (no_such_part (sym (part_stands scopes around same name.text) ∙ fails.0)))) from
     where
-      broken : (r : Refusal) → FormBreaks scopes place (NetForm-F.Name name) r → Fails (is_part (meaning_of scopes name.text)) Unknown name.at r
-      broken r (no_such_part missing) = (missing, refl)
+      broken : (r : Refusal) → FormBreaks around place (NetForm-F.Name name) r → Fails (is_part (meaning_of scopes name.text)) Unknown name.at r
+      broken r (no_such_part missing) = (part_stands scopes around same name.text ∙ missing, refl)
 
       from : (r : Refusal) → LevelBreaks place (NetForm-F.Name name) r → Fails (is_part (meaning_of scopes name.text)) Unknown name.at r
       from r (inl one) = broken r one
@@ -125,7 +127,7 @@ module _ (names : List (List ℕ)) (scopes : Scopes) where
   identity_finds : HeldLevel names NetForm-F.Identity → (place : ℕ) → Finds (λ least. least) (LevelBreaks place NetForm-F.Identity)
   identity_finds held place = finds_nothing (LevelBreaks place NetForm-F.Identity) nothing
     where
-      unbroken : (r : Refusal) → FormBreaks scopes place NetForm-F.Identity r → ⊥
+      unbroken : (r : Refusal) → FormBreaks around place NetForm-F.Identity r → ⊥
       unbroken r one = elim one [ ]
 
       nothing : (r : Refusal) → LevelBreaks place NetForm-F.Identity r → ⊥
@@ -136,7 +138,7 @@ module _ (names : List (List ℕ)) (scopes : Scopes) where
   filters_find pattern templates held place = finds_same (filter_required names place pattern templates) (FilterBreaks place pattern templates) (LevelBreaks place (NetForm-F.Filter pattern templates))
       (filter_finds names place pattern templates held.0.0 held.0.1) (λ r one. inl (in_filter one)) from
     where
-      broken : (r : Refusal) → FormBreaks scopes place (NetForm-F.Filter pattern templates) r → FilterBreaks place pattern templates r
+      broken : (r : Refusal) → FormBreaks around place (NetForm-F.Filter pattern templates) r → FilterBreaks place pattern templates r
       broken r (in_filter one) = one
 
       from : (r : Refusal) → LevelBreaks place (NetForm-F.Filter pattern templates) r → FilterBreaks place pattern templates r
@@ -155,10 +157,10 @@ module _ (names : List (List ℕ)) (scopes : Scopes) where
       InCell r = Fails (is_between 2 8 (length patterns)) Arity place r ⊎ Among InPattern patterns r
 
       to : (r : Refusal) → InCell r → LevelBreaks place (NetForm-F.Sync patterns) r
-      to r (inl fails) = inl (subst (FormBreaks scopes place (NetForm-F.Sync patterns)) fails.1 (pattern_count fails.0))
+      to r (inl fails) = inl (subst (FormBreaks around place (NetForm-F.Sync patterns)) fails.1 (pattern_count fails.0))
       to r (inr one) = inl (in_cell_pattern one.1 one.2)
 
-      broken : (r : Refusal) → FormBreaks scopes place (NetForm-F.Sync patterns) r → InCell r
+      broken : (r : Refusal) → FormBreaks around place (NetForm-F.Sync patterns) r → InCell r
       broken r (pattern_count wrong) = inl (wrong, refl)
       broken r (in_cell_pattern {pattern = pattern} at one) = inr (pattern, at, one)
 
@@ -169,7 +171,7 @@ module _ (names : List (List ℕ)) (scopes : Scopes) where
   serial_finds : (parts : List Found) → HeldLevel names (NetForm-F.Serial (exprs parts)) → (place : ℕ) → Finds (all_required (each check_of (exprs parts))) (LevelBreaks place (NetForm-F.Serial (exprs parts)))
   serial_finds parts held place = finds_same (all_required (each check_of (exprs parts))) (Among Breaks (exprs parts)) (LevelBreaks place (NetForm-F.Serial (exprs parts))) (all_find parts held.1) (λ r one. inr one) from
     where
-      unbroken : (r : Refusal) → FormBreaks scopes place (NetForm-F.Serial (exprs parts)) r → ⊥
+      unbroken : (r : Refusal) → FormBreaks around place (NetForm-F.Serial (exprs parts)) r → ⊥
       unbroken r one = elim one [ ]
 
       from : (r : Refusal) → LevelBreaks place (NetForm-F.Serial (exprs parts)) r → Among Breaks (exprs parts) r
@@ -189,10 +191,10 @@ module _ (names : List (List ℕ)) (scopes : Scopes) where
       as_many = ap (is_between 2 64) (length-map (exprs parts) check_of)
 
       to : (r : Refusal) → InChoice r → LevelBreaks place (NetForm-F.Choice det (exprs parts)) r
-      to r (inl fails) = inl (subst (FormBreaks scopes place (NetForm-F.Choice det (exprs parts))) fails.1 (branch_count (sym as_many ∙ fails.0)))
+      to r (inl fails) = inl (subst (FormBreaks around place (NetForm-F.Choice det (exprs parts))) fails.1 (branch_count (sym as_many ∙ fails.0)))
       to r (inr one) = inr one
 
-      broken : (r : Refusal) → FormBreaks scopes place (NetForm-F.Choice det (exprs parts)) r → InChoice r
+      broken : (r : Refusal) → FormBreaks around place (NetForm-F.Choice det (exprs parts)) r → InChoice r
       broken r (branch_count wrong) = inl (as_many ∙ wrong, refl)
 
       from : (r : Refusal) → LevelBreaks place (NetForm-F.Choice det (exprs parts)) r → InChoice r
@@ -208,11 +210,11 @@ module _ (names : List (List ℕ)) (scopes : Scopes) where
   guard_finds exit None held = finds_nothing (InGuard exit None) (λ r one. one)
   guard_finds exit (Some e) held = other_tags names exit.labels GuardTag e held
 
-  guard_to : (det : Bool) (body : NetExpr) (exit : Variant) (guard : Option TExpr) (place : ℕ) (r : Refusal) → InGuard exit guard r → FormBreaks scopes place (NetForm-F.Star det body exit guard) r
+  guard_to : (det : Bool) (body : NetExpr) (exit : Variant) (guard : Option TExpr) (place : ℕ) (r : Refusal) → InGuard exit guard r → FormBreaks around place (NetForm-F.Star det body exit guard) r
   guard_to det body exit None place r one = absurd one
-  guard_to det body exit (Some e) place r one = subst (FormBreaks scopes place (NetForm-F.Star det body exit (Some e))) one.2 (no_such_guard_tag one.1)
+  guard_to det body exit (Some e) place r one = subst (FormBreaks around place (NetForm-F.Star det body exit (Some e))) one.2 (no_such_guard_tag one.1)
 
-  star_broken : (det : Bool) (body : NetExpr) (exit : Variant) (guard : Option TExpr) (place : ℕ) (r : Refusal) → FormBreaks scopes place (NetForm-F.Star det body exit guard) r → InPattern exit r ⊎ InGuard exit guard r
+  star_broken : (det : Bool) (body : NetExpr) (exit : Variant) (guard : Option TExpr) (place : ℕ) (r : Refusal) → FormBreaks around place (NetForm-F.Star det body exit guard) r → InPattern exit r ⊎ InGuard exit guard r
   star_broken det body exit guard place r (in_exit one) = inl one
   star_broken det body exit guard place r (no_such_guard_tag {name = name} other) = inr (name, other, refl)
 
@@ -237,7 +239,7 @@ module _ (names : List (List ℕ)) (scopes : Scopes) where
   split_finds : (det : Bool) (body : Found) (tag : Ident) → HeldLevel names (NetForm-F.Split det body.0 tag) → (place : ℕ) → Finds (check_of body.0) (LevelBreaks place (NetForm-F.Split det body.0 tag))
   split_finds det body tag held place = finds_same (check_of body.0) (Breaks body.0) (LevelBreaks place (NetForm-F.Split det body.0 tag)) (body.1 (held.1 body.0 here)) (λ r one. inr (body.0, here, one)) from
     where
-      unbroken : (r : Refusal) → FormBreaks scopes place (NetForm-F.Split det body.0 tag) r → ⊥
+      unbroken : (r : Refusal) → FormBreaks around place (NetForm-F.Split det body.0 tag) r → ⊥
       unbroken r one = elim one [ ]
 
       from : (r : Refusal) → LevelBreaks place (NetForm-F.Split det body.0 tag) r → Breaks body.0 r
@@ -245,7 +247,7 @@ module _ (names : List (List ℕ)) (scopes : Scopes) where
       from r (inr one) = one_part body.0 r one
 
   -- the check of a network finds what breaks its rules
-  pub network_finds : (net : NetExpr) → HeldNet names net → Finds (network_required names scopes net) (NetworkBreaks scopes net)
+  pub network_finds : (net : NetExpr) → HeldNet names net → Finds (network_required names scopes net) (NetworkBreaks around net)
   network_finds = ind-NetExpr FormFinds NetworkFinds
       (λ x y is. subst (λ z. FormFinds (roll-NetForm z)) is (level (map-NetForm _ _ NetForm NetExpr (λ e. e.0) (λ e. e.0) y) (elim y as (λ z. HeldLevel names (map-NetForm _ _ NetForm NetExpr (λ e. e.0) (λ e. e.0) z) → (place : ℕ) → Finds
       (required_step names scopes (map-NetForm NetForm NetExpr (ℕ → Check) Check form_check check_of (map-NetForm _ _ NetForm NetExpr (λ e. e.0) (λ e. e.0) z)) place)

@@ -1,5 +1,6 @@
 pub mod Standing
 pub mod Refusals
+pub mod Visible
 pub mod Labels
 pub mod Filters
 pub mod Networks

@@ -10,13 +10,11 @@ use Rattle.sn_ast.specs.declared.network.TemplateAt.{TemplateAt}
 use Rattle.sn_ast.specs.declared.tag_expr.TExpr.{TExpr}
 use Rattle.sn_label_scope.specs.declared.refusal.Refusal.{Refusal}
 use Rattle.sn_scope.specs.Filters.{is_between}
-use Rattle.sn_scope.specs.Networks.{is_part}
-use Rattle.sn_scope.specs.Scopes.{meaning_of}
-use Rattle.sn_scope.specs.declared.scopes.Scopes.{Scopes}
 use Rattle.sn_scope_rules.specs.Filters.{FilterBreaks, NamesOther}
 use Rattle.sn_scope_rules.specs.Labels.{LabelsBreak}
 use Rattle.sn_scope_rules.specs.Refusals.{arity, guard_tag, unknown}
 use Rattle.sn_scope_rules.specs.Standing.{StandsIn, StandsWithin}
+use Rattle.sn_scope_rules.specs.Visible.{Around, is_part, stands_for_a}
 
 -- the form of a network, and its place
 abbrev pub form_of : NetExpr → NetForm-F NetForm NetExpr
@@ -40,19 +38,19 @@ abbrev pub parts_of : NetExpr → List NetExpr
 parts_of net = parts_in (form_of net)
 
 -- what is refused in one form at its place, but for the networks that it is made of
-pub data FormBreaks (scopes : Scopes) (place : ℕ) : NetForm-F NetForm NetExpr → Refusal → Type 0 where
-  no_such_part : {name : Ident} → is_part (meaning_of scopes name.text) ≡ false → FormBreaks scopes place (NetForm-F.Name name) (unknown name.at)
+pub data FormBreaks (around : Around) (place : ℕ) : NetForm-F NetForm NetExpr → Refusal → Type 0 where
+  no_such_part : {name : Ident} → stands_for_a is_part around name.text ≡ false → FormBreaks around place (NetForm-F.Name name) (unknown name.at)
   in_filter : {pattern : Variant} {templates : List TemplateAt} {r : Refusal} →
-      FilterBreaks place pattern templates r → FormBreaks scopes place (NetForm-F.Filter pattern templates) r
-  pattern_count : {patterns : List Variant} → is_between 2 8 (length patterns) ≡ false → FormBreaks scopes place (NetForm-F.Sync patterns) (arity place)
+      FilterBreaks place pattern templates r → FormBreaks around place (NetForm-F.Filter pattern templates) r
+  pattern_count : {patterns : List Variant} → is_between 2 8 (length patterns) ≡ false → FormBreaks around place (NetForm-F.Sync patterns) (arity place)
   in_cell_pattern : {patterns : List Variant} {pattern : Variant} {r : Refusal} →
-      StandsIn pattern patterns → LabelsBreak pattern.labels r → FormBreaks scopes place (NetForm-F.Sync patterns) r
-  branch_count : {det : Bool} {branches : List NetExpr} → is_between 2 64 (length branches) ≡ false → FormBreaks scopes place (NetForm-F.Choice det branches) (arity place)
+      StandsIn pattern patterns → LabelsBreak pattern.labels r → FormBreaks around place (NetForm-F.Sync patterns) r
+  branch_count : {det : Bool} {branches : List NetExpr} → is_between 2 64 (length branches) ≡ false → FormBreaks around place (NetForm-F.Choice det branches) (arity place)
   in_exit : {det : Bool} {body : NetExpr} {exit : Variant} {guard : Option TExpr} {r : Refusal} →
-      LabelsBreak exit.labels r → FormBreaks scopes place (NetForm-F.Star det body exit guard) r
+      LabelsBreak exit.labels r → FormBreaks around place (NetForm-F.Star det body exit guard) r
   no_such_guard_tag : {det : Bool} {body : NetExpr} {exit : Variant} {e : TExpr} {name : Ident} →
-      NamesOther exit.labels e name → FormBreaks scopes place (NetForm-F.Star det body exit (Some e)) (guard_tag name.at)
+      NamesOther exit.labels e name → FormBreaks around place (NetForm-F.Star det body exit (Some e)) (guard_tag name.at)
 
 -- what is refused in a network that stands somewhere within it
-pub data NetworkBreaks (scopes : Scopes) (net : NetExpr) : Refusal → Type 0 where
-  in_form : {part : NetExpr} {r : Refusal} → StandsWithin parts_of part net → FormBreaks scopes (place_of part) (form_of part) r → NetworkBreaks scopes net r
+pub data NetworkBreaks (around : Around) (net : NetExpr) : Refusal → Type 0 where
+  in_form : {part : NetExpr} {r : Refusal} → StandsWithin parts_of part net → FormBreaks around (place_of part) (form_of part) r → NetworkBreaks around net r
