@@ -1,17 +1,16 @@
 -- The names of a source hold those of all its labels.
-use Rattle.std.proofs.Common.{◌≡◌, ℕ, Bool, true, false, ◌||◌, List, [], ◌∷◌, ◌++◌, map as each, Option, Some, None, bytes_eq, fold, ◌⊎◌, inl, inr, refl, sym, ap, ◌∙◌, subst, subst₂, map-id}
+use Rattle.std.proofs.Common.{◌≡◌, ℕ, Bool, true, false, ◌||◌, List, [], ◌∷◌, ◌++◌, map as each, Option, Some, None, bytes_eq, fold, ◌⊎◌, inl, inr, refl, sym, ◌∙◌, subst, subst₂, map-id}
 use Rattle.sn_ast.specs.declared.declaration.BoxDecl.{BoxDecl}
-use Rattle.sn_ast.specs.declared.declaration.Decl.{Decl, fold-Decl}
+use Rattle.sn_ast.specs.declared.declaration.Decl.{Decl}
 use Rattle.sn_ast.specs.declared.declaration.Decl.TheFolds.{fold-roll-Decl, fold-roll-NetDecl, ind-Decl, map-Decl}
 use Rattle.sn_ast.specs.declared.declaration.Decl.TheOpen.{Decl-F}
-use Rattle.sn_ast.specs.declared.declaration.Decl.TheViews.{out-Decl, out-NetDecl, out-roll-Decl, out-roll-NetDecl, roll-Decl, roll-NetDecl}
+use Rattle.sn_ast.specs.declared.declaration.Decl.TheViews.{out-NetDecl, out-roll-Decl, out-roll-NetDecl, roll-Decl, roll-NetDecl}
 use Rattle.sn_ast.specs.declared.declaration.NetDecl.{NetDecl, NetDecl-F}
 use Rattle.sn_ast.specs.declared.declaration.Program.{Program}
 use Rattle.sn_ast.specs.declared.label.Ident.{Ident}
 use Rattle.sn_ast.specs.declared.label.LabelAt.{LabelAt}
 use Rattle.sn_ast.specs.declared.label.Sig.{Sig}
 use Rattle.sn_ast.specs.declared.label.Sig.TheVariants.{Arrow, Named as NamedSig}
-use Rattle.sn_ast.specs.declared.label.Tuple.{Tuple}
 use Rattle.sn_ast.specs.declared.label.TypePart.{TypePart}
 use Rattle.sn_ast.specs.declared.label.TypePart.TheVariants.{Set, Named as NamedType}
 use Rattle.sn_ast.specs.declared.label.Variant.{Variant}
@@ -33,9 +32,8 @@ use Rattle.sn_names.specs.Names.{entered, is_held}
 use Rattle.sn_names.proofs.NamesLaws.{is_held-entered}
 use Rattle.sn_scope.specs.Numbering.{Entry, after_box, after_decl, after_guard, after_item, after_label, after_labels, after_net, after_network, after_part, after_sig, after_signature, after_source, after_tags, after_template, after_tuple, after_types, after_variant, all_after, decl_step, names_of, net_step, network_step, tags_step as entry_step}
 use Rattle.sn_scope_rules.specs.Filters.{tags_in, tags_step}
-use Rattle.sn_scope_rules.specs.Networks.{parts_in}
 use Rattle.sn_scope_rules.specs.Standing.{StandsIn}
-use Rattle.sn_scope_rules.proofs.Held.{Each, HeldBox, HeldDecl, HeldDeclLevel, HeldForm, HeldGuard, HeldIdent, HeldItem, HeldLabel, HeldLabels, HeldLevel, HeldNet, HeldNetDecl, HeldNetSig, HeldOwn, HeldPart, HeldSig, HeldSource, HeldTags, HeldTemplate, HeldTuple, HeldType, HeldVariant, Names, level_decl, level_net}
+use Rattle.sn_scope_rules.proofs.Held.{Each, HeldBox, HeldDecl, HeldDeclLevel, HeldGuard, HeldIdent, HeldItem, HeldLabel, HeldLabels, HeldLevel, HeldNet, HeldNetDecl, HeldNetSig, HeldPart, HeldSig, HeldSource, HeldTemplate, HeldTuple, HeldType, HeldVariant, Names, level_decl, level_net}
 use Rattle.sn_scope_rules.proofs.Idents.{held_entered}
 use Rattle.sn_scope_rules.proofs.Standing.{in_cons, in_either, none_in}
 
@@ -264,13 +262,13 @@ net_enters name sig decls connect = subst₂ (λ (entry : Entry) (form : NetDecl
     (sym (fold-roll-NetDecl Entry Entry decl_step net_step (record { name = name; sig = sig; decls = each (λ (e : EnteredDecl). e.0) decls; connect = connect })))
     (sym (out-roll-NetDecl (record { name = name; sig = sig; decls = each (λ (e : EnteredDecl). e.0) decls; connect = connect })))
     (enters_so (λ names. after_network connect (all_after (each after_decl (each (λ (e : EnteredDecl). e.0) decls)) (after_signature sig names)))
-        (λ all. HeldNetSig all sig × (Each (HeldDecl all) (each (λ (e : EnteredDecl). e.0) decls) × HeldNet all connect))
-        (λ all. HeldNetDecl all (record { name = name; sig = sig; decls = each (λ (e : EnteredDecl). e.0) decls; connect = connect }) × Each (HeldDecl all) (each (λ (e : EnteredDecl). e.0) decls))
-        (enters_both (after_signature sig) (λ names. after_network connect (all_after (each after_decl (each (λ (e : EnteredDecl). e.0) decls)) names)) (λ all. HeldNetSig all sig)
-            (λ all. Each (HeldDecl all) (each (λ (e : EnteredDecl). e.0) decls) × HeldNet all connect) (net_sig_enters sig)
-            (enters_both (all_after (each after_decl (each (λ (e : EnteredDecl). e.0) decls))) (after_network connect) (λ all. Each (HeldDecl all) (each (λ (e : EnteredDecl). e.0) decls)) (λ all. HeldNet all connect)
-                (decls_enter (λ (e : EnteredDecl). e.0) (λ e. e.1) decls) (network_enters connect)))
-        (λ all held. ((held.0, held.1.1), held.1.0)))
+    (λ all. HeldNetSig all sig × (Each (HeldDecl all) (each (λ (e : EnteredDecl). e.0) decls) × HeldNet all connect))
+    (λ all. HeldNetDecl all (record { name = name; sig = sig; decls = each (λ (e : EnteredDecl). e.0) decls; connect = connect }) × Each (HeldDecl all) (each (λ (e : EnteredDecl). e.0) decls))
+    (enters_both (after_signature sig) (λ names. after_network connect (all_after (each after_decl (each (λ (e : EnteredDecl). e.0) decls)) names)) (λ all. HeldNetSig all sig)
+    (λ all. Each (HeldDecl all) (each (λ (e : EnteredDecl). e.0) decls) × HeldNet all connect) (net_sig_enters sig)
+    (enters_both (all_after (each after_decl (each (λ (e : EnteredDecl). e.0) decls))) (after_network connect) (λ all. Each (HeldDecl all) (each (λ (e : EnteredDecl). e.0) decls)) (λ all. HeldNet all connect)
+    (decls_enter (λ (e : EnteredDecl). e.0) (λ e. e.1) decls) (network_enters connect)))
+    (λ all held. ((held.0, held.1.1), held.1.0)))
 
 each_decl_enters : (d : Decl) → DeclEnters d
 each_decl_enters = ind-Decl DeclEnters NetDeclEnters

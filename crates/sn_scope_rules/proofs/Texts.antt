@@ -1,5 +1,5 @@
 -- Labels are the same by their numbers where they are by their names, if the names are held.
-use Rattle.std.proofs.Common.{◌≡◌, ℕ, ◌<◌, Bool, true, false, ◌&&◌, ◌||◌, Decides, IsTrue, is_some, List, [], ◌∷◌, length, bytes_eq, fold, refl, sym, ap, ◌∙◌, subst, arith}
+use Rattle.std.proofs.Common.{◌≡◌, ℕ, ◌<◌, Bool, true, false, ◌&&◌, ◌||◌, Decides, is_some, List, [], ◌∷◌, length, bytes_eq, fold, refl, sym, ap, ◌∙◌, subst}
 use Rattle.std.specs.FinMap as finite
 use Rattle.std.specs.List.{list_any}
 use Rattle.std.specs.Ordering.{eq_by_cmp}
@@ -75,6 +75,7 @@ by_name names tag name other text held = (to, from)
         let kinds = same_tags other tag parts.0 in
         let texts = same_text text name parts.1 in
         λ i. record { kind = kind_of (sym kinds i); id = number_in names (sym texts i) }
+
     from : numbered names tag name ≡ numbered names other text → (same_kind other tag && bytes_eq text name) ≡ true
     from same =
         let kinds : tag ≡ other = sym (kind_of_back tag) ∙ ap (λ (l : Label). kind_back l.kind) same ∙ kind_of_back other in

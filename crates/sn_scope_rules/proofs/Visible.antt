@@ -9,7 +9,7 @@ use Rattle.sn_ast.specs.declared.declaration.Decl.{Decl}
 use Rattle.sn_ast.specs.declared.declaration.Decl.TheOpen.{Decl-F}
 use Rattle.sn_ast.specs.declared.declaration.Decl.TheViews.{out-Decl}
 use Rattle.sn_ast.specs.declared.declaration.NetDecl.{NetDecl}
-use Rattle.sn_names.specs.Names.{entered, is_held, number_in}
+use Rattle.sn_names.specs.Names.{is_held, number_in}
 use Rattle.sn_names.proofs.NamesLaws.{number_in-append, number_in-held, number_in-new, number_in_last, same_text}
 use Rattle.sn_scope.specs.Networks.{is_part as may_stand}
 use Rattle.sn_scope.specs.Scopes.{declared, empty_scope, entered_scope, first_of, meaning_in, meaning_of, signature_number, signature_of, type_number, type_of}
@@ -18,7 +18,6 @@ use Rattle.sn_scope.specs.declared.scopes.Meaning.TheVariants as meaning
 use Rattle.sn_scope.specs.declared.scopes.Scope.{Scope}
 use Rattle.sn_scope.specs.declared.scopes.Scopes.{Scopes}
 use Rattle.sn_scope_rules.specs.Visible.{Around, has_name, is_declared, is_part, is_signature, is_type, name_of, stands_for, stands_for_a}
-use Rattle.sn_scope_rules.proofs.Idents.{held_entered}
 
 -- what a declaration declares
 pub data Sort : Type 0 where
@@ -172,16 +171,16 @@ get_last xs x k is = ap (slice_get (xs ++ x ∷ [])) is ∙ at_length xs x
 find_old : {A : Type 0} (test : A → Bool) (xs ys : List A) → list_any test xs ≡ true → find test (xs ++ ys) ≡ find test xs
 find_old test [] ys there = cc
 find_old test (x ∷ xs) ys there = (elim (test x) as (λ b. (b || list_any test xs) ≡ true → cond b (Some x) (find test (xs ++ ys)) ≡ cond b (Some x) (find test xs)) [
-    | true ↦ λ _. refl
-    | false ↦ λ rest. find_old test xs ys rest
-  ]) there
+  | true ↦ λ _. refl
+  | false ↦ λ rest. find_old test xs ys rest
+]) there
 
 find_new : {A : Type 0} (test : A → Bool) (xs ys : List A) → list_any test xs ≡ false → find test (xs ++ ys) ≡ find test ys
 find_new test [] ys none = refl
 find_new test (x ∷ xs) ys none = (elim (test x) as (λ b. (b || list_any test xs) ≡ false → cond b (Some x) (find test (xs ++ ys)) ≡ find test ys) [
-    | true ↦ λ no. cc
-    | false ↦ λ rest. find_new test xs ys rest
-  ]) none
+  | true ↦ λ no. cc
+  | false ↦ λ rest. find_new test xs ys rest
+]) none
 
 fold_last : {A B : Type 0} (f : B → A → B) (b : B) (xs : List A) (x : A) → fold f b (xs ++ x ∷ []) ≡ f (fold f b xs) x
 fold_last f b [] x = refl
@@ -227,9 +226,9 @@ module _ (scope : Scope) (decls : List Decl) (d : Decl) (m : Meaning) (table : T
           find_none : {A : Type 0} (test : A → Bool) (xs : List A) → list_any test xs ≡ false → find test xs ≡ None
           find_none test [] none = refl
           find_none test (x ∷ xs) none = (elim (test x) as (λ b. (b || list_any test xs) ≡ false → cond b (Some x) (find test xs) ≡ None) [
-              | true ↦ λ no. cc
-              | false ↦ λ rest. find_none test xs rest
-            ]) none
+            | true ↦ λ no. cc
+            | false ↦ λ rest. find_none test xs rest
+          ]) none
 
       found : (n : List ℕ) (b : Bool) → is_declared decls n ≡ b → find (has_name n) (decls ++ d ∷ []) ≡ find (has_name n) decls
       found n true is = find_old (has_name n) decls (d ∷ []) is
@@ -243,7 +242,7 @@ module _ (scope : Scope) (decls : List Decl) (d : Decl) (m : Meaning) (table : T
       → option_map meaning_sort (meaning_in pushed n) ≡ option_map decl_sort (find (has_name n) (decls ++ d ∷ []))
   new_sorts n true held now is fresh =
       ap (option_map meaning_sort) (ap (slice_get (scope.meanings ++ m ∷ [])) (number_in-append scope.names (name ∷ []) n held)
-          ∙ get_left scope.meanings (m ∷ []) (number_in scope.names n) (subst (λ k. number_in scope.names n < k) (sym table.as_many) (number_in-held scope.names n held)))
+      ∙ get_left scope.meanings (m ∷ []) (number_in scope.names n) (subst (λ k. number_in scope.names n < k) (sym table.as_many) (number_in-held scope.names n held)))
       ∙ table.sorts n ∙ ap (option_map decl_sort) (sym (find_old (has_name n) decls (d ∷ []) (sym (table.held n) ∙ held)))
   new_sorts n false none true is fresh =
       ap (option_map meaning_sort) (get_last scope.meanings m (number_in (scope.names ++ name ∷ []) n) (subst (λ x. number_in (scope.names ++ name ∷ []) x ≡ length scope.meanings) (same_text name n is) (number_in_last scope.names name fresh ∙ sym table.as_many)))

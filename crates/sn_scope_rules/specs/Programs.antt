@@ -1,5 +1,5 @@
 -- What is refused in declarations and programs.
-use Rattle.std.specs.Prelude.{◌≡◌, ℕ, true, List, [], ◌∷◌, ◌++◌, Option, Some}
+use Rattle.std.specs.Prelude.{◌≡◌, true, List, [], ◌∷◌, Some}
 use Rattle.sn_ast.specs.declared.declaration.BoxDecl.{BoxDecl}
 use Rattle.sn_ast.specs.declared.declaration.Decl.{Decl}
 use Rattle.sn_ast.specs.declared.declaration.Decl.TheOpen.{Decl-F}
