@@ -15,22 +15,23 @@ use Rattle.sn_ast.specs.declared.label.Ident.{Ident}
 use Rattle.sn_ast.specs.declared.label.Tuple.{Tuple}
 use Rattle.sn_box_scope.specs.Boxes.{box_required, fun_required, names_apart, tuple_required}
 use Rattle.sn_box_scope.specs.Expressions.{expr_required, output_number, output_required, parts_required, required_step}
-use Rattle.sn_box_scope.specs.Functions.{builtin_named, call_required, called_size, size_required}
+use Rattle.sn_box_scope.specs.Functions.{builtin_named, call_required, size_required}
 use Rattle.sn_box_scope.specs.Variables.{field_variable, is_named, label_variable, last_named, variable_number, variable_required, with_bound}
 use Rattle.sn_label_scope.specs.Refusals.{Check, required}
 use Rattle.sn_label_scope.specs.declared.refusal.Reason.TheVariants.{Unknown, Twice, Arity}
 use Rattle.sn_label_scope.specs.declared.refusal.Refusal.{Refusal}
 use Rattle.sn_net.specs.Boxes.{has_size}
 use Rattle.sn_record.specs.Value.{is_printable_text}
-use Rattle.sn_scope_rules.specs.Boxes.{BoxBreaks, ExprBreaks, FormBreaks, FunBreaks, IdentsBreak, Seen, Variable, form_of, output_sizes, parts_in, parts_of, place_of, seen}
+use Rattle.sn_scope_rules.specs.Boxes.{BoxBreaks, ExprBreaks, FormBreaks, FunBreaks, IdentsBreak, Seen, Variable, arguments_of, form_of, output_at, parts_in, parts_of, place_of, seen}
 use Rattle.sn_scope_rules.specs.Boxes.BoxBreaks.{in_body, in_fun, in_input, in_names, in_output}
 use Rattle.sn_scope_rules.specs.Boxes.ExprBreaks.{in_form}
-use Rattle.sn_scope_rules.specs.Boxes.FormBreaks.{argument_count, no_such_function, no_such_name, no_such_tag, not_printable, output_count}
+use Rattle.sn_scope_rules.specs.Boxes.FormBreaks.{argument_count, no_such_function, no_such_name, no_such_tag, not_printable, no_such_output, output_count}
 use Rattle.sn_scope_rules.specs.Boxes.FunBreaks.{built_in, in_fun_body, in_parameters, parameter_count}
 use Rattle.sn_scope_rules.specs.Labels.{LabelsBreak}
 use Rattle.sn_scope_rules.specs.Refusals.{arity, unknown}
 use Rattle.sn_scope_rules.specs.Standing.{StandsIn, StandsWithin}
 use Rattle.sn_scope_rules.specs.Standing.StandsWithin.{deeper, itself}
+use Rattle.sn_scope_rules.proofs.Calls.{called_is, output_takes, takes}
 use Rattle.sn_scope_rules.proofs.Checks.{Among, Fails, Finds, among_cases, among_cons, among_none, finds_both, finds_each, finds_nothing, finds_required, finds_same}
 use Rattle.sn_scope_rules.proofs.Held.{HeldBox}
 use Rattle.sn_scope_rules.proofs.Idents.{idents_find}
@@ -247,13 +248,13 @@ module _ (declaration : BoxDecl) where
   size_finds (Some size) count at = finds_required (count == size) Arity at
   size_finds None count at = finds_same (required false Unknown at) (Fails false Unknown at) (Misfits None count at) (finds_required false Unknown at) (λ r fails. fails.1) (λ r same. (refl, same))
 
-  misfit_to : (name : Ident) (parts : List BExpr) (variables : List Variable) (place : ℕ) (found : Option ℕ) → called_size declaration.funs name.text ≡ found → (r : Refusal)
+  misfit_to : (name : Ident) (parts : List BExpr) (variables : List Variable) (place : ℕ) (found : Option ℕ) → arguments_of declaration.funs name.text ≡ found → (r : Refusal)
       → Misfits found (length parts) name.at r → FormBreaks declaration variables place (BForm-F.Call name parts) r
   misfit_to name parts variables place (Some size) is r fails = subst (FormBreaks declaration variables place (BForm-F.Call name parts)) fails.1 (argument_count size is fails.0)
   misfit_to name parts variables place None is r same = subst (FormBreaks declaration variables place (BForm-F.Call name parts)) same (no_such_function is)
 
   misfit_from : (name : Ident) (parts : List BExpr) (variables : List Variable) (place : ℕ) (r : Refusal)
-      → FormBreaks declaration variables place (BForm-F.Call name parts) r → Misfits (called_size declaration.funs name.text) (length parts) name.at r
+      → FormBreaks declaration variables place (BForm-F.Call name parts) r → Misfits (arguments_of declaration.funs name.text) (length parts) name.at r
   misfit_from name parts variables place r (no_such_function none) = subst (λ found. Misfits found (length parts) name.at (unknown name.at)) (sym none) refl
   misfit_from name parts variables place r (argument_count size is wrong) = subst (λ found. Misfits found (length parts) name.at (arity name.at)) (sym is) (wrong, refl)
 
@@ -262,23 +263,34 @@ module _ (declaration : BoxDecl) where
   call_finds name parts place variables = subst (λ count. Finds (λ least. call_required declaration.funs name count (parts_required (each check_of (exprs parts)) variables least)) (LevelBreaks place variables (BForm-F.Call name (exprs parts))))
       (sym (length-map (exprs parts) check_of))
       (after_parts (BForm-F.Call name (exprs parts)) place variables (parts_required (each check_of (exprs parts)) variables) (call_required declaration.funs name (length (exprs parts))) (Misfits found (length (exprs parts)) name.at)
-      (all_find parts variables) (size_finds found (length (exprs parts)) name.at) (misfit_to name (exprs parts) variables place found refl) (misfit_from name (exprs parts) variables place))
+      (all_find parts variables) (subst (λ size. Finds (size_required size (length (exprs parts)) name.at) (Misfits found (length (exprs parts)) name.at)) (sym (called_is declaration.funs name.text)) (size_finds found (length (exprs parts)) name.at)) (misfit_to name (exprs parts) variables place found refl) (misfit_from name (exprs parts) variables place))
     where
       found : Option ℕ
-      found = called_size declaration.funs name.text
+      found = arguments_of declaration.funs name.text
 
   out_finds : (n : ℕ) (parts : List Found) (place : ℕ) (variables : List Variable)
       → Finds (λ least. output_required declaration n (length (each check_of (exprs parts))) place (parts_required (each check_of (exprs parts)) variables least)) (LevelBreaks place variables (BForm-F.Out n (exprs parts)))
   out_finds n parts place variables = subst (λ count. Finds (λ least. output_required declaration n count place (parts_required (each check_of (exprs parts)) variables least)) (LevelBreaks place variables (BForm-F.Out n (exprs parts))))
       (sym (length-map (exprs parts) check_of))
       (after_parts (BForm-F.Out n (exprs parts)) place variables (parts_required (each check_of (exprs parts)) variables) (required ok Arity place) (Fails ok Arity place)
-      (all_find parts variables) (finds_required ok Arity place) (λ r fails. subst (FormBreaks declaration variables place (BForm-F.Out n (exprs parts))) fails.1 (output_count fails.0)) from)
+      (all_find parts variables) (finds_required ok Arity place) to from)
     where
       ok : Bool
-      ok = has_size (output_sizes declaration) (output_number (length declaration.outputs) n) (length (exprs parts))
+      ok = has_size (each (λ tuple. length tuple.labels) declaration.outputs) (output_number (length declaration.outputs) n) (length (exprs parts))
+
+      same : ok ≡ takes (output_at declaration.outputs n) (length (exprs parts))
+      same = output_takes declaration.outputs n (length (exprs parts))
+
+      by_output : (output : Option Tuple) → output_at declaration.outputs n ≡ output → takes output (length (exprs parts)) ≡ false → FormBreaks declaration variables place (BForm-F.Out n (exprs parts)) (arity place)
+      by_output None is wrong = no_such_output is
+      by_output (Some output) is wrong = output_count output is wrong
+
+      to : (r : Refusal) → Fails ok Arity place r → FormBreaks declaration variables place (BForm-F.Out n (exprs parts)) r
+      to r fails = subst (FormBreaks declaration variables place (BForm-F.Out n (exprs parts))) fails.1 (by_output (output_at declaration.outputs n) refl (sym same ∙ fails.0))
 
       from : (r : Refusal) → FormBreaks declaration variables place (BForm-F.Out n (exprs parts)) r → Fails ok Arity place r
-      from r (output_count wrong) = (wrong, refl)
+      from r (no_such_output none) = (same ∙ ap (λ output. takes output (length (exprs parts))) none, refl)
+      from r (output_count output is wrong) = (same ∙ ap (λ output. takes output (length (exprs parts))) is ∙ wrong, refl)
 
   -- what follows a `let` sees its name
   let_finds : (name : Ident) (e f : Found) (variables : List Variable)

@@ -7,6 +7,7 @@ pub mod Visible
 pub mod Labels
 pub mod Filters
 pub mod Networks
+pub mod Calls
 pub mod Boxes
 pub mod Entries
 pub mod Declarations

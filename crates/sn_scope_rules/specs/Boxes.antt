@@ -1,7 +1,8 @@
 -- What is refused in boxes.
-use Rattle.std.specs.Prelude.{◌≡◌, ℕ, true, false, ◌==◌, nat_le, List, [], ◌∷◌, length, map as each, Some, None}
+use Rattle.std.specs.Prelude.{◌≡◌, ℕ, zero, suc, true, false, ◌==◌, nat_le, List, [], ◌∷◌, length, map as each, find, slice_get, Option, Some, None, option_map}
+use Rattle.std.specs.Str.{bytes_eq}
 use Rattle.std.specs.List.{list_any}
-use Rattle.std.specs.Option.{is_none}
+use Rattle.std.specs.Option.{is_none, option_or}
 use Rattle.sn_ast.specs.declared.box_expr.BExpr.{BExpr}
 use Rattle.sn_ast.specs.declared.box_expr.BForm.{BForm}
 use Rattle.sn_ast.specs.declared.box_expr.BForm.TheOpen.{BForm-F}
@@ -10,12 +11,11 @@ use Rattle.sn_ast.specs.declared.declaration.BoxDecl.{BoxDecl}
 use Rattle.sn_ast.specs.declared.declaration.FunDecl.{FunDecl}
 use Rattle.sn_ast.specs.declared.label.Ident.{Ident}
 use Rattle.sn_ast.specs.declared.label.Tuple.{Tuple}
-use Rattle.sn_box_scope.specs.Expressions.{output_number}
-use Rattle.sn_box_scope.specs.Functions.{builtin_named, called_size}
+use Rattle.sn_box_scope.specs.Functions.{builtin_named}
 use Rattle.sn_box_scope.specs.Variables.{field_variable, is_named, label_variable, with_bound}
 use Rattle.sn_label_scope.specs.declared.refusal.Refusal.{Refusal}
 use Rattle.sn_names.specs.Names.{is_held}
-use Rattle.sn_net.specs.Boxes.{has_size}
+use Rattle.sn_net.specs.Boxes.{builtin_size}
 use Rattle.sn_record.specs.Value.{is_printable_text}
 use Rattle.sn_scope_rules.specs.Labels.{LabelsBreak}
 use Rattle.sn_scope_rules.specs.Refusals.{arity, twice, unknown}
@@ -63,9 +63,14 @@ parts_in variables (BForm-F.Out n parts) = each (seen variables) parts
 abbrev pub parts_of : Seen → List Seen
 parts_of e = parts_in e.variables (form_of e.expr)
 
--- how many labels each output tuple of a box has
-abbrev pub output_sizes : BoxDecl → List ℕ
-output_sizes declaration = each (λ tuple. length tuple.labels) declaration.outputs
+-- how many arguments a name takes where it is called: a built-in function's, or else those of the first function of the box with the name
+abbrev pub arguments_of : List FunDecl → List ℕ → Option ℕ
+arguments_of funs name = option_or (option_map builtin_size (builtin_named name)) (option_map (λ fun. length fun.params) (find (λ fun. bytes_eq fun.name.text name) funs))
+
+-- the n-th output tuple, counted from 1
+abbrev pub output_at : List Tuple → ℕ → Option Tuple
+output_at outputs zero = None
+output_at outputs (suc n) = slice_get outputs n
 
 -- what is refused in one form of an expression at its place, over the variables that stand there
 pub data FormBreaks (declaration : BoxDecl) (variables : List Variable) (place : ℕ) : BForm-F BForm BExpr → Refusal → Type 0 where
@@ -73,11 +78,12 @@ pub data FormBreaks (declaration : BoxDecl) (variables : List Variable) (place :
   no_such_name : {name : Ident} → list_any (is_named false name.text) variables ≡ false → FormBreaks declaration variables place (BForm-F.Name name) (unknown name.at)
   not_printable : {text : List ℕ} → is_printable_text text ≡ false → FormBreaks declaration variables place (BForm-F.TextLit text) (unknown place)
   no_such_function : {name : Ident} {parts : List BExpr} →
-      called_size declaration.funs name.text ≡ None → FormBreaks declaration variables place (BForm-F.Call name parts) (unknown name.at)
+      arguments_of declaration.funs name.text ≡ None → FormBreaks declaration variables place (BForm-F.Call name parts) (unknown name.at)
   argument_count : {name : Ident} {parts : List BExpr} (size : ℕ) →
-      called_size declaration.funs name.text ≡ Some size → (length parts == size) ≡ false → FormBreaks declaration variables place (BForm-F.Call name parts) (arity name.at)
-  output_count : {n : ℕ} {parts : List BExpr} →
-      has_size (output_sizes declaration) (output_number (length declaration.outputs) n) (length parts) ≡ false → FormBreaks declaration variables place (BForm-F.Out n parts) (arity place)
+      arguments_of declaration.funs name.text ≡ Some size → (length parts == size) ≡ false → FormBreaks declaration variables place (BForm-F.Call name parts) (arity name.at)
+  no_such_output : {n : ℕ} {parts : List BExpr} → output_at declaration.outputs n ≡ None → FormBreaks declaration variables place (BForm-F.Out n parts) (arity place)
+  output_count : {n : ℕ} {parts : List BExpr} (output : Tuple) →
+      output_at declaration.outputs n ≡ Some output → (length output.labels == length parts) ≡ false → FormBreaks declaration variables place (BForm-F.Out n parts) (arity place)
 
 -- what is refused in an expression that stands somewhere within it
 pub data ExprBreaks (declaration : BoxDecl) (whole : Seen) : Refusal → Type 0 where
