@@ -1,0 +1,14 @@
+pub mod Standing
+pub mod Checks
+pub mod Texts
+pub mod Held
+pub mod Idents
+pub mod Visible
+pub mod Labels
+pub mod Filters
+pub mod Networks
+pub mod Calls
+pub mod Boxes
+pub mod Entries
+pub mod Declarations
+pub mod Resolutions
