@@ -1,5 +1,5 @@
 -- Records by what stands at each label.
-use Rattle.std.proofs.Common.{◌≡◌, ℕ, ◌+◌, ◌<◌, ◌≤◌, ◌&&◌, ◌||◌, Bool, true, false, cond, not, IsTrue, List, [], ◌∷◌, length, get_or, drop, None, Some, Option, IfSome, refl, sym, ap, ◌∙◌, subst, is_some}
+use Rattle.std.proofs.Common.{◌≡◌, ℕ, ◌<◌, ◌&&◌, ◌||◌, Bool, true, false, cond, not, IsTrue, List, [], ◌∷◌, length, get_or, None, Some, Option, IfSome, refl, sym, ap, ◌∙◌, subst, is_some}
 use Rattle.std.specs.Prelude.{if◌then◌else◌, slice_get, Result, Ok, Err, OnOk, OnErr}
 use Rattle.std.specs.List.{All}
 use Rattle.std.proofs.lemmas.List.Elements.{All-head, All-tail}
@@ -7,15 +7,13 @@ use Rattle.std.specs.Option.{option_or}
 use Rattle.std.specs.Ordering.{eq_by_cmp}
 use Rattle.std.specs.FinMap as map
 use Rattle.std.specs.FinMap.{find}
-use Rattle.std.proofs.lemmas.List.{drop_more}
 use Rattle.std.proofs.lemmas.Option.{slice_get-get_or}
-use Rattle.std.proofs.Math.ListN.{drop_of_length-le}
 use Rattle.sn_record.specs.declared.label.Label.{Label}
 use Rattle.sn_record.specs.declared.value.Value.{Value}
 use Rattle.sn_record.specs.Label.{label_cmp, label_cmp_total, label_cmp-IsAntisymmetric}
 use Rattle.sn_record.specs.LabelSet.{Labels, contains}
 use Rattle.sn_record.specs.Record.{Entries, FitsLabel, IsRecord, Matches, is_missing, overlay, restrict, inherit}
-use Rattle.sn_record.proofs.Maps.{ties_itself, same_label, option_or-none, is_some-cond, get-append, get-retain_keys, get-slice_get, find-filter}
+use Rattle.sn_record.proofs.Maps.{ties_itself, same_label, option_or-none, is_some-cond, get-append, get-retain_keys, get-slice_get}
 
 -- records that have the same value at each label are one
 pub same_record : (r s : Entries) → ((l : Label) → map.get r l ≡ map.get s l) → r ≡ s

@@ -1,15 +1,12 @@
 -- Sets of labels by which labels they hold.
-use Rattle.std.proofs.Common.{◌≡◌, ℕ, ◌+◌, ◌<◌, ◌≤◌, ◌&&◌, ◌||◌, Bool, true, false, cond, not, IsTrue, List, [], ◌∷◌, length, get_or, drop, None, Some, Option, refl, sym, ap, ◌∙◌, is_some}
+use Rattle.std.proofs.Common.{◌≡◌, ◌&&◌, ◌||◌, Bool, true, false, cond, not, IsTrue, None, Some, Option, refl, sym, ap, ◌∙◌, is_some}
 use Rattle.std.specs.Option.{option_or}
 use Rattle.std.specs.Ordering.{eq_by_cmp}
 use Rattle.std.specs.FinMap as map
-use Rattle.std.specs.FinMap.{find}
-use Rattle.std.proofs.lemmas.List.{drop_more}
-use Rattle.std.proofs.Math.ListN.{drop_of_length-le}
 use Rattle.sn_record.specs.declared.label.Label.{Label}
 use Rattle.sn_record.specs.Label.{label_cmp, label_cmp_total, label_cmp-IsAntisymmetric}
 use Rattle.sn_record.specs.LabelSet.{Labels, contains, IsSubset, union, minus}
-use Rattle.sn_record.proofs.Maps.{get-append, get-retain_keys, option_or-none, is_some-cond}
+use Rattle.sn_record.proofs.Maps.{get-append, get-retain_keys, is_some-cond}
 
 same_unit : (x y : Option (Unit {0})) → is_some x ≡ is_some y → x ≡ y
 same_unit None None e = refl
