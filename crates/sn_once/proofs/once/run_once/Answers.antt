@@ -1,10 +1,10 @@
-use Rattle.std.proofs.Common.{arith}
+use Rattle.std.proofs.Common.{arith, ◌∙◌}
 use Rattle.std.proofs.lemmas.Result.{err_from_is_err_and}
 use Rattle.sn_once.proofs.Feeding.{at_first, at_last, none_of_run, tells_of_run, with_more}
 use Rattle.sn_once.proofs.once.run_once.Goals as goal
 
 pub loop-item-init : goal.loop-item-init
-loop-item-init c = (c.in_ok-once.ensures.run, at_first c.args.run.now c.as_slice-item-items.result.now c.in_ok-once.once c.new-out.result c.in_ok-once.ensures.run c.as_slice-item-items.ensures c.new-out.ensures)
+loop-item-init c = (c.in_ok-once.ensures.run, at_first c.args.run.now c.as_slice-item-items.result.now c.in_ok-once.once c.new-out.result c.in_ok-once.ensures.run (c.as_slice-item-items.ensures ∙ c.items.ensures) c.new-out.ensures)
 
 pub feed-requires : goal.feed-requires
 feed-requires c = c.loop-item.invariant.0
