@@ -21,8 +21,8 @@ new-run-requires-clause-queue c = record { some = omega arith; few = omega arith
 pub new-run-requires-clause-formed : goal.new-run-requires-clause-formed
 new-run-requires-clause-formed c = c.requires.runnable.formed
 
-pub run_once-requires-clause-straight : goal.run_once-requires-clause-straight
-run_once-requires-clause-straight c = subst (λ (net : Net). IsTrue (is_straight net)) (sym c.new-run.ensures.net) c.requires.runnable.straight
+pub run_once-requires : goal.run_once-requires
+run_once-requires c = record { straight = subst (λ (net : Net). IsTrue (is_straight net)) (sym c.new-run.ensures.net) c.requires.runnable.straight }
 
 pub returns-in_err-items-2-clause-ended : goal.returns-in_err-items-2-clause-ended
 returns-in_err-items-2-clause-ended c =
