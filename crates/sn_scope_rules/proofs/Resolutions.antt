@@ -13,7 +13,7 @@ use Rattle.sn_scope.specs.Numbering.{names_of}
 use Rattle.sn_scope.specs.Resolution.{fault_at, most_names, resolution, resolved, unless_refused, with_main}
 use Rattle.sn_scope.specs.Trees.{claims_within, most_nodes}
 use Rattle.sn_scope.specs.declared.declarations.Declarations.{Declarations}
-use Rattle.sn_scope.specs.declared.resolution.Resolved.{Resolved}
+use Rattle.sn_scope.specs.declared.resolved.Parts.{Parts}
 use Rattle.sn_scope.specs.declared.resolution.ScopeFault.{ScopeFault}
 use Rattle.sn_scope.specs.declared.resolution.ScopeFault.TheVariants.{Unknown, Twice, Arity, Memory, NoMain, GuardTag, TooLarge, TooManyNames}
 use Rattle.sn_scope_rules.specs.Programs.{ProgramBreaks}
@@ -51,7 +51,7 @@ refusal_of TooManyNames = None
 refusal_of (TooLarge at) = None
 refusal_of Memory = None
 
-abbrev refusal_in : Result Resolved ScopeFault → Option Refusal
+abbrev refusal_in : Result Parts ScopeFault → Option Refusal
 refusal_in (Ok made) = None
 refusal_in (Err fault) = refusal_of fault
 
