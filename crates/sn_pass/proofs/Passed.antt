@@ -88,8 +88,8 @@ module _ (s : Setting) where
         keeps = (
           subst (λ (p : Kept). Same a p ((keeping a).next (left_of q) x)) (sym later_left) (subst (λ (p : Kept). Same a first ((keeping a).next p x)) of_left step.keeps),
           subst (λ (p : Kept). Same b p (after (keeping b) (right_of q) ((keeping a).emits (left_of q) x))) (sym later_right)
-          (subst (λ (p : Kept). Same b second (after (keeping b) p ((keeping a).emits (left_of q) x))) of_right
-          (subst (λ (ys : List ModelItem). Same b second (after (keeping b) r ys)) mid through.keeps)),
+              (subst (λ (p : Kept). Same b second (after (keeping b) p ((keeping a).emits (left_of q) x))) of_right
+              (subst (λ (ys : List ModelItem). Same b second (after (keeping b) r ys)) mid through.keeps)),
         );
       })
 

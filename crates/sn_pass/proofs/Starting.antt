@@ -103,4 +103,3 @@ module _ (s : Setting) (q : Kept) where
       at Own = passing_same (router place (of_record (split_key id))) Passing (child_of q Own) Fresh
       at Inside = passing_same (router place (of_record (split_key id))) Passing (child_of q Inside) Fresh
       at (Branch i) = passing_same (router place (of_record (split_key id))) Passing (child_of q (Branch i)) Fresh
-

@@ -32,11 +32,7 @@ pub enum Kept {
 }
 
 /// What a cell with the patterns holds.
-pub fn into_holding(
-    kept: Kept,
-    alloc: Global,
-    patterns: &[LabelSet],
-) -> Result<Holding, Memory>
+pub fn into_holding(kept: Kept, alloc: Global, patterns: &[LabelSet]) -> Result<Holding, Memory>
     ensures { IfOk result (λ holding. holding ≡ state_or (new_cell patterns.now) (held kept)) }
 {
     let Kept::Cell(holding) = kept else {
@@ -117,11 +113,7 @@ pub fn take_replica(replicas: &mut BTreeMap<i64, Kept>, n: i64) -> Kept
 }
 
 /// Keeps a state for the replica for a value, for which nothing is kept.
-pub fn put_replica(
-    replicas: &mut BTreeMap<i64, Kept>,
-    n: i64,
-    state: Kept,
-) -> Result<(), Memory>
+pub fn put_replica(replicas: &mut BTreeMap<i64, Kept>, n: i64, state: Kept) -> Result<(), Memory>
     requires { at_value replicas.old n ≡ keeping.Fresh }
     ensures put { OnOk result (at_value replicas.new n ≡ held state) }
     ensures others { OnOk result ((k : ℤ) → int_eq k n ≡ false → at_value replicas.new k ≡ at_value replicas.old k) }

@@ -1,9 +1,9 @@
-//! The engine on one thread: it runs a network item by item, and gives what the one-thread meaning says.
+//! One item through a network of any form: what the network gives for it, and what it keeps behind it, by the one-thread meaning.
 #![tactic(auto)]
 
 mod dispatch;
-mod flowing;
-mod kept;
+pub mod flowing;
+pub mod kept;
 mod leaf;
 pub mod pass;
 mod slots;

@@ -69,14 +69,7 @@ pub fn pass(
             let chosen = &nets[branch as usize];
             let mut states = into_branches(replace(kept, Kept::Fresh), alloc);
             let mut state = take_at(&mut states, branch as usize);
-            pass(
-                alloc,
-                run,
-                chosen,
-                &mut state,
-                Flowing::Rec(taken),
-                out,
-            )?;
+            pass(alloc, run, chosen, &mut state, Flowing::Rec(taken), out)?;
             put_at(&mut states, branch as usize, state)?;
             *kept = Kept::Branches(states);
             Ok(())
@@ -87,9 +80,23 @@ pub fn pass(
             exit,
             guard,
             ..
-        } => pass_star(alloc, run, body.get(), net, *place, exit, guard, kept, item, out),
+        } => pass_star(
+            alloc,
+            run,
+            body.get(),
+            net,
+            *place,
+            exit,
+            guard,
+            kept,
+            item,
+            out,
+        ),
         Net::Split {
-            place, body, tag, ..
+            place,
+            body,
+            tag,
+            ..
         } => {
             let (value, taken) = match split(net, *place, *tag, item, out)? {
                 Some(picked) => picked,
@@ -97,14 +104,7 @@ pub fn pass(
             };
             let mut replicas = into_replicas(replace(kept, Kept::Fresh), alloc);
             let mut state = take_replica(&mut replicas, value);
-            pass(
-                alloc,
-                run,
-                body.get(),
-                &mut state,
-                Flowing::Rec(taken),
-                out,
-            )?;
+            pass(alloc, run, body.get(), &mut state, Flowing::Rec(taken), out)?;
             put_replica(&mut replicas, value, state)?;
             *kept = Kept::Replicas(replicas);
             Ok(())
@@ -143,14 +143,7 @@ fn pass_star(
         };
         let mut state = take_at(&mut levels, level as usize);
         let mut made = Seq::new(alloc);
-        pass(
-            alloc,
-            run,
-            body,
-            &mut state,
-            Flowing::Rec(taken),
-            &mut made,
-        )?;
+        pass(alloc, run, body, &mut state, Flowing::Rec(taken), &mut made)?;
         put_at(&mut levels, level as usize, state)?;
         wait(&mut waiting, level + 1, made)?;
     }

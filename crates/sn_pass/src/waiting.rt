@@ -15,11 +15,7 @@ pub struct Waiting {
 }
 
 /// Lets items wait at a level, before all that wait already, and the first of them first.
-pub fn wait(
-    waiting: &mut Vec<Waiting>,
-    level: u32,
-    items: Seq<Flowing>,
-) -> Result<(), Memory>
+pub fn wait(waiting: &mut Vec<Waiting>, level: u32, items: Seq<Flowing>) -> Result<(), Memory>
     ensures { OnOk result (stack_of waiting.new.items ≡ entries level (map flows items) ++ stack_of waiting.old.items) }
 {
     let mut items = items.into_vec();

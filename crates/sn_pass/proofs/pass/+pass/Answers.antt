@@ -1,5 +1,5 @@
 use Rattle.std.proofs.lemmas.List.{append-nil, nil_from_length}
-use Rattle.std.proofs.Common.{ℕ, ℤ, take, false, FitsSigned, w64, ◌-◌, ◌≡◌, ◌<◌,  ◌++◌, ◌∷◌, [], append_assoc, List, length, refl, sym, ap, subst, ◌∙◌, map, rules, arith}
+use Rattle.std.proofs.Common.{ℕ, ℤ, take, false, FitsSigned, w64, ◌-◌, ◌≡◌, ◌<◌, ◌++◌, ◌∷◌, [], append_assoc, List, length, refl, sym, ap, subst, ◌∙◌, map, rules, arith}
 use Rattle.std.specs.Vec.Iter.{into_iter_items}
 use Rattle.sn_net.specs.WellFormed.{FitsBoxes}
 use Rattle.sn_pass.specs.Passing.{IsAtChoice, IsTapped, Passes}
@@ -104,13 +104,12 @@ pass-pass-requires-in-Choice t c =
     let goes = choice_goes_to (setting_of c.args.run.now) c.args.net.now c.in-Choice.place c.in-Choice.merge c.in-Choice.branches c.in-Choice.faces c.as_slice-in-Choice.result.now c.in-Choice.is c.as_slice-in-Choice.ensures
     (held c.args.kept.now) (flows c.args.item) (map flows c.args.out.now) (map flows c.choose.new.out) c.in_ok-picked-in-Choice.field-0 c.in_ok-picked-in-Choice.ensures c.in-Some-2.picked c.in-Some-2.is in
     let below = branch_there (boxes_of c.args.run.now) c.args.net.now c.requires c.in-Choice.place c.in-Choice.merge c.in-Choice.branches c.in-Choice.faces c.in-Choice.is c.in-Some-2.picked.0 goes.there in
-    let inside : c.in-Some-2.picked.0 < length c.as_slice-nets.result.now = subst (λ (ns : List Net). c.in-Some-2.picked.0 < length ns) (sym c.as_slice-nets.ensures) below in
-    (
+    let inside : c.in-Some-2.picked.0 < length c.as_slice-nets.result.now = subst (λ (ns : List Net). c.in-Some-2.picked.0 < length ns) (sym c.as_slice-nets.ensures) below in (
       search (rules, the_lemmas, inside),
       branch_at_place (boxes_of c.args.run.now) c.args.net.now c.requires c.in-Choice.place c.in-Choice.merge c.in-Choice.branches c.in-Choice.faces c.in-Choice.is c.as_slice-nets.result.now
-      c.in-Some-2.picked.0 c.index-nets-branch.result c.as_slice-nets.ensures
-      (branch_there (boxes_of c.args.run.now) c.args.net.now c.requires c.in-Choice.place c.in-Choice.merge c.in-Choice.branches c.in-Choice.faces c.in-Choice.is c.in-Some-2.picked.0 goes.there)
-      c.index-nets-branch.is,
+          c.in-Some-2.picked.0 c.index-nets-branch.result c.as_slice-nets.ensures
+          (branch_there (boxes_of c.args.run.now) c.args.net.now c.requires c.in-Choice.place c.in-Choice.merge c.in-Choice.branches c.in-Choice.faces c.in-Choice.is c.in-Some-2.picked.0 goes.there)
+          c.index-nets-branch.is,
     )
 
 pub pass-returns-in_ok-kept-in-Serial : goal.pass-returns-in_ok-kept-in-Serial
@@ -162,7 +161,7 @@ pass-returns-in_ok-put_replica-in-Split t c =
     c.in-Some-3.is c.get-in-Split.ensures (subst (λ z. held c.take_replica-state.result ≡ at_value c.into_replicas-replicas.result z) same c.take_replica-state.ensures.taken ∙ from n) c.in_ok-pass-in-Split.ensures
     (replica_held c.put_replica.new.replicas n ∙ subst (λ z. at_value c.put_replica.new.replicas z ≡ held c.pass-in-Split.new.kept) same c.in_ok-put_replica-in-Split.ensures.put)
     (λ k other. replica_held c.put_replica.new.replicas k ∙ subst (λ z. int_eq k z ≡ false → at_value c.put_replica.new.replicas k ≡ at_value c.take_replica-state.new.replicas k) same (c.in_ok-put_replica-in-Split.ensures.others k) other
-        ∙ subst (λ z. int_eq k z ≡ false → at_value c.take_replica-state.new.replicas k ≡ at_value c.into_replicas-replicas.result k) same (c.take_replica-state.ensures.others k) other ∙ from k)
+    ∙ subst (λ z. int_eq k z ≡ false → at_value c.take_replica-state.new.replicas k ≡ at_value c.into_replicas-replicas.result k) same (c.take_replica-state.ensures.others k) other ∙ from k)
 
 pub pass_star-loop-next-init : goal.pass_star-loop-next-init
 pass_star-loop-next-init t c =
