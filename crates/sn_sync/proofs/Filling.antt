@@ -1,6 +1,9 @@
 -- The steps of the loops over slots.
 use Rattle.std.proofs.Common.{◌≡◌, ℕ, suc, arith, ◌+◌, ◌<◌, ◌≤◌, ◌&&◌, Bool, true, false, List, [], ◌∷◌, ◌++◌, length, get_or, take, drop, Option, None, Some, refl, sym, ap, ◌∙◌, is_none}
-use Rattle.std.specs.Prelude.{if◌then◌else◌, slice_set, slice_get, is_some, ◌↔◌}
+use Rattle.std.specs.Prelude.{if◌then◌else◌, slice_set, slice_get, is_some, ◌↔◌, ◌⊎◌}
+use Rattle.std.specs.Prelude.{min, nat_le}
+use Rattle.std.proofs.lemmas.Bool.Decides.{nat_tests}
+use mathlib.Core.Logic.{inl, inr}
 use Rattle.std.specs.Option.{option_map}
 use Rattle.std.proofs.lemmas.List.{append_assoc, set-set, set-get_or, drop_more, drop_all, take_more, set_split}
 use Rattle.std.proofs.lemmas.Option.{get_or_from_slice_get}
@@ -60,9 +63,24 @@ from_place-found patterns slots r i pattern slot within within_slots here here_s
     suc_is : (n : ℕ) → n + 1 ≡ suc n
     suc_is n = omega arith
 
--- no slot is left
-pub from_place-past : (patterns : List Labels) (slots : Slots) (r : Entries) (i : ℕ) → length patterns ≤ i → from_place patterns slots r i ≡ None
-from_place-past patterns slots r i past = ap (λ ps. option_map (λ rest. take i slots ++ rest) (with_record ps (drop i slots) r)) (drop_all i patterns past)
+-- what is past the lesser of two numbers is past one of them
+pub one_is_past : (a b i : ℕ) → min a b ≤ i → (a ≤ i) ⊎ (b ≤ i)
+one_is_past a b i past =
+    elim (nat_le a i) as (λ t. nat_le a i ≡ t → (a ≤ i) ⊎ (b ≤ i)) [
+      | true ↦ λ first. inl (grind (arith, nat_tests, first))
+      | false ↦ λ other. inr (grind (arith, nat_tests, other, past))
+    ] refl
+
+without_slots : (patterns : List Labels) (r : Entries) → with_record patterns [] r ≡ None
+without_slots [] r = refl
+without_slots (pattern ∷ patterns) r = refl
+
+-- no pattern is left, or no slot
+pub from_place-past : (patterns : List Labels) (slots : Slots) (r : Entries) (i : ℕ) → (length patterns ≤ i) ⊎ (length slots ≤ i) → from_place patterns slots r i ≡ None
+from_place-past patterns slots r i (inl past) = ap (λ ps. option_map (λ rest. take i slots ++ rest) (with_record ps (drop i slots) r)) (drop_all i patterns past)
+from_place-past patterns slots r i (inr past) =
+    ap (λ ss. option_map (λ rest. take i slots ++ rest) (with_record (drop i patterns) ss r)) (drop_all i slots past)
+    ∙ ap (option_map (λ rest. take i slots ++ rest)) (without_slots (drop i patterns) r)
 
 -- two tests of one fact
 pub same_tests : {P : Type 0} (b c : Bool) → (b ≡ true) ↔ P → (c ≡ true) ↔ P → b ≡ c

@@ -7,7 +7,7 @@ use Rattle.std.proofs.lemmas.Bool.{false≢true}
 use Rattle.sn_record.specs.LabelSet.{Labels}
 use Rattle.sn_record.specs.Record.{Entries, is_match}
 use Rattle.sn_net.specs.Cell.{CellState, Waiting, Passing, Slots, Reception, Held, Joined, Passed, Unmatched, with_record, all_held, union, held_or_joined, placed, reception}
-use Rattle.sn_sync.specs.Synchrocell.{Synchrocell, has_joined, received}
+use Rattle.sn_sync.specs.Synchrocell.{has_joined}
 
 is_some-map : {A B : Type 0} (f : A → B) (x : Option A) → is_some (option_map f x) ≡ is_some x
 is_some-map f None = refl
@@ -62,10 +62,10 @@ joined_of slots None some = absurd (false≢true some)
 joined_of slots (Some records) some = (union records, refl)
 
 -- a record that fills the last empty slot, as `offer` finds it
-pub received-joined : (cell : Synchrocell) (patterns : List Labels) (slots lent : Slots) (place : ℕ) (r : Entries) → patterns ≡ cell.patterns → cell.state ≡ Waiting slots → lent ≡ slots
+pub received-joined : (patterns : List Labels) (state : CellState) (slots lent : Slots) (place : ℕ) (r : Entries) → state ≡ Waiting slots → lent ≡ slots
     → with_record patterns slots r ≡ Some (slice_set slots place (Some r)) → IsSome (all_held (slice_set lent place (Some r)))
-    → (both : Entries) × (received cell r ≡ Joined both)
-received-joined cell patterns slots lent place r same waits same_slots is all =
+    → (both : Entries) × (reception patterns state r ≡ Joined both)
+received-joined patterns state slots lent place r waits same_slots is all =
     let filled = slice_set slots place (Some r) in
     let joined = joined_of filled (all_held filled) (subst (λ (ss : Slots). IsSome (all_held (slice_set ss place (Some r)))) same_slots all) in
-    (joined.0, ap (λ state. reception cell.patterns state r) waits ∙ ap (λ ps. reception ps (Waiting slots) r) (sym same) ∙ ap (placed patterns r) is ∙ joined.1)
+    (joined.0, ap (λ s. reception patterns s r) waits ∙ ap (placed patterns r) is ∙ joined.1)

@@ -1,6 +1,5 @@
 -- How a cell keeps its state.
-use Rattle.std.specs.Prelude.{◌≡◌, List, [], ◌∷◌, None, Some, length}
-use Rattle.sn_record.specs.LabelSet.{Labels}
+use Rattle.std.specs.Prelude.{List, [], ◌∷◌, None, Some}
 use Rattle.sn_record.specs.Record.{Entries}
 use Rattle.sn_net.specs.Cell.{CellState, Waiting, Passing, Slots}
 use Rattle.sn_sync.specs.declared.cell.State.{State}
@@ -10,11 +9,6 @@ use Rattle.sn_sync.specs.declared.cell.State.TheVariants as kept
 abbrev pub state_of : State → CellState
 state_of (kept.Waiting slots) = Waiting slots.items
 state_of kept.Passing = Passing
-
--- a cell that waits has a slot for each pattern
-abbrev pub HasSlots : List Labels → CellState → Type 0
-HasSlots patterns (Waiting slots) = length slots ≡ length patterns
-HasSlots patterns Passing = Unit {0}
 
 -- the records that are held, from left to right
 abbrev pub held_records : Slots → List Entries

@@ -10,6 +10,9 @@ pub record Synchrocell : Type 0 where
   pub patterns : List Labels
   pub state : CellState
 
+abbrev pub cell_of : List Labels → CellState → Synchrocell
+cell_of patterns state = record { patterns = patterns; state = state }
+
 -- whether a cell has joined its records
 abbrev pub has_joined : CellState → Bool
 has_joined (Waiting slots) = false

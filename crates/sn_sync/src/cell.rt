@@ -1,8 +1,8 @@
 ghost use Rattle.std.specs.Prelude.{◌≡◌, ◌≢◌, ◌↔◌, ℕ, IsTrue, IfOk, OnOk, IfErr, OnErr};
 ghost use Rattle.sn_record.specs.Record.{Entries};
-ghost use Rattle.sn_net.specs.Cell.{Reception, Joined, Unmatched, cell_next, cell_emits, new_cell};
+ghost use Rattle.sn_net.specs.Cell.{Reception, Joined, Unmatched, cell_next, cell_emits, new_cell, reception};
 ghost use Rattle.sn_net.specs.Item.{Rec};
-ghost use Rattle.sn_sync.specs.Synchrocell.{has_joined, accepts, received};
+ghost use Rattle.sn_sync.specs.Synchrocell.{has_joined, accepts, cell_of, received};
 ghost use Rattle.sn_sync.specs.Outcome.{ComesOut, items_out};
 
 use crate::slots::{empty_slots, fill, free_slot, matches_any};
@@ -32,46 +32,40 @@ enum State {
     Passing,
 }
 
-/// A synchrocell: it holds one record for each of its patterns, joins them once it has all, and then lets pass whatever
-/// comes. It is seen as its patterns and its state.
+/// What a synchrocell keeps between two records: one for each pattern that was filled, or that it has joined. It holds no patterns,
+/// which its caller gives with each record: those that it was made with. It is seen as the state of the cell.
 #[derive(Drop)]
-pub struct Cell {
-    patterns: Seq<LabelSet>,
+pub struct Holding {
     state: State,
 }
 
-impl Model for Cell {
-    ghost use Rattle.sn_sync.specs.Synchrocell.{Synchrocell};
-    ghost use Rattle.sn_sync.specs.Coding.{synchrocell_code};
+impl Model for Holding {
+    ghost use Rattle.sn_net.specs.Cell.{CellState};
+    ghost use Rattle.sn_sync.specs.Coding.{state_code};
 
-    ghost Value = { Synchrocell };
+    ghost Value = { CellState };
 
-    ghost coded = { synchrocell_code };
+    ghost coded = { state_code };
 
-    ghost use Rattle.sn_sync.specs.Slotted.{state_of, HasSlots};
+    ghost use Rattle.sn_sync.specs.Slotted.{state_of};
 
-    ghost view = { λ cell. record { patterns = cell.patterns; state = state_of cell.state } };
-
-    ghost invariant = { λ cell. HasSlots cell.patterns (state_of cell.state) };
+    ghost view = { λ holding. state_of holding.state };
 }
 
-impl Cell {
-    /// A cell to which nothing came yet, with a copy of the patterns.
-    pub fn new(alloc: Global, patterns: &[LabelSet]) -> Result<Cell, Memory>
-        ensures patterns { IfOk result (λ cell. cell.patterns ≡ patterns.now) }
-        ensures state { IfOk result (λ cell. cell.state ≡ new_cell patterns.now) }
+impl Holding {
+    /// What a cell with the patterns keeps before anything came.
+    pub fn new(alloc: Global, patterns: &[LabelSet]) -> Result<Holding, Memory>
+        ensures { IfOk result (λ holding. holding ≡ new_cell patterns.now) }
     {
         let slots = empty_slots(alloc, patterns)?;
-        let patterns = copy_sets(alloc, patterns)?;
-        Ok(Cell {
-            patterns,
+        Ok(Holding {
             state: State::Waiting(slots),
         })
     }
 
     /// Whether the cell has joined its records, and so lets pass whatever comes.
     pub fn has_joined(&self) -> bool
-        ensures { result ≡ has_joined self.now.state }
+        ensures { result ≡ has_joined self.now }
     {
         match self.state {
             State::Waiting(_) => false,
@@ -80,11 +74,84 @@ impl Cell {
     }
 
     /// Whether the record may be offered: the cell has joined, or the record matches one of its patterns.
+    pub fn accepts(&self, patterns: &[LabelSet], r: &Record) -> bool
+        ensures accepts { result ≡ accepts (cell_of patterns.now self.now) r.now }
+        ensures matched { IsTrue result ↔ (reception patterns.now self.now r.now ≢ Unmatched) }
+    {
+        self.has_joined() || matches_any(patterns, r)
+    }
+
+    /// What comes out for a record. For want of memory, which joined records alone take, the record comes back, and nothing is
+    /// changed.
+    pub fn offer(&mut self, patterns: &[LabelSet], r: Record) -> Result<CellOut, Record>
+        requires { IsTrue (accepts (cell_of patterns.now self.old) r) }
+        ensures next { OnOk result (self.new ≡ cell_next patterns.now self.old (Rec r)) }
+        ensures comes_out { IfOk result (ComesOut r (reception patterns.now self.old r)) }
+        ensures emits { (place : ℕ) → IfOk result (λ out. items_out out ≡ cell_emits place patterns.now self.old (Rec r)) }
+        ensures back { IfErr result (λ refused. refused ≡ r) }
+        ensures unchanged { OnErr result (self.new ≡ self.old) }
+        ensures joining { OnErr result ((both : Entries) × (reception patterns.now self.old r ≡ Joined both)) }
+    {
+        let State::Waiting(slots) = &mut self.state else {
+            return Ok(CellOut::Passed(r));
+        };
+        let Some(place) = free_slot(patterns, slots, &r) else {
+            return Ok(CellOut::Passed(r));
+        };
+        match fill(*slots.allocator(), slots, place, r) {
+            Ok(None) => Ok(CellOut::Held),
+            Ok(Some(both)) => {
+                self.state = State::Passing;
+                Ok(CellOut::Joined(both))
+            }
+            Err(refused) => Err(refused),
+        }
+    }
+}
+
+/// A synchrocell: it holds one record for each of its patterns, joins them once it has all, and then lets pass whatever
+/// comes. It is seen as its patterns and its state.
+#[derive(Drop)]
+pub struct Cell {
+    patterns: Seq<LabelSet>,
+    holding: Holding,
+}
+
+impl Model for Cell {
+    ghost use Rattle.sn_sync.specs.Synchrocell.{Synchrocell, cell_of};
+    ghost use Rattle.sn_sync.specs.Coding.{synchrocell_code};
+
+    ghost Value = { Synchrocell };
+
+    ghost coded = { synchrocell_code };
+
+    ghost view = { λ cell. cell_of cell.patterns cell.holding };
+}
+
+impl Cell {
+    /// A cell to which nothing came yet, with a copy of the patterns.
+    pub fn new(alloc: Global, patterns: &[LabelSet]) -> Result<Cell, Memory>
+        ensures patterns { IfOk result (λ cell. cell.patterns ≡ patterns.now) }
+        ensures state { IfOk result (λ cell. cell.state ≡ new_cell patterns.now) }
+    {
+        let holding = Holding::new(alloc, patterns)?;
+        let patterns = copy_sets(alloc, patterns)?;
+        Ok(Cell { patterns, holding })
+    }
+
+    /// Whether the cell has joined its records, and so lets pass whatever comes.
+    pub fn has_joined(&self) -> bool
+        ensures { result ≡ has_joined self.now.state }
+    {
+        self.holding.has_joined()
+    }
+
+    /// Whether the record may be offered: the cell has joined, or the record matches one of its patterns.
     pub fn accepts(&self, r: &Record) -> bool
         ensures accepts { result ≡ accepts self.now r.now }
         ensures matched { IsTrue result ↔ (received self.now r.now ≢ Unmatched) }
     {
-        self.has_joined() || matches_any(self.patterns.as_slice(), r)
+        self.holding.accepts(self.patterns.as_slice(), r)
     }
 
     /// What comes out for a record. For want of memory, which joined records alone take, the record comes back, and the
@@ -99,19 +166,6 @@ impl Cell {
         ensures unchanged { OnErr result (self.new ≡ self.old) }
         ensures joining { OnErr result ((both : Entries) × (received self.old r ≡ Joined both)) }
     {
-        let State::Waiting(slots) = &mut self.state else {
-            return Ok(CellOut::Passed(r));
-        };
-        let Some(place) = free_slot(self.patterns.as_slice(), slots, &r) else {
-            return Ok(CellOut::Passed(r));
-        };
-        match fill(*slots.allocator(), slots, place, r) {
-            Ok(None) => Ok(CellOut::Held),
-            Ok(Some(both)) => {
-                self.state = State::Passing;
-                Ok(CellOut::Joined(both))
-            }
-            Err(refused) => Err(refused),
-        }
+        self.holding.offer(self.patterns.as_slice(), r)
     }
 }

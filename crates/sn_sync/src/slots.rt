@@ -43,18 +43,19 @@ pub(crate) fn matches_any(patterns: &[LabelSet], r: &Record) -> bool
     false
 }
 
-/// The leftmost empty slot whose pattern the record matches.
+/// The leftmost empty slot whose pattern the record matches. Where there are not as many slots as patterns, those without a partner
+/// do not count.
 pub(crate) fn free_slot(
     patterns: &[LabelSet],
     slots: &[Option<Record>],
     r: &Record,
 ) -> Option<usize>
-    requires { length slots.now ≡ length patterns.now }
     ensures within { IfSome result (λ place. place < length slots.now) }
     ensures empty { IfSome result (λ place. slice_get slots.now place ≡ Some None) }
     ensures slot { with_record patterns.now slots.now r.now ≡ option_map (λ place. slice_set slots.now place (Some r.now)) result }
 {
-    for (place, pattern) in patterns.iter().enumerate() {
+    for place in 0..patterns.len().min(slots.len()) {
+        let pattern = &patterns[place];
         if slots[place].is_none() && is_match(r, pattern) {
             return Some(place);
         }

@@ -1,14 +1,12 @@
-use Rattle.std.proofs.Common.{ap, sym, ◌∙◌}
-use Rattle.sn_net.specs.Cell.{Slots, Waiting}
-use Rattle.sn_sync.specs.Slotted.{state_of}
-use Rattle.sn_sync.proofs.Receptions.{received-joined}
+use Rattle.std.proofs.Common.{◌≡◌, List, subst}
+use Rattle.std.specs.Prelude.{OnErr}
+use Rattle.sn_record.specs.LabelSet.{Labels}
+use Rattle.sn_record.specs.Record.{Entries}
+use Rattle.sn_net.specs.Cell.{Joined, reception}
+use Rattle.sn_sync.specs.Synchrocell.{Synchrocell}
 use Rattle.sn_sync.proofs.cell.Cell.offer.Goals as goal
 
-pub returns-in-Err-clause-joining : goal.returns-in-Err-clause-joining
-returns-in-Err-clause-joining c =
-    received-joined c.args.self.now c.as_slice.result.now c.deref.result.now c.deref_mut.result.now c.in-Some.place c.args.r
-    (c.as_slice.ensures ∙ ap (λ cell. cell.patterns) c.self.view_is)
-    (sym (ap (λ cell. cell.state) c.self.view_is) ∙ ap state_of c.in-Waiting.is ∙ ap (λ (slots : Slots). Waiting slots) (sym c.deref.ensures.value))
-    (c.deref_mut.ensures.value ∙ sym c.deref.ensures.value)
-    c.in-Some.ensures.slot
-    c.in-Err.ensures.joining
+pub returns-clause-joining : goal.returns-clause-joining
+returns-clause-joining c =
+    subst (λ (cell : Synchrocell). OnErr c.offer.result ((both : Entries) × (reception cell.patterns cell.state c.args.r ≡ Joined both))) c.self.view_is
+    (subst (λ (patterns : List Labels). OnErr c.offer.result ((both : Entries) × (reception patterns c.self.inside.holding c.args.r ≡ Joined both))) c.as_slice.ensures c.offer.ensures.joining)

@@ -1,0 +1,14 @@
+pub mod Arms
+pub mod Dispatching
+pub mod Held
+pub mod Keeping
+pub mod Levels
+pub mod Parts
+pub mod Passed
+pub mod Places
+pub mod StarLoop
+pub mod Starting
+pub mod States
+pub mod Steps
+pub mod Turns
+pub mod Working

@@ -1,0 +1,166 @@
+//! What boxes, filters and synchrocells do with what comes to them.
+ghost use Rattle.std.specs.Prelude.{◌≡◌, ◌++◌, ◌<◌, ◌∷◌, [], IfOk, OnOk, length, map, slice_get, if◌then◌else◌};
+ghost use Rattle.sn_record.specs.Record.{is_match};
+ghost use Rattle.sn_net.specs.Answer.{filter_answer};
+ghost use Rattle.sn_net.specs.Cell.{cell_emits, cell_next, new_cell};
+ghost use Rattle.sn_net.specs.Face.{variant_of as labels_of};
+ghost use Rattle.sn_net.specs.Filter.{IsClosed};
+ghost use Rattle.sn_net.specs.Item as model;
+ghost use Rattle.sn_model.specs.Components.{box_item, call_record, filter_item};
+ghost use Rattle.sn_model.specs.Run.{boxes_of, fuel_of};
+ghost use Rattle.sn_pass.specs.Flowing.{flows};
+ghost use Rattle.sn_pass.specs.Keeping.{state_or};
+ghost use Rattle.sn_pass.specs.States.{held};
+
+use crate::flowing::{Flowing, append_items, append_joined};
+use crate::kept::{Kept, into_holding};
+use sn_boxrun::call;
+use sn_filter::apply;
+use sn_list::{Memory, Seq};
+use sn_model::Run;
+use sn_net::Filter;
+use sn_record::{Label, LabelSet, Record};
+use sn_stack::append;
+use std::alloc::Global;
+use std::mem::replace;
+
+/// The set of the labels.
+fn variant_of(alloc: Global, labels: &[Label]) -> Result<LabelSet, Memory>
+    ensures { IfOk result (λ variant. variant ≡ labels_of labels.now) }
+{
+    let mut variant = LabelSet::new(alloc);
+    for label in labels {
+        variant.insert(*label)?;
+    }
+    Ok(variant)
+}
+
+/// Whether the record has each label of the variant.
+fn is_match(r: &Record, variant: &LabelSet) -> bool
+    ensures { result ≡ is_match r.now variant.now }
+{
+    r.matches(variant)
+}
+
+/// Appends what a filter answers to a record, or that the record has no route, where it does not match the pattern.
+fn filter_record(
+    alloc: Global,
+    filter: &Filter,
+    taken: &Record,
+    out: &mut Seq<Flowing>,
+) -> Result<(), Memory>
+    requires { IsClosed filter.now }
+    ensures { OnOk result (map flows out.new ≡ map flows out.old
+        ++ (if is_match taken.now filter.now.pattern then filter_answer filter.now taken.now else model.Stuck filter.now.place ∷ [])) }
+{
+    if !is_match(taken, &filter.pattern) {
+        return append(out, Flowing::Stuck(filter.place));
+    }
+    append_items(out, apply(alloc, filter, taken)?)
+}
+
+/// Appends what a filter answers to an item.
+pub fn pass_filter(
+    alloc: Global,
+    filter: &Filter,
+    item: Flowing,
+    out: &mut Seq<Flowing>,
+) -> Result<(), Memory>
+    requires { IsClosed filter.now }
+    ensures { OnOk result (map flows out.new ≡ map flows out.old ++ filter_item filter.now (flows item)) }
+{
+    match item {
+        Flowing::Rec(taken) => filter_record(alloc, filter, &taken, out),
+        Flowing::Fault(fault) => append(out, Flowing::Fault(fault)),
+        Flowing::Stuck(at) => append(out, Flowing::Stuck(at)),
+    }
+}
+
+/// Appends what the box of a number answers to a record, or that the record has no route, where it lacks an input label.
+fn call_box(
+    alloc: Global,
+    run: &Run,
+    place: u32,
+    number: u32,
+    taken: &Record,
+    out: &mut Seq<Flowing>,
+) -> Result<(), Memory>
+    requires { number < length (boxes_of run.now) }
+    ensures { OnOk result (map flows out.new ≡ map flows out.old
+        ++ call_record (slice_get (boxes_of run.now) number) place (fuel_of run.now) taken.now) }
+{
+    let boxes = run.boxes();
+    let fuel = run.fuel();
+    let program = boxes.at(number as usize);
+    let input = variant_of(alloc, program.input.as_slice())?;
+    if !is_match(taken, &input) {
+        return append(out, Flowing::Stuck(place));
+    }
+    append_items(out, call(alloc, program, place, taken, fuel)?)
+}
+
+/// Appends what the box of a number answers to an item.
+pub fn pass_box(
+    alloc: Global,
+    run: &Run,
+    place: u32,
+    number: u32,
+    item: Flowing,
+    out: &mut Seq<Flowing>,
+) -> Result<(), Memory>
+    requires { number < length (boxes_of run.now) }
+    ensures { OnOk result (map flows out.new ≡ map flows out.old ++ box_item (boxes_of run.now) (fuel_of run.now) place number (flows item)) }
+{
+    match item {
+        Flowing::Rec(taken) => call_box(alloc, run, place, number, &taken, out),
+        Flowing::Fault(fault) => append(out, Flowing::Fault(fault)),
+        Flowing::Stuck(at) => append(out, Flowing::Stuck(at)),
+    }
+}
+
+/// Offers a record to a cell, and appends what comes out, or that the record has no route, where it matches no pattern.
+fn offer_record(
+    alloc: Global,
+    place: u32,
+    patterns: &[LabelSet],
+    kept: &mut Kept,
+    taken: Record,
+    out: &mut Seq<Flowing>,
+) -> Result<(), Memory>
+    ensures gives { OnOk result (map flows out.new ≡ map flows out.old
+        ++ cell_emits place patterns.now (state_or (new_cell patterns.now) (held kept.old)) (model.Rec taken)) }
+    ensures keeps { OnOk result (state_or (new_cell patterns.now) (held kept.new)
+        ≡ cell_next patterns.now (state_or (new_cell patterns.now) (held kept.old)) (model.Rec taken)) }
+{
+    let mut holding = into_holding(replace(kept, Kept::Fresh), alloc, patterns)?;
+    if !holding.accepts(patterns, &taken) {
+        *kept = Kept::Cell(holding);
+        return append(out, Flowing::Stuck(place));
+    }
+    let Ok(came) = holding.offer(patterns, taken) else {
+        return Err(Memory);
+    };
+    *kept = Kept::Cell(holding);
+    append_joined(out, came)
+}
+
+/// Appends what a synchrocell gives for an item.
+pub fn pass_cell(
+    alloc: Global,
+    place: u32,
+    patterns: &[LabelSet],
+    kept: &mut Kept,
+    item: Flowing,
+    out: &mut Seq<Flowing>,
+) -> Result<(), Memory>
+    ensures gives { OnOk result (map flows out.new ≡ map flows out.old
+        ++ cell_emits place patterns.now (state_or (new_cell patterns.now) (held kept.old)) (flows item)) }
+    ensures keeps { OnOk result (state_or (new_cell patterns.now) (held kept.new)
+        ≡ cell_next patterns.now (state_or (new_cell patterns.now) (held kept.old)) (flows item)) }
+{
+    match item {
+        Flowing::Rec(taken) => offer_record(alloc, place, patterns, kept, taken, out),
+        Flowing::Fault(fault) => append(out, Flowing::Fault(fault)),
+        Flowing::Stuck(at) => append(out, Flowing::Stuck(at)),
+    }
+}

@@ -1,0 +1,10 @@
+//! One item through a network of any form: what the network gives for it, and what it keeps behind it, by the one-thread meaning.
+#![tactic(auto)]
+
+mod dispatch;
+pub mod flowing;
+pub mod kept;
+mod leaf;
+pub mod pass;
+mod slots;
+mod waiting;

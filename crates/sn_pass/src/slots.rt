@@ -1,0 +1,40 @@
+//! What the branches of a choice, or the bodies of a star, keep in a list.
+ghost use Rattle.std.specs.Prelude.{◌≡◌, ◌≢◌, ◌<◌, ℕ, OnOk, length, map};
+ghost use Rattle.sn_pass.specs.Held.{kept_at};
+ghost use Rattle.sn_pass.specs.States.{held};
+
+use crate::kept::Kept;
+use sn_list::Memory;
+use std::mem::replace;
+
+/// Takes out what is kept at a place, which is nothing past the end.
+pub fn take_at(states: &mut Vec<Kept>, i: usize) -> Kept
+    ensures taken { held result ≡ kept_at (map held states.old.items) i }
+    ensures others { (j : ℕ) → j ≢ i → kept_at (map held states.new.items) j ≡ kept_at (map held states.old.items) j }
+{
+    if i >= states.len() {
+        return Kept::Fresh;
+    }
+    replace(&mut states[i], Kept::Fresh)
+}
+
+/// Makes the list so long that it has the place.
+fn grow(states: &mut Vec<Kept>, i: usize) -> Result<(), Memory>
+    ensures long { OnOk result (i < length states.new.items) }
+    ensures same { OnOk result ((j : ℕ) → kept_at (map held states.new.items) j ≡ kept_at (map held states.old.items) j) }
+{
+    while states.len() <= i {
+        states.push(Kept::Fresh)?;
+    }
+    Ok(())
+}
+
+/// Keeps a state at a place, up to which the list grows.
+pub fn put_at(states: &mut Vec<Kept>, i: usize, state: Kept) -> Result<(), Memory>
+    ensures put { OnOk result (kept_at (map held states.new.items) i ≡ held state) }
+    ensures others { OnOk result ((j : ℕ) → j ≢ i → kept_at (map held states.new.items) j ≡ kept_at (map held states.old.items) j) }
+{
+    grow(states, i)?;
+    drop(replace(&mut states[i], state));
+    Ok(())
+}
