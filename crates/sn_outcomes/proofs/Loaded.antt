@@ -6,7 +6,7 @@ use Rattle.sn_net.specs.declared.net.Claim.{Claim}
 use Rattle.sn_once.specs.Straight.{is_straight}
 use Rattle.sn_outcomes.proofs.Sources.{IsRead, read_once, wrong_read, deep_read}
 use Rattle.sn_scope.specs.Resolution.{resolution}
-use Rattle.sn_scope.specs.declared.resolution.Resolved.{Resolved}
+use Rattle.sn_scope.specs.declared.resolved.Parts.{Parts}
 use Rattle.sn_scope.specs.declared.resolution.ScopeFault.{ScopeFault}
 use Rattle.sn_scope.specs.declared.resolution.ScopeFault.TheVariants as scope
 use Rattle.sn_top.specs.Load.{program_of}
@@ -28,15 +28,15 @@ scope_refusal (scope.TooLarge at) = LargeTree at
 scope_refusal scope.TooManyNames = TooManyNames
 scope_refusal scope.Memory = NotBuilt
 
-abbrev straight_program : Resolved → Claim → Bool → Result Program Refusal
+abbrev straight_program : Parts → Claim → Bool → Result Program Refusal
 straight_program resolved claim true = Ok (program_of resolved.names resolved.boxes claim.net)
 straight_program resolved claim false = Err NotBuilt
 
-abbrev with_claim : Resolved → Option Claim → Result Program Refusal
+abbrev with_claim : Parts → Option Claim → Result Program Refusal
 with_claim resolved None = Err NotBuilt
 with_claim resolved (Some claim) = straight_program resolved claim (is_straight claim.net)
 
-abbrev of_resolved : Result Resolved ScopeFault → Result Program Refusal
+abbrev of_resolved : Result Parts ScopeFault → Result Program Refusal
 of_resolved (Ok resolved) = with_claim resolved (slice_get resolved.claims resolved.main)
 of_resolved (Err fault) = Err (scope_refusal fault)
 
@@ -45,7 +45,7 @@ loaded : Result Tree Refusal → Result Program Refusal
 loaded (Ok tree) = of_resolved (resolution tree)
 loaded (Err refusal) = Err refusal
 
-loaded_tree : (tree : Tree) (result : Result Resolved ScopeFault) → resolution tree ≡ result → loaded (Ok tree) ≡ of_resolved result
+loaded_tree : (tree : Tree) (result : Result Parts ScopeFault) → resolution tree ≡ result → loaded (Ok tree) ≡ of_resolved result
 unfolding loaded
 loaded_tree tree result e = ap of_resolved e
 
@@ -68,7 +68,7 @@ wrong_found bytes refusal r = record { read = Err refusal; is_read = r; is = sym
 unresolved_found : (bytes : List ℕ) (fault : ScopeFault) → IsUnresolved bytes fault → IsFound bytes (Err (scope_refusal fault))
 unresolved_found bytes fault u = record { read = Ok u.tree; is_read = IsRead.tree u.read; is = sym (loaded_tree u.tree (Err fault) u.refused) }
 
-claim_found : (resolved : Resolved) (claim : Claim) (straight : Bool) → slice_get resolved.claims resolved.main ≡ Some claim → is_straight claim.net ≡ straight →
+claim_found : (resolved : Parts) (claim : Claim) (straight : Bool) → slice_get resolved.claims resolved.main ≡ Some claim → is_straight claim.net ≡ straight →
     of_resolved (Ok resolved) ≡ straight_program resolved claim straight
 claim_found resolved claim straight main is = ap (with_claim resolved) main ∙ ap (straight_program resolved claim) is
 
