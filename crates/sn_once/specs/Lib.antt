@@ -1,4 +1,2 @@
-pub mod Answer
 pub mod Rest
-pub mod Straight
 pub mod Stuck

@@ -11,13 +11,6 @@ first_stuck (Rec r ∷ xs) = first_stuck xs
 first_stuck (Fault fault ∷ xs) = first_stuck xs
 first_stuck (Stuck place ∷ xs) = Some place
 
--- the items before it, or all of them where none is stuck
-abbrev pub before_stuck : List ModelItem → List ModelItem
-before_stuck [] = []
-before_stuck (Rec r ∷ xs) = Rec r ∷ before_stuck xs
-before_stuck (Fault fault ∷ xs) = Fault fault ∷ before_stuck xs
-before_stuck (Stuck place ∷ xs) = []
-
 -- the fault tells the place of the first item of the stream that is stuck; want of memory tells nothing
 abbrev pub TellsFirst : List ModelItem → FeedFault → Type 0
 TellsFirst xs (NoRoute place) = first_stuck xs ≡ Some place

@@ -4,9 +4,7 @@
 mod fault;
 pub mod laws;
 mod once;
-mod pass;
-mod straight;
+mod settle;
 
 pub use fault::FeedFault;
-pub use once::{Once, run_once};
-pub use straight::is_straight;
+pub use once::{Once, run_once, run_over};

@@ -1,16 +1,19 @@
-ghost use Rattle.std.specs.Prelude.{◌≡◌, ◌++◌, ◌∷◌, [], None, IfErr, IfOk, IsTrue, List, OnOk, map};
+ghost use Rattle.std.specs.Prelude.{◌≡◌, ◌++◌, ◌∷◌, [], None, IfErr, IfOk, List, OnOk, map};
 ghost use Rattle.sn_net.specs.Item.{ModelItem, modelled};
 ghost use Rattle.sn_model.specs.Meaning.{one_list};
 ghost use Rattle.sn_model.specs.Run.{given, net_of, setting_of};
 ghost use Rattle.sn_once.specs.Rest.{IsOf, rest_of};
-ghost use Rattle.sn_once.specs.Straight.{is_straight};
 ghost use Rattle.sn_once.specs.Stuck.{TellsFirst, first_stuck};
 
 use crate::fault::FeedFault;
-use crate::pass::{append_all, pass};
-use sn_list::Memory;
+use crate::settle::settled;
+use sn_list::{Memory, Seq};
 use sn_model::Run;
+use sn_pass::flowing::Flowing;
+use sn_pass::kept::Kept;
+use sn_pass::pass::pass;
 use sn_record::{Item, Items};
+use sn_stack::append;
 use std::alloc::Global;
 use std::snapshot::Snapshot;
 
@@ -18,17 +21,18 @@ use std::snapshot::Snapshot;
 #[derive(Drop)]
 pub struct Once {
     run: Snapshot<Run>,
+    kept: Kept,
 }
 
 impl Once {
     /// An engine to which no item was fed yet.
     pub fn new(_alloc: Global, run: &Run) -> Result<Once, Memory>
-        requires straight { IsTrue (is_straight (net_of run.now)) }
         ensures run { IfOk result (λ once. IsOf once run.now) }
         ensures rest { IfOk result (λ once. (xs : List ModelItem) → rest_of once xs ≡ one_list (setting_of run.now) (net_of run.now) xs) }
     {
         Ok(Once {
             run: Snapshot::of(run),
+            kept: Kept::Fresh,
         })
     }
 
@@ -41,27 +45,68 @@ impl Once {
         ensures routed { OnOk result (first_stuck (rest_of self (modelled item ∷ [])) ≡ None) }
         ensures no_route { IfErr result (TellsFirst (rest_of self (modelled item ∷ []))) }
     {
-        let mut given = Items::new(alloc);
-        match pass(alloc, run, run.net(), &item, &mut given)? {
-            Some(place) => Err(FeedFault::NoRoute(place)),
-            None => Ok((self, given)),
-        }
+        let Once {
+            run: made_by,
+            mut kept,
+        } = self;
+        let mut came = Seq::new(alloc);
+        pass(
+            alloc,
+            run,
+            run.net(),
+            &mut kept,
+            Flowing::of(item),
+            &mut came,
+        )?;
+        let given = settled(alloc, came)?;
+        Ok((Once { run: made_by, kept }, given))
     }
 }
 
-/// What a run gives on one thread. Where a record has no route, the whole answer is dropped.
-pub fn run_once(alloc: Global, run: &Run) -> Result<Items, FeedFault>
-    requires straight { IsTrue (is_straight (net_of run.now)) }
-    ensures given { IfOk result (λ ys. map modelled ys ≡ given run.now) }
-    ensures routed { OnOk result (first_stuck (given run.now) ≡ None) }
-    ensures no_route { IfErr result (TellsFirst (given run.now)) }
+/// Appends each of the items.
+fn append_all(out: &mut Items, items: Items) -> Result<(), Memory>
+    ensures { OnOk result (out.new ≡ out.old ++ items) }
+{
+    for item in items.into_vec() {
+        append(out, item)?;
+    }
+    Ok(())
+}
+
+/// What the network of a run gives on one thread for these items, in place of the run's own. Where a record has no route, the
+/// whole answer is dropped.
+pub fn run_over(alloc: Global, run: &Run, items: Items) -> Result<Items, FeedFault>
+    ensures given { IfOk result (λ ys. map modelled ys ≡ one_list (setting_of run.now) (net_of run.now) (map modelled items)) }
+    ensures routed { OnOk result (first_stuck (one_list (setting_of run.now) (net_of run.now) (map modelled items)) ≡ None) }
+    ensures no_route { IfErr result (TellsFirst (one_list (setting_of run.now) (net_of run.now) (map modelled items))) }
 {
     let mut once = Once::new(alloc, run)?;
     let mut out = Items::new(alloc);
-    for item in run.items().as_slice() {
-        let (next, given) = once.feed(alloc, run, item.copy(alloc)?)?;
+    for item in items.into_vec() {
+        let (next, given) = once.feed(alloc, run, item)?;
         once = next;
         append_all(&mut out, given)?;
     }
     Ok(out)
+}
+
+/// A copy of each of the items.
+fn copied(alloc: Global, items: &[Item]) -> Result<Items, Memory>
+    ensures { IfOk result (λ copies. copies ≡ items.now) }
+{
+    let mut copies = Items::new(alloc);
+    for item in items {
+        append(&mut copies, item.copy(alloc)?)?;
+    }
+    Ok(copies)
+}
+
+/// What a run gives on one thread. Where a record has no route, the whole answer is dropped.
+pub fn run_once(alloc: Global, run: &Run) -> Result<Items, FeedFault>
+    ensures given { IfOk result (λ ys. map modelled ys ≡ given run.now) }
+    ensures routed { OnOk result (first_stuck (given run.now) ≡ None) }
+    ensures no_route { IfErr result (TellsFirst (given run.now)) }
+{
+    let items = copied(alloc, run.items().as_slice())?;
+    run_over(alloc, run, items)
 }

@@ -13,7 +13,7 @@ use sn_list::{Memory, Seq};
 use sn_model::Run;
 use sn_names::Names;
 use sn_net::{Boxes, Claim, Net};
-use sn_once::{FeedFault, is_straight, run_once};
+use sn_once::{FeedFault, run_over};
 use sn_parser::parse;
 use sn_record::{Item, Items, Record};
 use sn_scope::{Parts, Resolved, resolve};
@@ -66,9 +66,6 @@ fn main_of(resolved: Resolved) -> Result<Program, Stop>
     let mut claims = claims.into_vec();
     let claim = claims.swap_remove(main as usize);
     let Claim { net, .. } = claim;
-    if !is_straight(&net) {
-        return Err(Stop::Refused(Refusal::NotBuilt));
-    }
     Ok(Program { names, boxes, net })
 }
 
@@ -113,8 +110,8 @@ pub fn answer_input(
     let Program { names, boxes, net } = program;
     let input = read_records(alloc, bytes, names)?;
     let items = items_of(alloc, input.records)?;
-    let run = Run::new(net, boxes, fuel, depth, DEFAULT_QUEUE, items);
-    let items = run_once(alloc, &run)?;
+    let run = Run::new(net, boxes, fuel, depth, DEFAULT_QUEUE, Items::new(alloc));
+    let items = run_over(alloc, &run, items)?;
     Ok(Answered {
         names: input.names,
         items,
