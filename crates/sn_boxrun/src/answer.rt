@@ -87,3 +87,18 @@ pub fn call(
     add_fault(&mut items, place, fault)?;
     Ok(items)
 }
+
+/// As `call`, of a record that is given up. The set of the box's input labels is handed in, so that it is made once for many calls.
+pub fn call_owned(
+    alloc: Global,
+    b: &BoxProgram,
+    place: u32,
+    _input: &LabelSet,
+    taken: Record,
+    fuel: u64,
+) -> Result<Items, Memory>
+    requires { _input.now ≡ variant_of b.now.input }
+    ensures { IfOk result (λ items. map modelled items ≡ box_answer b.now place taken fuel) }
+{
+    call(alloc, b, place, &taken, fuel)
+}

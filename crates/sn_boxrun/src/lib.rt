@@ -5,4 +5,4 @@ mod answer;
 mod frame;
 mod machine;
 
-pub use answer::call;
+pub use answer::{call, call_owned};

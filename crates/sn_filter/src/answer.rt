@@ -53,3 +53,12 @@ pub fn apply(alloc: Global, f: &Filter, r: &Record) -> Result<Items, Memory>
     }
     Ok(items)
 }
+
+/// As `apply`, of a record that is given up.
+pub fn apply_owned(alloc: Global, f: &Filter, taken: Record) -> Result<Items, Memory>
+    requires closed { IsClosed f.now }
+    requires matches { Matches taken f.now.pattern }
+    ensures { IfOk result (λ items. map modelled items ≡ filter_answer f.now taken) }
+{
+    apply(alloc, f, &taken)
+}
