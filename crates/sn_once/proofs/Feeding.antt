@@ -1,97 +1,109 @@
 -- An engine that is fed item by item.
-use Rattle.std.proofs.Common.{◌≡◌, ℕ, ◌<◌, ◌≤◌, ◌+◌, List, [], ◌∷◌, ◌++◌, length, get_or, drop, map, refl, sym, ap, ◌∙◌, subst}
-use Rattle.std.specs.Prelude.{Option, None, is_some}
-use Rattle.std.proofs.lemmas.List.{append-nil, append_assoc, map-append, drop_all, drop_more}
+use Rattle.std.proofs.Common.{◌≡◌, List, [], ◌∷◌, ◌++◌, map, refl, sym, ap, ap₂, ◌∙◌, subst}
+use Rattle.std.specs.Prelude.{None, is_some}
+use Rattle.std.proofs.lemmas.List.{append-nil, append_assoc, map-append}
+use Rattle.sn_streams.specs.Machines.{emitted}
 use Rattle.sn_record.specs.declared.item.Item.{Item}
-use Rattle.sn_net.specs.Item.{ModelItem, Rec, Fault, Stuck, modelled}
+use Rattle.sn_net.specs.declared.net.Net.{Net}
+use Rattle.sn_net.specs.Cell.{CellState}
+use Rattle.sn_net.specs.Dispatchers.{Network}
+use Rattle.sn_net.specs.Item.{ModelItem, modelled}
 use Rattle.sn_model.specs.declared.run.Run.{Run}
-use Rattle.sn_model.specs.Meaning.{one_list}
-use Rattle.sn_model.specs.Run.{given, items_of, net_of, setting_of}
+use Rattle.sn_model.specs.Meaning.{one_list, tree}
+use Rattle.sn_model.specs.Run.{net_of, setting_of}
+use Rattle.sn_pass.specs.Keeping.{Fresh, Keeping, keeping}
+use Rattle.sn_pass.specs.Passing.{Passes}
+use Rattle.sn_pass.specs.States.{held}
+use Rattle.sn_pass.proofs.Keeping.{keeping_is_one, same_emitted}
 use Rattle.sn_once.specs.declared.fault.FeedFault.{FeedFault}
 use Rattle.sn_once.specs.declared.fault.FeedFault.TheVariants.{NoRoute, Memory}
 use Rattle.sn_once.specs.declared.once.Once.{Once}
-use Rattle.sn_once.specs.Answer.{item_answer}
-use Rattle.sn_once.specs.Rest.{IsOf, rest_of}
-use Rattle.sn_once.specs.Stuck.{TellsFirst, before_stuck, first_stuck}
-use Rattle.sn_once.proofs.Answers.{answers_list, answers_more, answers_one}
+use Rattle.sn_once.specs.Rest.{IsOf, rest_of, run_of}
+use Rattle.sn_once.specs.Stuck.{TellsFirst, first_stuck}
 use Rattle.sn_once.proofs.Stuck.{first-behind, first-front, none_stuck}
 
--- where nothing is stuck, all stands before it
-whole : (xs : List ModelItem) → first_stuck xs ≡ None → before_stuck xs ≡ xs
-whole [] none = refl
-whole (Rec r ∷ xs) none = ap (λ ys. Rec r ∷ ys) (whole xs none)
-whole (Fault fault ∷ xs) none = ap (λ ys. Fault fault ∷ ys) (whole xs none)
-whole (Stuck place ∷ xs) none = cc
+-- the network of a run, as a tree
+abbrev pub tree_of : Run → Network
+tree_of run = tree (setting_of run) (net_of run)
 
-module _ (once : Once) (run : Run) (of : IsOf once run) where
-  -- what an engine of the run still gives
-  pub rest_is : (xs : List ModelItem) → rest_of once xs ≡ one_list (setting_of run) (net_of run) xs
-  rest_is xs = ap (λ (r : Run). one_list (setting_of r) (net_of r) xs) of.made
+-- an engine that keeps nothing yet gives the one-thread meaning
+pub begins : (once : Once) (run : Run) → IsOf once run → held once.kept ≡ Fresh → (xs : List ModelItem) → rest_of once xs ≡ one_list (setting_of run) (net_of run) xs
+begins once run of fresh xs =
+    ap (λ (q : Keeping CellState). emitted (keeping (tree_of (run_of once))) q xs) fresh
+    ∙ sym (keeping_is_one (tree_of (run_of once)) xs)
+    ∙ ap (λ (r : Run). one_list (setting_of r) (net_of r) xs) of
 
-  pub rest_more : (x : ModelItem) (xs : List ModelItem) → rest_of once (x ∷ xs) ≡ item_answer (setting_of run) (net_of run) x ++ rest_of once xs
-  rest_more x xs =
-      rest_is (x ∷ xs) ∙ answers_more (setting_of run) (net_of run) of.straight x xs ∙ ap (λ ys. item_answer (setting_of run) (net_of run) x ++ ys) (sym (rest_is xs))
+module _ (once : Once) (run : Run) (net : Net) (of : IsOf once run) (is_net : net ≡ net_of run) (later : Keeping CellState) (x : ModelItem) (none came : List ModelItem)
+    (empty : none ≡ []) (step : Passes (tree (setting_of run) net) (held once.kept) later x none came) where
+  -- the step, as one of the network of the engine's run
+  own_step : Passes (tree_of (run_of once)) (held once.kept) later x [] came
+  own_step =
+      subst (λ (r : Run). Passes (tree_of r) (held once.kept) later x [] came) (sym of)
+      (subst (λ (n : Net). Passes (tree (setting_of run) n) (held once.kept) later x [] came) is_net
+      (subst (λ (ys : List ModelItem). Passes (tree (setting_of run) net) (held once.kept) later x ys came) empty step))
 
-  pub rest_one : (x : ModelItem) → rest_of once (x ∷ []) ≡ item_answer (setting_of run) (net_of run) x
-  rest_one x = rest_is (x ∷ []) ∙ answers_one (setting_of run) (net_of run) of.straight x
+  -- what the engine gives for the item alone
+  pub rest_one : rest_of once (x ∷ []) ≡ came
+  rest_one = append-nil ((keeping (tree_of (run_of once))).emits (held once.kept) x) ∙ sym own_step.gives
 
-  pub rest_none : rest_of once [] ≡ []
-  rest_none = rest_is [] ∙ answers_list (setting_of run) (net_of run) of.straight []
+  -- and what it still gives then
+  pub rest_more : (next : Once) → run_of next ≡ run_of once → held next.kept ≡ later → (given : List Item) → map modelled given ≡ came
+      → (xs : List ModelItem) → rest_of once (x ∷ xs) ≡ map modelled given ++ rest_of next xs
+  rest_more next same_run same_kept given gave xs =
+      let t : Network = tree_of (run_of once) in
+      ap₂ (λ ys zs. ys ++ zs) (sym own_step.gives ∙ sym gave)
+      (sym (same_emitted t later ((keeping t).next (held once.kept) x) own_step.keeps xs)
+      ∙ ap (λ (q : Keeping CellState). emitted (keeping t) q xs) (sym same_kept)
+      ∙ ap (λ (r : Run). emitted (keeping (tree_of r)) (held next.kept) xs) (sym same_run))
 
-  -- what was given for an item, and what is still given then
-  pub fed : (x : ModelItem) (out more : List Item) → out ≡ [] → map modelled more ≡ map modelled out ++ before_stuck (item_answer (setting_of run) (net_of run) x)
-      → None ≡ first_stuck (item_answer (setting_of run) (net_of run) x) → (xs : List ModelItem) → rest_of once (x ∷ xs) ≡ map modelled more ++ rest_of once xs
-  fed x out more empty gave none xs =
-      rest_more x xs ∙ ap (λ ys. ys ++ rest_of once xs)
-      (sym (gave ∙ ap (λ (ys : List Item). map modelled ys ++ before_stuck (item_answer (setting_of run) (net_of run) x)) empty ∙ whole (item_answer (setting_of run) (net_of run) x) (sym none)))
+  pub routed_one : first_stuck came ≡ None → first_stuck (rest_of once (x ∷ [])) ≡ None
+  routed_one routed = ap first_stuck rest_one ∙ routed
 
-  pub fed_routed : (x : ModelItem) (stuck : Option ℕ) → stuck ≡ first_stuck (item_answer (setting_of run) (net_of run) x) → first_stuck (rest_of once (x ∷ [])) ≡ stuck
-  fed_routed x stuck is = ap first_stuck (rest_one x) ∙ sym is
-
-  -- what is told of an item is told of more items
-  pub tells_on : (x : ModelItem) (xs : List ModelItem) (fault : FeedFault) → TellsFirst (rest_of once (x ∷ [])) fault → TellsFirst (rest_of once (x ∷ xs)) fault
-  tells_on x xs (NoRoute place) tells =
-      ap first_stuck (rest_more x xs) ∙ (let here = sym (ap first_stuck (rest_one x)) ∙ tells in first-front (item_answer (setting_of run) (net_of run) x) (rest_of once xs) (ap is_some here) ∙ here)
-  tells_on x xs Memory tells = tt
+  pub tells_one : (fault : FeedFault) → TellsFirst came fault → TellsFirst (rest_of once (x ∷ [])) fault
+  tells_one fault tells = subst (λ ys. TellsFirst ys fault) (sym rest_one) tells
 
 -- what was given before has nothing stuck
-tells_behind : (out : List Item) (ys : List ModelItem) (fault : FeedFault) → TellsFirst ys fault → TellsFirst (map modelled out ++ ys) fault
+pub tells_behind : (out : List Item) (ys : List ModelItem) (fault : FeedFault) → TellsFirst ys fault → TellsFirst (map modelled out ++ ys) fault
 tells_behind out ys (NoRoute place) tells = first-behind (map modelled out) ys (none_stuck out) ∙ tells
 tells_behind out ys Memory tells = tt
 
--- items from a place on
-from_place : (items : List Item) (i : ℕ) (item : Item) → i < length items → item ≡ get_or items i item → map modelled (drop i items) ≡ modelled item ∷ map modelled (drop (i + 1) items)
-from_place items i item here is = ap (map modelled) (drop_more items i item here ∙ ap (λ q. q ∷ drop (i + 1) items) (sym is))
+-- what is told of the front is told of the whole
+pub tells_front : (xs ys : List ModelItem) (fault : FeedFault) → TellsFirst xs fault → TellsFirst (xs ++ ys) fault
+tells_front xs ys (NoRoute place) tells = first-front xs ys (ap is_some tells) ∙ tells
+tells_front xs ys Memory tells = tt
 
-module _ (run : Run) (items : List Item) where
-  -- what was given so far, and what an engine still gives for the items from a place on
-  abbrev pub IsSoFar : Once → List Item → ℕ → Type 0
-  IsSoFar once out i = given run ≡ map modelled out ++ rest_of once (map modelled (drop i items))
+-- what is told of an item is told of more items
+pub tells_on : (once : Once) (x : ModelItem) (xs : List ModelItem) (fault : FeedFault) → TellsFirst (rest_of once (x ∷ [])) fault → TellsFirst (rest_of once (x ∷ xs)) fault
+tells_on once x xs fault tells =
+    let t : Network = tree_of (run_of once) in
+    tells_front ((keeping t).emits (held once.kept) x) (emitted (keeping t) ((keeping t).next (held once.kept) x) xs) fault
+    (subst (λ ys. TellsFirst ys fault) (append-nil ((keeping t).emits (held once.kept) x)) tells)
 
-  pub at_first : (once : Once) (out : List Item) → IsOf once run → items ≡ items_of run → out ≡ [] → IsSoFar once out 0
-  at_first once out of same empty =
-      sym (ap (λ (ys : List Item). map modelled ys ++ rest_of once (map modelled items)) empty ∙ rest_is once run of (map modelled items) ∙ ap (λ (ys : List Item). one_list (setting_of run) (net_of run) (map modelled ys)) same)
+module _ (whole : List ModelItem) where
+  -- what was given so far, and what an engine still gives for the items that are left
+  abbrev pub IsSoFar : Once → (out left : List Item) → Type 0
+  IsSoFar once out left = whole ≡ map modelled out ++ rest_of once (map modelled left)
 
-  pub with_more : (once next : Once) (out more new : List Item) (i : ℕ) (item copy : Item) → i < length items → item ≡ get_or items i item → copy ≡ item
-      → IsSoFar once out i → ((xs : List ModelItem) → rest_of once (modelled copy ∷ xs) ≡ map modelled more ++ rest_of next xs) → new ≡ out ++ more → IsSoFar next new (i + 1)
-  with_more once next out more new i item copy here is same was fed_so pushed =
-      let later = map modelled (drop (i + 1) items) in
+  pub with_more : (once next : Once) (out given grown old left : List Item) (item : Item) → old ≡ item ∷ left → IsSoFar once out old
+      → ((xs : List ModelItem) → rest_of once (modelled item ∷ xs) ≡ map modelled given ++ rest_of next xs) → grown ≡ out ++ given → IsSoFar next grown left
+  with_more once next out given grown old left item is was fed pushed =
+      let later : List ModelItem = map modelled left in
       was
-      ∙ ap (λ ys. map modelled out ++ rest_of once ys) (from_place items i item here is ∙ ap (λ q. modelled q ∷ later) (sym same))
-      ∙ ap (λ ys. map modelled out ++ ys) (fed_so later)
-      ∙ sym (append_assoc (map modelled out) (map modelled more) (rest_of next later))
-      ∙ ap (λ ys. ys ++ rest_of next later) (sym (ap (map modelled) pushed ∙ map-append modelled out more))
+      ∙ ap (λ (items : List Item). map modelled out ++ rest_of once (map modelled items)) is
+      ∙ ap (λ ys. map modelled out ++ ys) (fed later)
+      ∙ sym (append_assoc (map modelled out) (map modelled given) (rest_of next later))
+      ∙ ap (λ ys. ys ++ rest_of next later) (sym (ap (map modelled) pushed ∙ map-append modelled out given))
 
-  pub at_last : (once : Once) (out : List Item) (i : ℕ) → IsOf once run → length items ≤ i → IsSoFar once out i → map modelled out ≡ given run
-  at_last once out i of past was =
-      sym (was ∙ ap (λ (ys : List Item). map modelled out ++ rest_of once (map modelled ys)) (drop_all i items past) ∙ ap (λ ys. map modelled out ++ ys) (rest_none once run of) ∙ append-nil (map modelled out))
+  pub at_last : (once : Once) (out left : List Item) → left ≡ [] → IsSoFar once out left → map modelled out ≡ whole
+  at_last once out left none was =
+      sym (was ∙ ap (λ (items : List Item). map modelled out ++ rest_of once (map modelled items)) none ∙ append-nil (map modelled out))
 
-  -- a fault at an item is the first of the run
-  pub tells_of_run : (once : Once) (out : List Item) (i : ℕ) (item copy : Item) (fault : FeedFault) → IsOf once run → i < length items → item ≡ get_or items i item → copy ≡ item
-      → IsSoFar once out i → TellsFirst (rest_of once (modelled copy ∷ [])) fault → TellsFirst (given run) fault
-  tells_of_run once out i item copy fault of here is same was tells =
-      subst (λ ys. TellsFirst ys fault) (sym (was ∙ ap (λ ys. map modelled out ++ rest_of once ys) (from_place items i item here is ∙ ap (λ q. modelled q ∷ map modelled (drop (i + 1) items)) (sym same))))
-      (tells_behind out _ fault (tells_on once run of (modelled copy) (map modelled (drop (i + 1) items)) fault tells))
+  -- a fault at an item is the first of all
+  pub tells_of_all : (once : Once) (out old left : List Item) (item : Item) (fault : FeedFault) → old ≡ item ∷ left → IsSoFar once out old
+      → TellsFirst (rest_of once (modelled item ∷ [])) fault → TellsFirst whole fault
+  tells_of_all once out old left item fault is was tells =
+      subst (λ ys. TellsFirst ys fault) (sym (was ∙ ap (λ (items : List Item). map modelled out ++ rest_of once (map modelled items)) is))
+      (tells_behind out (rest_of once (modelled item ∷ map modelled left)) fault (tells_on once (modelled item) (map modelled left) fault tells))
 
-  pub none_of_run : (out : List Item) → map modelled out ≡ given run → first_stuck (given run) ≡ None
-  none_of_run out is = ap first_stuck (sym is) ∙ none_stuck out
+  pub none_of_all : (out : List Item) → map modelled out ≡ whole → first_stuck whole ≡ None
+  none_of_all out is = ap first_stuck (sym is) ∙ none_stuck out

@@ -1,7 +1,8 @@
 ghost use Rattle.std.specs.Prelude.{◌≡◌, ◌++◌, ◌∷◌, [], None, IfErr, IfOk, List, OnOk, map};
 ghost use Rattle.sn_net.specs.Item.{ModelItem, modelled};
 ghost use Rattle.sn_model.specs.Meaning.{one_list};
-ghost use Rattle.sn_model.specs.Run.{given, net_of, setting_of};
+ghost use Rattle.sn_model.specs.Run.{boxes_of, given, net_of, setting_of};
+ghost use Rattle.sn_pass.specs.Inputs.{input_sets as sets_of};
 ghost use Rattle.sn_once.specs.Rest.{IsOf, rest_of};
 ghost use Rattle.sn_once.specs.Stuck.{TellsFirst, first_stuck};
 
@@ -12,7 +13,8 @@ use sn_model::Run;
 use sn_pass::flowing::Flowing;
 use sn_pass::kept::Kept;
 use sn_pass::pass::pass;
-use sn_record::{Item, Items};
+use sn_pass::walk::{Walk, input_sets};
+use sn_record::{Item, Items, LabelSet};
 use sn_stack::append;
 use std::alloc::Global;
 use std::snapshot::Snapshot;
@@ -21,17 +23,22 @@ use std::snapshot::Snapshot;
 #[derive(Drop)]
 pub struct Once {
     run: Snapshot<Run>,
+    /// The set of each box's input labels, made once for all items.
+    inputs: Seq<LabelSet>,
     kept: Kept,
+    pub ghost ready: { inputs ≡ sets_of (boxes_of run.value) },
 }
 
 impl Once {
     /// An engine to which no item was fed yet.
-    pub fn new(_alloc: Global, run: &Run) -> Result<Once, Memory>
+    pub fn new(alloc: Global, run: &Run) -> Result<Once, Memory>
         ensures run { IfOk result (λ once. IsOf once run.now) }
         ensures rest { IfOk result (λ once. (xs : List ModelItem) → rest_of once xs ≡ one_list (setting_of run.now) (net_of run.now) xs) }
     {
+        let inputs = input_sets(alloc, run.boxes().as_slice())?;
         Ok(Once {
             run: Snapshot::of(run),
+            inputs,
             kept: Kept::Fresh,
         })
     }
@@ -47,19 +54,23 @@ impl Once {
     {
         let Once {
             run: made_by,
+            inputs,
             mut kept,
         } = self;
-        let mut came = Seq::new(alloc);
-        pass(
+        let walk = Walk {
             alloc,
             run,
-            run.net(),
-            &mut kept,
-            Flowing::of(item),
-            &mut came,
-        )?;
+            inputs: inputs.as_slice(),
+        };
+        let mut came = Seq::new(alloc);
+        pass(&walk, run.net(), &mut kept, Flowing::of(item), &mut came)?;
         let given = settled(alloc, came)?;
-        Ok((Once { run: made_by, kept }, given))
+        let next = Once {
+            run: made_by,
+            inputs,
+            kept,
+        };
+        Ok((next, given))
     }
 }
 

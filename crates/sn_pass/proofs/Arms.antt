@@ -1,6 +1,6 @@
 -- The steps of the forms as the code takes them: with the networks, the lists and the choices that it has by equations.
-use Rattle.std.proofs.Common.{◌≡◌, ◌≢◌, ℕ, ℤ, ◌<◌, false, List, [], ◌∷◌, ◌++◌, map, refl, sym, ap, ◌∙◌, subst}
-use Rattle.std.specs.Prelude.{Option, None, Some, slice_get}
+use Rattle.std.proofs.Common.{◌≡◌, ◌≢◌, ℕ, ℤ, false, List, [], ◌∷◌, ◌++◌, map, refl, sym, subst}
+use Rattle.std.specs.Prelude.{Err, None, Ok, OnOk, Option, Result, Some, slice_get}
 use Rattle.std.specs.Ordering.{int_eq}
 use Rattle.std.proofs.lemmas.List.{map-append}
 use Rattle.sn_record.specs.LabelSet.{Labels}
@@ -11,40 +11,49 @@ use Rattle.sn_net.specs.declared.net.Merge.{Merge}
 use Rattle.sn_net.specs.declared.net.Net.{Net}
 use Rattle.sn_net.specs.declared.net.Net.TheVariants.{Serial, Choice, Star, Split}
 use Rattle.sn_net.specs.Cell.{CellState}
-use Rattle.sn_net.specs.Dispatchers.{level}
+use Rattle.sn_net.specs.Dispatchers.{Network, level}
 use Rattle.sn_net.specs.Item.{ModelItem, Rec}
 use Rattle.sn_model.specs.Meaning.{Setting, tree}
 use Rattle.sn_pass.specs.Flowing.{flows}
-use Rattle.sn_pass.specs.Held.{kept_at}
 use Rattle.sn_pass.specs.Keeping.{Keeping, child_of, left_of, right_of}
-use Rattle.sn_pass.specs.Passing.{GoesToBranch, GoesToReplica, IsChosen, IsSplit, Passes}
+use Rattle.sn_pass.specs.Passing.{GoesToBranch, IsChosen, IsSplit, Passes, PassesAll}
 use Rattle.sn_pass.specs.declared.flowing.Flowing.{Flowing}
-use Rattle.sn_pass.proofs.Passed.{IsThrough, choice_goes, choice_passed, serial_passes, split_goes, split_passed, star_passes, through_more}
+use Rattle.sn_pass.proofs.Passed.{choice_goes, choice_passed, serial_passes, series_passes, split_goes, split_passed, star_passes, through_more}
 
 abbrev Kept : Type 0
 Kept = Keeping CellState
 
-module _ (s : Setting) where
-  -- one item more through the right part
-  pub goes_through : (right r : Net) (start now later : Kept) (yielded : List Flowing) (given : Flowing) (out grown more : List ModelItem) → r ≡ right
-      → IsThrough (tree s right) start (map flows yielded) out grown now → Passes (tree s r) now later (flows given) grown more
-      → IsThrough (tree s right) start (map flows (yielded ++ given ∷ [])) out more later
-  goes_through right r start now later yielded given out grown more is before step =
-      subst (λ (xs : List ModelItem). IsThrough (tree s right) start xs out more later) (sym (map-append flows yielded (given ∷ [])))
-      (through_more (tree s right) start out (map flows yielded) grown more now later (flows given) before (subst (λ (n : Net). Passes (tree s n) now later (flows given) grown more) is step))
+-- one item more through a network
+pub goes_through : (t : Network) (start now later : Kept) (yielded : List Flowing) (given : Flowing) (out grown more : List ModelItem)
+    → PassesAll t start now (map flows yielded) out grown → Passes t now later (flows given) grown more
+    → PassesAll t start later (map flows (yielded ++ given ∷ [])) out more
+goes_through t start now later yielded given out grown more before step =
+    subst (λ (xs : List ModelItem). PassesAll t start later xs out more) (sym (map-append flows yielded (given ∷ [])))
+    (through_more t start out (map flows yielded) grown more now later (flows given) before step)
 
-  pub serial_arm : (net left right l : Net) (q later first second first_then second_then : Kept) (x : ModelItem) (between out grown none : List ModelItem) (made : List Flowing)
-      → net ≡ Serial left right → l ≡ left → first ≡ left_of q → second ≡ right_of q → none ≡ []
-      → Passes (tree s l) first first_then x none between → between ≡ map flows made → IsThrough (tree s right) second (map flows made) out grown second_then
+-- a child that was taken out of what is kept, and put back
+pub child_passes : (t : Network) (state before after later : Kept) (x : ModelItem) (out grown : List ModelItem) → state ≡ before → later ≡ after → Passes t state after x out grown → Passes t before later x out grown
+child_passes t state before after later x out grown taken put step =
+    subst (λ (q : Kept). Passes t before q x out grown) (sym put) (subst (λ (q : Kept). Passes t q after x out grown) taken step)
+
+-- where both clauses of an answer hold, so does what follows from them
+pub both_ok : {A E : Type 0} (result : Result A E) (P Q R : Type 0) → (P → Q → R) → OnOk result P → OnOk result Q → OnOk result R
+both_ok (Ok x) P Q R follows p q = follows p q
+both_ok (Err e) P Q R follows p q = tt
+
+module _ (s : Setting) where
+  pub serial_arm : (net left right l r : Net) (q later first second first_then second_then : Kept) (x : ModelItem) (between out grown none : List ModelItem)
+      → net ≡ Serial left right → l ≡ left → r ≡ right → first ≡ left_of q → second ≡ right_of q → none ≡ []
+      → Passes (tree s l) first first_then x none between → PassesAll (tree s r) second second_then between out grown
       → left_of later ≡ first_then → right_of later ≡ second_then
       → Passes (tree s net) q later x out grown
-  serial_arm net left right l q later first second first_then second_then x between out grown none made is is_left of_left of_right empty step same through put_left put_right =
+  serial_arm net left right l r q later first second first_then second_then x between out grown none is is_left is_right of_left of_right empty step through put_left put_right =
       subst (λ (n : Net). Passes (tree s n) q later x out grown) (sym is)
-      (serial_passes s left right q later first second first_then second_then x (map flows made) out grown of_left of_right
-      (subst (λ (ys : List ModelItem). Passes (tree s left) first first_then x [] ys) same
-      (subst (λ (ys : List ModelItem). Passes (tree s left) first first_then x ys between) empty
-      (subst (λ (n : Net). Passes (tree s n) first first_then x none between) is_left step)))
-      through put_left put_right)
+      (series_passes s left right q later x out grown
+      (serial_passes (tree s left) (tree s right) q later first second first_then second_then x between out grown of_left of_right
+      (subst (λ (ys : List ModelItem). Passes (tree s left) first first_then x ys between) empty (subst (λ (n : Net). Passes (tree s n) first first_then x none between) is_left step))
+      (subst (λ (n : Net). PassesAll (tree s n) second second_then between out grown) is_right through)
+      put_left put_right))
 
   module _ (net : Net) (place : ℕ) (m : Merge) (branches : List Net) (faces sliced : List (List Labels)) (is : net ≡ Choice place m branches faces) (same : sliced ≡ faces)
       (q : Kept) (x : ModelItem) (out mid : List ModelItem) (chosen : Option (ℕ × Entries)) (is_chosen : IsChosen place sliced x out mid chosen) where
@@ -58,13 +67,13 @@ module _ (s : Setting) where
     choice_goes_to picked some =
         subst (λ (fs : List (List Labels)). IsChosen place fs x out mid (Some picked)) same (subst (λ (o : Option (ℕ × Entries)). IsChosen place sliced x out mid o) some is_chosen)
 
-    pub choice_some : (picked : ℕ × Entries) (branch : Net) (later state after : Kept) (grown : List ModelItem) → chosen ≡ Some picked → slice_get branches picked.0 ≡ Some branch
-        → state ≡ child_of q (Branch picked.0) → Passes (tree s branch) state after (Rec picked.1) mid grown → child_of later (Branch picked.0) ≡ after
+    pub choice_some : (picked : ℕ × Entries) (branch : Net) (later : Kept) (grown : List ModelItem) → chosen ≡ Some picked → slice_get branches picked.0 ≡ Some branch
+        → Passes (tree s branch) (child_of q (Branch picked.0)) (child_of later (Branch picked.0)) (Rec picked.1) mid grown
         → ((j : ℕ) → j ≢ picked.0 → child_of later (Branch j) ≡ child_of q (Branch j))
         → Passes (tree s net) q later x out grown
-    choice_some picked branch later state after grown some there taken step put others =
+    choice_some picked branch later grown some there step others =
         subst (λ (n : Net). Passes (tree s n) q later x out grown) (sym is)
-        (choice_goes s place m branches faces picked.0 branch q later state after x picked.1 out mid grown (choice_goes_to picked some) there taken step put others)
+        (choice_goes s place m branches faces picked.0 branch q later _ _ x picked.1 out mid grown (choice_goes_to picked some) there refl step refl others)
 
   module _ (net body : Net) (place : ℕ) (m : Merge) (id : ℕ) (is : net ≡ Split place m body id)
       (q : Kept) (x : ModelItem) (out mid : List ModelItem) (chosen : Option (ℤ × Entries)) (is_split : IsSplit place id x out mid chosen) where
@@ -73,14 +82,14 @@ module _ (s : Setting) where
         subst (λ (n : Net). Passes (tree s n) q q x out mid) (sym is)
         (split_passed s place m body id q x out mid (subst (λ (o : Option (ℤ × Entries)). IsSplit place id x out mid o) none is_split))
 
-    pub split_some : (picked : ℤ × Entries) (b : Net) (later state after : Kept) (grown : List ModelItem) → chosen ≡ Some picked → b ≡ body
-        → state ≡ child_of q (Value picked.0) → Passes (tree s b) state after (Rec picked.1) mid grown → child_of later (Value picked.0) ≡ after
+    pub split_some : (picked : ℤ × Entries) (b : Net) (later : Kept) (grown : List ModelItem) → chosen ≡ Some picked → b ≡ body
+        → Passes (tree s b) (child_of q (Value picked.0)) (child_of later (Value picked.0)) (Rec picked.1) mid grown
         → ((k : ℤ) → int_eq k picked.0 ≡ false → child_of later (Value k) ≡ child_of q (Value k))
         → Passes (tree s net) q later x out grown
-    split_some picked b later state after grown some is_body taken step put others =
+    split_some picked b later grown some is_body step others =
         subst (λ (n : Net). Passes (tree s n) q later x out grown) (sym is)
-        (split_goes s place m body id picked.0 q later state after x picked.1 out mid grown (subst (λ (o : Option (ℤ × Entries)). IsSplit place id x out mid o) some is_split) taken
-        (subst (λ (n : Net). Passes (tree s n) state after (Rec picked.1) mid grown) is_body step) put others)
+        (split_goes s place m body id picked.0 q later _ _ x picked.1 out mid grown (subst (λ (o : Option (ℤ × Entries)). IsSplit place id x out mid o) some is_split) refl
+        (subst (λ (n : Net). Passes (tree s n) (child_of q (Value picked.0)) (child_of later (Value picked.0)) (Rec picked.1) mid grown) is_body step) refl others)
 
   pub star_arm : (net body b : Net) (place : ℕ) (m : Merge) (exit : Labels) (guard : Option TagExpr) (q later : Kept) (x : ModelItem) (out grown : List ModelItem)
       → net ≡ Star place m body exit guard → b ≡ body

@@ -1,4 +1,5 @@
 pub mod Arms
+pub mod Calls
 pub mod Dispatching
 pub mod Held
 pub mod Keeping

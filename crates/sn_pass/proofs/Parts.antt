@@ -1,6 +1,6 @@
 -- The parts of a network that fits its boxes.
-use Rattle.std.proofs.Common.{◌≡◌, ℕ, ◌<◌, ◌≤◌, IsTrue, List, [], ◌∷◌, length, get_or, map, sym, ap, ◌∙◌, subst}
-use Rattle.std.specs.Prelude.{All, IfSome, Option, None, Some, slice_get}
+use Rattle.std.proofs.Common.{◌≡◌, ℕ, ◌<◌, ◌≤◌, IsTrue, List, [], ◌∷◌, length, get_or, sym, ap, ◌∙◌, subst}
+use Rattle.std.specs.Prelude.{IfSome, Option, None, Some, slice_get}
 use Rattle.std.specs.Coded.{le_prop, Unit-prop}
 use Rattle.std.proofs.Props.{props}
 use Rattle.std.proofs.lemmas.List.Elements.{All-head, All-tail}

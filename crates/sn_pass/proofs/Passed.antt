@@ -1,5 +1,5 @@
 -- What each form of network does with an item, from what its parts do.
-use Rattle.std.proofs.Common.{◌≡◌, ◌≢◌, ℕ, ℤ, ◌<◌, false, List, [], ◌∷◌, ◌++◌, map, refl, sym, ap, ap₂, ◌∙◌, subst, append-nil, append_assoc}
+use Rattle.std.proofs.Common.{◌≡◌, ◌≢◌, ℕ, ℤ, false, List, [], ◌∷◌, ◌++◌, map, refl, sym, ap, ap₂, ◌∙◌, subst, append-nil, append_assoc}
 use Rattle.std.specs.Prelude.{Option, Some, slice_get}
 use Rattle.std.specs.Option.{option_map}
 use Rattle.std.specs.Ordering.{int_eq}
@@ -17,14 +17,14 @@ use Rattle.sn_net.specs.declared.net.Merge.{Merge}
 use Rattle.sn_net.specs.declared.net.Net.{Net}
 use Rattle.sn_net.specs.declared.net.Net.TheVariants.{Box, Filter as FilterLeaf, Sync, Serial, Choice, Star, Split}
 use Rattle.sn_net.specs.Cell.{CellState, Passing, cell_emits, cell_next, new_cell}
-use Rattle.sn_net.specs.Dispatchers.{Network, choice, level, passed_by, router, split, stream_key}
+use Rattle.sn_net.specs.Dispatchers.{Network, choice, level, router, split}
 use Rattle.sn_net.specs.Item.{ModelItem, Rec}
 use Rattle.sn_net.specs.Route.{choice_key, of_record, split_key}
 use Rattle.sn_model.specs.Components.{box_item, cell, filter_item}
 use Rattle.sn_model.specs.Meaning.{Setting, tree}
 use Rattle.sn_model.proofs.Forms.{tree-Box, tree-Choice, tree-Filter, tree-Serial, tree-Split, tree-Star, tree-Sync}
 use Rattle.sn_pass.specs.Keeping.{Keeping, Same, child_of, keeping, left_of, right_of, state_or}
-use Rattle.sn_pass.specs.Passing.{GoesToBranch, GoesToReplica, PassedBy, Passes}
+use Rattle.sn_pass.specs.Passing.{GoesToBranch, GoesToReplica, PassedBy, Passes, PassesAll}
 use Rattle.sn_pass.proofs.Dispatching.{branch_at, branch_emits, branch_next, choice_passes_emits, choice_passes_next, replica_at, replica_emits, replica_next, split_passes_emits, split_passes_next}
 use Rattle.sn_pass.proofs.Keeping.{passing_same, same_refl, same_sym, same_trans, same_emits, same_next}
 
@@ -38,16 +38,11 @@ passes_at t u q p x out grown is passes = subst (λ (v : Network). Passes v q p 
 same_where : (t : Network) (q p : Kept) → q ≡ p → Same t q p
 same_where t q p is = subst (λ (u : Kept). Same t q u) is (same_refl t q)
 
--- Items went through a network one behind the other.
-pub record IsThrough (t : Network) (start : Kept) (xs out grown : List ModelItem) (now : Kept) : Type 0 where
-  pub gives : grown ≡ out ++ emitted (keeping t) start xs
-  pub keeps : Same t now (after (keeping t) start xs)
-
 module _ (t : Network) (start : Kept) (out : List ModelItem) where
-  pub through_none : IsThrough t start [] out out start
+  pub through_none : PassesAll t start start [] out out
   through_none = record { gives = sym (append-nil out); keeps = same_refl t start }
 
-  pub through_more : (xs grown more : List ModelItem) (now later : Kept) (x : ModelItem) → IsThrough t start xs out grown now → Passes t now later x grown more → IsThrough t start (xs ++ x ∷ []) out more later
+  pub through_more : (xs grown more : List ModelItem) (now later : Kept) (x : ModelItem) → PassesAll t start now xs out grown → Passes t now later x grown more → PassesAll t start later (xs ++ x ∷ []) out more
   through_more xs grown more now later x before step =
       let known : Kept = after (keeping t) start xs in
       record {
@@ -62,6 +57,22 @@ module _ (t : Network) (start : Kept) (out : List ModelItem) where
             (same_trans t later ((keeping t).next now x) ((keeping t).next known x) step.keeps (same_next t now known before.keeps x));
       }
 
+-- what the left part of a series gives went through the right part
+pub serial_passes : (a b : Network) (q later l r first second : Kept) (x : ModelItem) (between out grown : List ModelItem) → l ≡ left_of q → r ≡ right_of q
+    → Passes a l first x [] between → PassesAll b r second between out grown → left_of later ≡ first → right_of later ≡ second
+    → Passes (Series a b) q later x out grown
+serial_passes a b q later l r first second x between out grown of_left of_right step through later_left later_right =
+    let mid : between ≡ (keeping a).emits (left_of q) x = step.gives ∙ ap (λ (p : Kept). (keeping a).emits p x) of_left in
+    record {
+      gives = through.gives ∙ ap (λ ys. out ++ ys) (ap (emitted (keeping b) r) mid ∙ ap (λ (p : Kept). emitted (keeping b) p ((keeping a).emits (left_of q) x)) of_right);
+      keeps = (
+        subst (λ (p : Kept). Same a p ((keeping a).next (left_of q) x)) (sym later_left) (subst (λ (p : Kept). Same a first ((keeping a).next p x)) of_left step.keeps),
+        subst (λ (p : Kept). Same b p (after (keeping b) (right_of q) ((keeping a).emits (left_of q) x))) (sym later_right)
+            (subst (λ (p : Kept). Same b second (after (keeping b) p ((keeping a).emits (left_of q) x))) of_right
+            (subst (λ (ys : List ModelItem). Same b second (after (keeping b) r ys)) mid through.keeps)),
+      );
+    }
+
 module _ (s : Setting) where
   pub box_passes : (place number : ℕ) (q : Kept) (x : ModelItem) (out grown : List ModelItem) → grown ≡ out ++ box_item s.boxes s.fuel place number x → Passes (tree s (Box place number)) q q x out grown
   box_passes place number q x out grown is = passes_at _ _ q q x out grown (tree-Box s place number) (record { gives = is; keeps = λ xs. refl })
@@ -75,23 +86,9 @@ module _ (s : Setting) where
   sync_passes place patterns q later x out grown gives keeps =
       passes_at _ _ q later x out grown (tree-Sync s place patterns) (record { gives = gives; keeps = λ xs. ap (λ known. emitted (cell place patterns) known xs) keeps })
 
-  pub serial_passes : (left right : Net) (q later l r first second : Kept) (x : ModelItem) (between out grown : List ModelItem) → l ≡ left_of q → r ≡ right_of q
-      → Passes (tree s left) l first x [] between → IsThrough (tree s right) r between out grown second → left_of later ≡ first → right_of later ≡ second
+  pub series_passes : (left right : Net) (q later : Kept) (x : ModelItem) (out grown : List ModelItem) → Passes (Series (tree s left) (tree s right)) q later x out grown
       → Passes (tree s (Serial left right)) q later x out grown
-  serial_passes left right q later l r first second x between out grown of_left of_right step through later_left later_right =
-      let a : Network = tree s left in
-      let b : Network = tree s right in
-      let mid : between ≡ (keeping a).emits (left_of q) x = step.gives ∙ ap (λ (p : Kept). (keeping a).emits p x) of_left in
-      passes_at _ (Series a b) q later x out grown (tree-Serial s left right)
-      (record {
-        gives = through.gives ∙ ap (λ ys. out ++ ys) (ap (emitted (keeping b) r) mid ∙ ap (λ (p : Kept). emitted (keeping b) p ((keeping a).emits (left_of q) x)) of_right);
-        keeps = (
-          subst (λ (p : Kept). Same a p ((keeping a).next (left_of q) x)) (sym later_left) (subst (λ (p : Kept). Same a first ((keeping a).next p x)) of_left step.keeps),
-          subst (λ (p : Kept). Same b p (after (keeping b) (right_of q) ((keeping a).emits (left_of q) x))) (sym later_right)
-              (subst (λ (p : Kept). Same b second (after (keeping b) p ((keeping a).emits (left_of q) x))) of_right
-              (subst (λ (ys : List ModelItem). Same b second (after (keeping b) r ys)) mid through.keeps)),
-        );
-      })
+  series_passes left right q later x out grown passes = passes_at _ _ q later x out grown (tree-Serial s left right) passes
 
   module _ (place : ℕ) (m : Merge) (branches : List Net) (faces : List (List Labels)) where
     pub choice_passed : (q : Kept) (x : ModelItem) (out grown : List ModelItem) → PassedBy place (of_record (choice_key faces) x) x out grown → Passes (tree s (Choice place m branches faces)) q q x out grown

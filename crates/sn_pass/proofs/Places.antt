@@ -1,5 +1,5 @@
 -- What stands in lists of what is kept.
-use Rattle.std.proofs.Common.{◌≡◌, ◌≢◌, ℕ, zero, suc, ◌<◌, ◌≤◌, List, [], ◌∷◌, ◌++◌, length, get_or, map, set, refl, sym, ap, ◌∙◌, arith}
+use Rattle.std.proofs.Common.{◌≡◌, ◌≢◌, ℕ, zero, suc, ◌<◌, ◌≤◌, List, [], ◌∷◌, ◌++◌, length, get_or, map, set, refl, sym, ap, arith}
 use Rattle.sn_pass.specs.Held.{kept_at}
 use Rattle.sn_pass.specs.Keeping.{Fresh}
 use Rattle.sn_pass.specs.States.{held}

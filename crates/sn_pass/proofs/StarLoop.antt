@@ -1,5 +1,5 @@
 -- The loop that works off what comes to a star, turn by turn.
-use Rattle.std.proofs.Common.{◌≡◌, ◌≢◌, ℕ, suc, ◌+◌, ◌-◌, ◌<◌, ◌≤◌, ◌==◌, true, false, cond, List, [], ◌∷◌, ◌++◌, map, reverse, refl, sym, ap, ◌∙◌, subst, arith, append_assoc, append-nil}
+use Rattle.std.proofs.Common.{◌≡◌, ◌≢◌, ℕ, ◌+◌, ◌-◌, ◌<◌, ◌≤◌, ◌==◌, true, false, cond, List, [], ◌∷◌, ◌++◌, map, reverse, refl, sym, ap, ◌∙◌, subst, arith, append_assoc, append-nil}
 use Rattle.std.specs.Prelude.{All, Bool, Option, nat_lt}
 use Rattle.std.proofs.lemmas.List.{map-append, reverse-append}
 use Rattle.std.proofs.lemmas.List.Elements.{All-cons, All-head, All-nil, All-tail}
@@ -7,7 +7,6 @@ use Rattle.std.proofs.lemmas.Bool.{false≢true}
 use Rattle.std.proofs.lemmas.Bool.Decides.{nat_tests}
 use Rattle.sn_record.specs.LabelSet.{Labels}
 use Rattle.sn_record.specs.Record.{Entries}
-use Rattle.sn_streams.specs.Trees.{Tree}
 use Rattle.sn_tagexpr.specs.declared.expr.TagExpr.{TagExpr}
 use Rattle.sn_net.specs.declared.net.Merge.{Merge}
 use Rattle.sn_net.specs.declared.net.Merge.TheVariants.{Det}
@@ -18,7 +17,7 @@ use Rattle.sn_net.specs.Route.{of_record}
 use Rattle.sn_pass.specs.Flowing.{flows}
 use Rattle.sn_pass.specs.Held.{LevelsOf, kept_at, levels_held}
 use Rattle.sn_pass.specs.Keeping.{Keeping, Same, keeping}
-use Rattle.sn_pass.specs.Levels.{Entry, Levels, StarParts, entries, goes_inside, key_here, stack_gives, stack_keeps, star_tree, taps, with_level}
+use Rattle.sn_pass.specs.Levels.{Entry, Levels, StarParts, entries, goes_inside, star_tree, taps, with_level}
 use Rattle.sn_pass.specs.Passing.{EntersAt, LeavesAt, Passes}
 use Rattle.sn_pass.specs.States.{held}
 use Rattle.sn_pass.specs.Waiting.{AreWithin, entry_of, stack_of}
@@ -26,7 +25,7 @@ use Rattle.sn_pass.specs.declared.kept.Kept.{Kept}
 use Rattle.sn_pass.specs.declared.waiting.Waiting.{Waiting}
 use Rattle.sn_pass.proofs.Keeping.{same_refl, same_sym, same_trans, same_emits, same_next}
 use Rattle.sn_pass.proofs.Starting.{levels_from}
-use Rattle.sn_pass.proofs.Turns.{SameLevels, Turned, none_inside_last, star_gives, star_keeps, turn_enters, turn_leaves}
+use Rattle.sn_pass.proofs.Turns.{Turned, none_inside_last, star_gives, star_keeps, turn_enters, turn_leaves}
 use Rattle.sn_pass.proofs.Working.{IsWorkedOff, work_begins, work_ends, work_goes_on}
 
 -- a star with any merge, of which nothing here depends

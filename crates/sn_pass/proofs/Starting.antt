@@ -1,25 +1,20 @@
 -- States that stand for one in which nothing is kept yet, and steps from states that a tree cannot tell apart.
-use Rattle.std.proofs.Common.{◌≡◌, ℕ, ℤ, zero, suc, List, [], ◌∷◌, map, length, refl, sym, ap, ◌∙◌, subst, arith}
-use Rattle.std.specs.Option.{option_map}
-use Rattle.std.specs.Prelude.{slice_get, Option, None, Some, unwrap_or}
-use Rattle.std.proofs.lemmas.Option.{slice_get-map}
+use Rattle.std.proofs.Common.{◌≡◌, ℕ, ℤ, zero, suc, List, map, sym, ap, ◌∙◌, subst}
 use Rattle.sn_record.specs.LabelSet.{Labels}
 use Rattle.sn_streams.specs.Keys.{Key as StreamKey, Own, Branch, Inside, Value}
 use Rattle.sn_streams.specs.Machines.{emitted}
 use Rattle.sn_streams.specs.Trees.{Tree, Series, passing, with_own}
-use Rattle.sn_tagexpr.specs.declared.expr.TagExpr.{TagExpr}
 use Rattle.sn_net.specs.declared.net.Merge.{Merge}
 use Rattle.sn_net.specs.declared.net.Net.{Net}
-use Rattle.sn_net.specs.declared.net.Net.TheVariants.{Sync, Serial, Choice, Star, Split}
+use Rattle.sn_net.specs.declared.net.Net.TheVariants.{Sync, Serial, Choice, Split}
 use Rattle.sn_net.specs.Cell.{CellState, Passing, new_cell}
-use Rattle.sn_net.specs.Dispatchers.{Network, router, choice, inside_child, level, split}
+use Rattle.sn_net.specs.Dispatchers.{Network, router, choice, inside_child, split}
 use Rattle.sn_net.specs.Route.{choice_key, of_record, split_key}
 use Rattle.sn_model.specs.Meaning.{Setting, tree}
-use Rattle.sn_model.proofs.Forms.{tree-Sync, tree-Serial, tree-Choice, tree-Star, tree-Split}
+use Rattle.sn_model.proofs.Forms.{tree-Sync, tree-Serial, tree-Choice, tree-Split}
 use Rattle.sn_pass.specs.Held.{LevelsOf, all, none, kept_at, branches_held, levels_held, replicas_held}
 use Rattle.sn_pass.specs.Levels.{StarParts, key_here, star_tree}
 use Rattle.sn_model.specs.Components.{cell}
-use Rattle.sn_pass.proofs.Steps.{star_of}
 use Rattle.sn_pass.specs.Keeping.{Keeping, Fresh, At, Both, state_or, child_of, left_of, right_of, keeping, Same}
 use Rattle.sn_pass.specs.Steps.{Steps, Runs}
 use Rattle.sn_pass.proofs.Dispatching.{branch_at, replica_at}

@@ -1,14 +1,14 @@
 -- The states of the components, form by form of what is kept.
 use Rattle.std.proofs.Common.{◌≡◌, ℕ, ℤ, true, false, cond, Some, List, [], ◌∷◌, map, refl, sym, ap, ◌∙◌, subst}
 use Rattle.std.specs.Prelude.{unwrap_or}
-use Rattle.std.specs.BTreeMap.{BTreeMap, get, is_at}
+use Rattle.std.specs.BTreeMap.{BTreeMap, is_at}
 use Rattle.std.specs.Map.{lookup}
 use Rattle.std.specs.Option.{option_map}
 use Rattle.std.specs.Ordering.{int_cmp, is_eq}
-use Rattle.sn_streams.specs.Keys.{Key, Branch, Inside, Value}
+use Rattle.sn_streams.specs.Keys.{Branch, Inside, Value}
 use Rattle.sn_net.specs.Cell.{CellState}
-use Rattle.sn_pass.specs.Held.{kept_at, branches_held, levels_held, replicas_held}
-use Rattle.sn_pass.specs.Keeping.{Keeping, Fresh, At, Both, Each, child_of, left_of, right_of, state_or}
+use Rattle.sn_pass.specs.Held.{kept_at, levels_held}
+use Rattle.sn_pass.specs.Keeping.{Keeping, Fresh, At, child_of, left_of, right_of, state_or}
 use Rattle.sn_pass.specs.States.{at_value, held, held_step}
 use Rattle.sn_pass.specs.declared.kept.Kept.{Kept}
 use Rattle.sn_pass.specs.declared.kept.Kept.TheOpen.{Kept-F}

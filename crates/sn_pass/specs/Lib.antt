@@ -1,5 +1,6 @@
 pub mod Flowing
 pub mod Held
+pub mod Inputs
 pub mod Keeping
 pub mod Levels
 pub mod Passing

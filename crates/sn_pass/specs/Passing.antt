@@ -3,6 +3,7 @@ use Rattle.std.specs.Prelude.{◌≡◌, ◌<◌, ℕ, ℤ, true, false, List, [
 use Rattle.sn_record.specs.LabelSet.{Labels}
 use Rattle.sn_record.specs.Record.{Entries}
 use Rattle.sn_streams.specs.Keys.{Own, Branch, Value}
+use Rattle.sn_streams.specs.Machines.{after as follows, emitted}
 use Rattle.sn_tagexpr.specs.declared.expr.TagExpr.{TagExpr}
 use Rattle.sn_net.specs.declared.routing.Key.{Key}
 use Rattle.sn_net.specs.Cell.{CellState}
@@ -19,6 +20,11 @@ use Rattle.sn_pass.specs.Levels.{goes_inside}
 pub record Passes (t : Network) (before after : Keeping CellState) (x : ModelItem) (out grown : List ModelItem) : Type 0 where
   pub gives : grown ≡ out ++ (keeping t).emits before x
   pub keeps : Same t after ((keeping t).next before x)
+
+-- The same of items that come one behind the other.
+pub record PassesAll (t : Network) (before after : Keeping CellState) (xs out grown : List ModelItem) : Type 0 where
+  pub gives : grown ≡ out ++ emitted (keeping t) before xs
+  pub keeps : Same t after (follows (keeping t) before xs)
 
 -- an item passed all children of a dispatcher by
 pub record PassedBy (place : ℕ) (key : Key) (x : ModelItem) (out grown : List ModelItem) : Type 0 where

@@ -1,12 +1,11 @@
 -- What an engine keeps, as the states of the components of a tree.
-use Rattle.std.specs.Prelude.{ℕ, zero, suc, ℤ, List, map, unwrap_or}
+use Rattle.std.specs.Prelude.{ℤ, unwrap_or}
 use Rattle.std.specs.Option.{option_map}
 use Rattle.std.specs.Ordering.{int_cmp}
 use Rattle.std.specs.BTreeMap.{BTreeMap, get}
-use Rattle.sn_streams.specs.Keys.{Key, Inside, Value}
 use Rattle.sn_net.specs.Cell.{CellState}
 use Rattle.sn_pass.specs.Held.{branches_held, levels_held, replicas_held}
-use Rattle.sn_pass.specs.Keeping.{Keeping, Fresh, At, Both, Each, child_of, left_of, right_of}
+use Rattle.sn_pass.specs.Keeping.{Keeping, Fresh, At, Both}
 use Rattle.sn_pass.specs.declared.kept.Kept.{Kept, fold-Kept}
 use Rattle.sn_pass.specs.declared.kept.Kept.TheOpen.{Kept-F}
 

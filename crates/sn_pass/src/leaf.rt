@@ -3,37 +3,26 @@ ghost use Rattle.std.specs.Prelude.{◌≡◌, ◌++◌, ◌<◌, ◌∷◌, [],
 ghost use Rattle.sn_record.specs.Record.{is_match};
 ghost use Rattle.sn_net.specs.Answer.{filter_answer};
 ghost use Rattle.sn_net.specs.Cell.{cell_emits, cell_next, new_cell};
-ghost use Rattle.sn_net.specs.Face.{variant_of as labels_of};
 ghost use Rattle.sn_net.specs.Filter.{IsClosed};
 ghost use Rattle.sn_net.specs.Item as model;
 ghost use Rattle.sn_model.specs.Components.{box_item, call_record, filter_item};
 ghost use Rattle.sn_model.specs.Run.{boxes_of, fuel_of};
 ghost use Rattle.sn_pass.specs.Flowing.{flows};
+ghost use Rattle.sn_pass.specs.Inputs.{HasInputs};
 ghost use Rattle.sn_pass.specs.Keeping.{state_or};
 ghost use Rattle.sn_pass.specs.States.{held};
 
 use crate::flowing::{Flowing, append_items, append_joined};
 use crate::kept::{Kept, into_holding};
-use sn_boxrun::call;
-use sn_filter::apply;
+use crate::walk::Walk;
+use sn_boxrun::call_owned;
+use sn_filter::apply_owned;
 use sn_list::{Memory, Seq};
-use sn_model::Run;
 use sn_net::Filter;
-use sn_record::{Label, LabelSet, Record};
+use sn_record::{LabelSet, Record};
 use sn_stack::append;
 use std::alloc::Global;
 use std::mem::replace;
-
-/// The set of the labels.
-fn variant_of(alloc: Global, labels: &[Label]) -> Result<LabelSet, Memory>
-    ensures { IfOk result (λ variant. variant ≡ labels_of labels.now) }
-{
-    let mut variant = LabelSet::new(alloc);
-    for label in labels {
-        variant.insert(*label)?;
-    }
-    Ok(variant)
-}
 
 /// Whether the record has each label of the variant.
 fn is_match(r: &Record, variant: &LabelSet) -> bool
@@ -46,17 +35,17 @@ fn is_match(r: &Record, variant: &LabelSet) -> bool
 fn filter_record(
     alloc: Global,
     filter: &Filter,
-    taken: &Record,
+    taken: Record,
     out: &mut Seq<Flowing>,
 ) -> Result<(), Memory>
     requires { IsClosed filter.now }
     ensures { OnOk result (map flows out.new ≡ map flows out.old
-        ++ (if is_match taken.now filter.now.pattern then filter_answer filter.now taken.now else model.Stuck filter.now.place ∷ [])) }
+        ++ (if is_match taken filter.now.pattern then filter_answer filter.now taken else model.Stuck filter.now.place ∷ [])) }
 {
-    if !is_match(taken, &filter.pattern) {
+    if !is_match(&taken, &filter.pattern) {
         return append(out, Flowing::Stuck(filter.place));
     }
-    append_items(out, apply(alloc, filter, taken)?)
+    append_items(out, apply_owned(alloc, filter, taken)?)
 }
 
 /// Appends what a filter answers to an item.
@@ -70,7 +59,7 @@ pub fn pass_filter(
     ensures { OnOk result (map flows out.new ≡ map flows out.old ++ filter_item filter.now (flows item)) }
 {
     match item {
-        Flowing::Rec(taken) => filter_record(alloc, filter, &taken, out),
+        Flowing::Rec(taken) => filter_record(alloc, filter, taken, out),
         Flowing::Fault(fault) => append(out, Flowing::Fault(fault)),
         Flowing::Stuck(at) => append(out, Flowing::Stuck(at)),
     }
@@ -78,41 +67,40 @@ pub fn pass_filter(
 
 /// Appends what the box of a number answers to a record, or that the record has no route, where it lacks an input label.
 fn call_box(
-    alloc: Global,
-    run: &Run,
+    walk: &Walk,
     place: u32,
     number: u32,
-    taken: &Record,
+    taken: Record,
     out: &mut Seq<Flowing>,
 ) -> Result<(), Memory>
-    requires { number < length (boxes_of run.now) }
+    requires there { number < length (boxes_of walk.now.run.now) }
+    requires inputs { HasInputs walk.now }
     ensures { OnOk result (map flows out.new ≡ map flows out.old
-        ++ call_record (slice_get (boxes_of run.now) number) place (fuel_of run.now) taken.now) }
+        ++ call_record (slice_get (boxes_of walk.now.run.now) number) place (fuel_of walk.now.run.now) taken) }
 {
-    let boxes = run.boxes();
-    let fuel = run.fuel();
-    let program = boxes.at(number as usize);
-    let input = variant_of(alloc, program.input.as_slice())?;
-    if !is_match(taken, &input) {
+    let (program, input) = walk.box_at(number);
+    if !is_match(&taken, input) {
         return append(out, Flowing::Stuck(place));
     }
-    append_items(out, call(alloc, program, place, taken, fuel)?)
+    let came = call_owned(walk.alloc, program, place, input, taken, walk.run.fuel())?;
+    append_items(out, came)
 }
 
 /// Appends what the box of a number answers to an item.
 pub fn pass_box(
-    alloc: Global,
-    run: &Run,
+    walk: &Walk,
     place: u32,
     number: u32,
     item: Flowing,
     out: &mut Seq<Flowing>,
 ) -> Result<(), Memory>
-    requires { number < length (boxes_of run.now) }
-    ensures { OnOk result (map flows out.new ≡ map flows out.old ++ box_item (boxes_of run.now) (fuel_of run.now) place number (flows item)) }
+    requires there { number < length (boxes_of walk.now.run.now) }
+    requires inputs { HasInputs walk.now }
+    ensures { OnOk result (map flows out.new ≡ map flows out.old
+        ++ box_item (boxes_of walk.now.run.now) (fuel_of walk.now.run.now) place number (flows item)) }
 {
     match item {
-        Flowing::Rec(taken) => call_box(alloc, run, place, number, &taken, out),
+        Flowing::Rec(taken) => call_box(walk, place, number, taken, out),
         Flowing::Fault(fault) => append(out, Flowing::Fault(fault)),
         Flowing::Stuck(at) => append(out, Flowing::Stuck(at)),
     }

@@ -8,3 +8,4 @@ mod leaf;
 pub mod pass;
 mod slots;
 mod waiting;
+pub mod walk;

@@ -1,12 +1,17 @@
 //! One item through a network: what a part gives flows into the next part at once.
-ghost use Rattle.std.specs.Prelude.{OnOk, map};
+ghost use Rattle.std.specs.Prelude.{◌≡◌, ◌≢◌, ℕ, ℤ, OnOk, false, map};
+ghost use Rattle.std.specs.Ordering.{int_eq};
+ghost use Rattle.sn_streams.specs.Keys.Key.{Branch, Value};
 ghost use Rattle.sn_net.specs.declared.net.Merge.{Merge as SomeMerge};
 ghost use Rattle.sn_net.specs.WellFormed.{FitsBoxes};
 ghost use Rattle.sn_net.specs.Dispatchers.{level};
+ghost use Rattle.sn_net.specs.Item as model;
 ghost use Rattle.sn_model.specs.Meaning.{tree};
 ghost use Rattle.sn_model.specs.Run.{boxes_of, depth_of, setting_of};
 ghost use Rattle.sn_pass.specs.Flowing.{flows};
-ghost use Rattle.sn_pass.specs.Passing.{IsAtStar, Passes};
+ghost use Rattle.sn_pass.specs.Inputs.{HasInputs};
+ghost use Rattle.sn_pass.specs.Keeping.{child_of};
+ghost use Rattle.sn_pass.specs.Passing.{IsAtStar, Passes, PassesAll};
 ghost use Rattle.sn_pass.specs.States.{held};
 
 use crate::dispatch::{choose, split, tap};
@@ -18,41 +23,38 @@ use crate::kept::{
 use crate::leaf::{pass_box, pass_cell, pass_filter};
 use crate::slots::{put_at, take_at};
 use crate::waiting::{Waiting, wait};
+use crate::walk::Walk;
 use sn_list::{Memory, Seq};
-use sn_model::Run;
 use sn_net::Net;
-use sn_record::LabelSet;
+use sn_record::{LabelSet, Record};
 use sn_tagexpr::TagExpr;
-use std::alloc::Global;
 use std::mem::replace;
 
 /// Appends what a network gives for an item, and keeps what is to be kept behind it. Calls go as deep as the network's tree.
 #[cycle(pass)]
 pub fn pass(
-    alloc: Global,
-    run: &Run,
+    walk: &Walk,
     net: &Net,
     kept: &mut Kept,
     item: Flowing,
     out: &mut Seq<Flowing>,
 ) -> Result<(), Memory>
-    requires { FitsBoxes (boxes_of run.now) net.now }
-    ensures { OnOk result (Passes (tree (setting_of run.now) net.now) (held kept.old) (held kept.new) (flows item) (map flows out.old) (map flows out.new)) }
+    requires formed { FitsBoxes (boxes_of walk.now.run.now) net.now }
+    requires inputs { HasInputs walk.now }
+    ensures { OnOk result (Passes (tree (setting_of walk.now.run.now) net.now) (held kept.old) (held kept.new) (flows item) (map flows out.old) (map flows out.new)) }
 {
     match net {
-        Net::Box { place, number } => pass_box(alloc, run, *place, *number, item, out),
-        Net::Filter(filter) => pass_filter(alloc, filter, item, out),
+        Net::Box { place, number } => pass_box(walk, *place, *number, item, out),
+        Net::Filter(filter) => pass_filter(walk.alloc, filter, item, out),
         Net::Sync { place, patterns } => {
-            pass_cell(alloc, *place, patterns.as_slice(), kept, item, out)
+            pass_cell(walk.alloc, *place, patterns.as_slice(), kept, item, out)
         }
         Net::Serial { left, right } => {
             let (mut first, mut second) = into_parts(replace(kept, Kept::Fresh));
-            let mut between = Seq::new(alloc);
-            pass(alloc, run, left.get(), &mut first, item, &mut between)?;
-            for given in between.into_vec() {
-                pass(alloc, run, right.get(), &mut second, given, out)?;
-            }
-            *kept = of_parts(alloc, first, second)?;
+            let mut between = Seq::new(walk.alloc);
+            pass(walk, left.get(), &mut first, item, &mut between)?;
+            pass_each(walk, right.get(), &mut second, between, out)?;
+            *kept = of_parts(walk.alloc, first, second)?;
             Ok(())
         }
         Net::Choice {
@@ -61,18 +63,12 @@ pub fn pass(
             faces,
             ..
         } => {
-            let (branch, taken) = match choose(net, *place, faces.as_slice(), item, out)? {
+            let (number, taken) = match choose(net, *place, faces.as_slice(), item, out)? {
                 Some(picked) => picked,
                 None => return Ok(()),
             };
             let nets = branches.as_slice();
-            let chosen = &nets[branch as usize];
-            let mut states = into_branches(replace(kept, Kept::Fresh), alloc);
-            let mut state = take_at(&mut states, branch as usize);
-            pass(alloc, run, chosen, &mut state, Flowing::Rec(taken), out)?;
-            put_at(&mut states, branch as usize, state)?;
-            *kept = Kept::Branches(states);
-            Ok(())
+            pass_branch(walk, &nets[number as usize], number, kept, taken, out)
         }
         Net::Star {
             place,
@@ -80,18 +76,7 @@ pub fn pass(
             exit,
             guard,
             ..
-        } => pass_star(
-            alloc,
-            run,
-            body.get(),
-            net,
-            *place,
-            exit,
-            guard,
-            kept,
-            item,
-            out,
-        ),
+        } => pass_star(walk, body.get(), net, *place, exit, guard, kept, item, out),
         Net::Split {
             place,
             body,
@@ -102,21 +87,82 @@ pub fn pass(
                 Some(picked) => picked,
                 None => return Ok(()),
             };
-            let mut replicas = into_replicas(replace(kept, Kept::Fresh), alloc);
-            let mut state = take_replica(&mut replicas, value);
-            pass(alloc, run, body.get(), &mut state, Flowing::Rec(taken), out)?;
-            put_replica(&mut replicas, value, state)?;
-            *kept = Kept::Replicas(replicas);
-            Ok(())
+            pass_replica(walk, body.get(), value, kept, taken, out)
         }
     }
 }
 
-/// The same of a star: what comes to its levels is worked off from a list, so that calls go no deeper than the body's tree.
+/// Items through a network, one behind the other.
+#[cycle(pass)]
+fn pass_each(
+    walk: &Walk,
+    net: &Net,
+    kept: &mut Kept,
+    items: Seq<Flowing>,
+    out: &mut Seq<Flowing>,
+) -> Result<(), Memory>
+    requires formed { FitsBoxes (boxes_of walk.now.run.now) net.now }
+    requires inputs { HasInputs walk.now }
+    ensures { OnOk result (PassesAll (tree (setting_of walk.now.run.now) net.now) (held kept.old) (held kept.new) (map flows items) (map flows out.old) (map flows out.new)) }
+{
+    for item in items.into_vec() {
+        pass(walk, net, kept, item, out)?;
+    }
+    Ok(())
+}
+
+/// A record through the branch of a number, with what is kept for it among the branches of its choice.
+#[cycle(pass)]
+fn pass_branch(
+    walk: &Walk,
+    branch: &Net,
+    number: u32,
+    kept: &mut Kept,
+    taken: Record,
+    out: &mut Seq<Flowing>,
+) -> Result<(), Memory>
+    requires formed { FitsBoxes (boxes_of walk.now.run.now) branch.now }
+    requires inputs { HasInputs walk.now }
+    ensures passes { OnOk result (Passes (tree (setting_of walk.now.run.now) branch.now) (child_of (held kept.old) (Branch number)) (child_of (held kept.new) (Branch number))
+        (model.Rec taken) (map flows out.old) (map flows out.new)) }
+    ensures others { OnOk result ((j : ℕ) → j ≢ number → child_of (held kept.new) (Branch j) ≡ child_of (held kept.old) (Branch j)) }
+{
+    let mut branches = into_branches(replace(kept, Kept::Fresh), walk.alloc);
+    let mut state = take_at(&mut branches, number as usize);
+    pass(walk, branch, &mut state, Flowing::Rec(taken), out)?;
+    put_at(&mut branches, number as usize, state)?;
+    *kept = Kept::Branches(branches);
+    Ok(())
+}
+
+/// A record through the replica for a value, with what is kept for it among the replicas of its split.
+#[cycle(pass)]
+fn pass_replica(
+    walk: &Walk,
+    body: &Net,
+    value: i64,
+    kept: &mut Kept,
+    taken: Record,
+    out: &mut Seq<Flowing>,
+) -> Result<(), Memory>
+    requires formed { FitsBoxes (boxes_of walk.now.run.now) body.now }
+    requires inputs { HasInputs walk.now }
+    ensures passes { OnOk result (Passes (tree (setting_of walk.now.run.now) body.now) (child_of (held kept.old) (Value value)) (child_of (held kept.new) (Value value))
+        (model.Rec taken) (map flows out.old) (map flows out.new)) }
+    ensures others { OnOk result ((k : ℤ) → int_eq k value ≡ false → child_of (held kept.new) (Value k) ≡ child_of (held kept.old) (Value k)) }
+{
+    let mut replicas = into_replicas(replace(kept, Kept::Fresh), walk.alloc);
+    let mut state = take_replica(&mut replicas, value);
+    pass(walk, body, &mut state, Flowing::Rec(taken), out)?;
+    put_replica(&mut replicas, value, state)?;
+    *kept = Kept::Replicas(replicas);
+    Ok(())
+}
+
+/// An item through a star: what comes to its levels is worked off from a list, so that calls go no deeper than the body's tree.
 #[cycle(pass)]
 fn pass_star(
-    alloc: Global,
-    run: &Run,
+    walk: &Walk,
     body: &Net,
     star: &Net,
     place: u32,
@@ -126,14 +172,15 @@ fn pass_star(
     item: Flowing,
     out: &mut Seq<Flowing>,
 ) -> Result<(), Memory>
-    requires formed { FitsBoxes (boxes_of run.now) body.now }
+    requires formed { FitsBoxes (boxes_of walk.now.run.now) body.now }
+    requires inputs { HasInputs walk.now }
     requires star { IsAtStar star.now place exit.now guard.now }
-    ensures { OnOk result ((m : SomeMerge) → Passes (level place m exit.now guard.now (tree (setting_of run.now) body.now) (depth_of run.now))
+    ensures { OnOk result ((m : SomeMerge) → Passes (level place m exit.now guard.now (tree (setting_of walk.now.run.now) body.now) (depth_of walk.now.run.now))
         (held kept.old) (held kept.new) (flows item) (map flows out.old) (map flows out.new)) }
 {
-    let depth = run.depth();
-    let mut levels = into_levels(replace(kept, Kept::Fresh), alloc);
-    let mut waiting = Vec::new(alloc);
+    let depth = walk.run.depth();
+    let mut levels = into_levels(replace(kept, Kept::Fresh), walk.alloc);
+    let mut waiting = Vec::new(walk.alloc);
     waiting.push(Waiting { level: 0, item })?;
     while let Some(next) = waiting.pop() {
         let Waiting { level, item } = next;
@@ -142,8 +189,8 @@ fn pass_star(
             None => continue,
         };
         let mut state = take_at(&mut levels, level as usize);
-        let mut made = Seq::new(alloc);
-        pass(alloc, run, body, &mut state, Flowing::Rec(taken), &mut made)?;
+        let mut made = Seq::new(walk.alloc);
+        pass(walk, body, &mut state, Flowing::Rec(taken), &mut made)?;
         put_at(&mut levels, level as usize, state)?;
         wait(&mut waiting, level + 1, made)?;
     }

@@ -1,10 +1,5 @@
-use Rattle.std.proofs.Common.{◌≡◌, ℤ, map, sym, ap, ◌∙◌}
-use Rattle.std.specs.Prelude.{unwrap_or}
-use Rattle.std.specs.BTreeMap.{get}
-use Rattle.std.specs.Ordering.{int_cmp}
-use Rattle.std.specs.Option.{option_map}
+use Rattle.std.proofs.Common.{sym, ap, ◌∙◌}
 use Rattle.sn_streams.specs.Keys.{Value}
-use Rattle.sn_pass.specs.Keeping as keeping
 use Rattle.sn_pass.specs.Keeping.{child_of}
 use Rattle.sn_pass.specs.States.{held}
 use Rattle.sn_pass.proofs.States.{empty_at, no_replicas, replica_held}
