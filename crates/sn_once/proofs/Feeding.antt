@@ -1,5 +1,5 @@
 -- An engine that is fed item by item.
-use Rattle.std.proofs.Common.{◌≡◌, List, [], ◌∷◌, ◌++◌, map, refl, sym, ap, ap₂, ◌∙◌, subst}
+use Rattle.std.proofs.Common.{◌≡◌, List, [], ◌∷◌, ◌++◌, map, sym, ap, ap₂, ◌∙◌, subst}
 use Rattle.std.specs.Prelude.{None, is_some}
 use Rattle.std.proofs.lemmas.List.{append-nil, append_assoc, map-append}
 use Rattle.sn_streams.specs.Machines.{emitted}
@@ -26,35 +26,33 @@ use Rattle.sn_once.proofs.Stuck.{first-behind, first-front, none_stuck}
 abbrev pub tree_of : Run → Network
 tree_of run = tree (setting_of run) (net_of run)
 
--- an engine that keeps nothing yet gives the one-thread meaning
-pub begins : (once : Once) (run : Run) → IsOf once run → held once.kept ≡ Fresh → (xs : List ModelItem) → rest_of once xs ≡ one_list (setting_of run) (net_of run) xs
-begins once run of fresh xs =
-    ap (λ (q : Keeping CellState). emitted (keeping (tree_of (run_of once))) q xs) fresh
-    ∙ sym (keeping_is_one (tree_of (run_of once)) xs)
+-- where nothing is kept yet, the network gives the one-thread meaning
+pub begins : (made run : Run) (kept : Keeping CellState) → made ≡ run → kept ≡ Fresh → (xs : List ModelItem) → emitted (keeping (tree_of made)) kept xs ≡ one_list (setting_of run) (net_of run) xs
+begins made run kept of fresh xs =
+    ap (λ (q : Keeping CellState). emitted (keeping (tree_of made)) q xs) fresh
+    ∙ sym (keeping_is_one (tree_of made) xs)
     ∙ ap (λ (r : Run). one_list (setting_of r) (net_of r) xs) of
 
-module _ (once : Once) (run : Run) (net : Net) (of : IsOf once run) (is_net : net ≡ net_of run) (later : Keeping CellState) (x : ModelItem) (none came : List ModelItem)
-    (empty : none ≡ []) (step : Passes (tree (setting_of run) net) (held once.kept) later x none came) where
+module _ (once : Once) (run : Run) (net : Net) (of : IsOf once run) (is_net : net ≡ net_of run) (later : Keeping CellState) (x y : ModelItem) (none came : List ModelItem)
+    (empty : none ≡ []) (is_item : y ≡ x) (step : Passes (tree (setting_of run) net) (held once.kept) later y none came) where
   -- the step, as one of the network of the engine's run
   own_step : Passes (tree_of (run_of once)) (held once.kept) later x [] came
   own_step =
       subst (λ (r : Run). Passes (tree_of r) (held once.kept) later x [] came) (sym of)
       (subst (λ (n : Net). Passes (tree (setting_of run) n) (held once.kept) later x [] came) is_net
-      (subst (λ (ys : List ModelItem). Passes (tree (setting_of run) net) (held once.kept) later x ys came) empty step))
+      (subst (λ (ys : List ModelItem). Passes (tree (setting_of run) net) (held once.kept) later x ys came) empty
+      (subst (λ (z : ModelItem). Passes (tree (setting_of run) net) (held once.kept) later z none came) is_item step)))
 
   -- what the engine gives for the item alone
   pub rest_one : rest_of once (x ∷ []) ≡ came
   rest_one = append-nil ((keeping (tree_of (run_of once))).emits (held once.kept) x) ∙ sym own_step.gives
 
   -- and what it still gives then
-  pub rest_more : (next : Once) → run_of next ≡ run_of once → held next.kept ≡ later → (given : List Item) → map modelled given ≡ came
-      → (xs : List ModelItem) → rest_of once (x ∷ xs) ≡ map modelled given ++ rest_of next xs
-  rest_more next same_run same_kept given gave xs =
+  pub rest_more : (given : List Item) → map modelled given ≡ came → (xs : List ModelItem) → rest_of once (x ∷ xs) ≡ map modelled given ++ emitted (keeping (tree_of (run_of once))) later xs
+  rest_more given gave xs =
       let t : Network = tree_of (run_of once) in
       ap₂ (λ ys zs. ys ++ zs) (sym own_step.gives ∙ sym gave)
-      (sym (same_emitted t later ((keeping t).next (held once.kept) x) own_step.keeps xs)
-      ∙ ap (λ (q : Keeping CellState). emitted (keeping t) q xs) (sym same_kept)
-      ∙ ap (λ (r : Run). emitted (keeping (tree_of r)) (held next.kept) xs) (sym same_run))
+      (sym (same_emitted t later ((keeping t).next (held once.kept) x) own_step.keeps xs))
 
   pub routed_one : first_stuck came ≡ None → first_stuck (rest_of once (x ∷ [])) ≡ None
   routed_one routed = ap first_stuck rest_one ∙ routed
@@ -78,6 +76,13 @@ tells_on once x xs fault tells =
     let t : Network = tree_of (run_of once) in
     tells_front ((keeping t).emits (held once.kept) x) (emitted (keeping t) ((keeping t).next (held once.kept) x) xs) fault
     (subst (λ ys. TellsFirst ys fault) (append-nil ((keeping t).emits (held once.kept) x)) tells)
+
+-- before the first item
+pub at_first : (once : Once) (run : Run) (out items left : List Item) → ((xs : List ModelItem) → rest_of once xs ≡ one_list (setting_of run) (net_of run) xs) → out ≡ [] → left ≡ items
+    → one_list (setting_of run) (net_of run) (map modelled items) ≡ map modelled out ++ rest_of once (map modelled left)
+at_first once run out items left rest empty same =
+    ap (λ (xs : List Item). one_list (setting_of run) (net_of run) (map modelled xs)) (sym same)
+    ∙ sym (ap (λ (ys : List Item). map modelled ys ++ rest_of once (map modelled left)) empty ∙ rest (map modelled left))
 
 module _ (whole : List ModelItem) where
   -- what was given so far, and what an engine still gives for the items that are left

@@ -3,7 +3,6 @@ ghost use Rattle.sn_net.specs.Item.{ModelItem, modelled};
 ghost use Rattle.sn_model.specs.Meaning.{one_list};
 ghost use Rattle.sn_model.specs.Run.{boxes_of, given, net_of, setting_of};
 ghost use Rattle.sn_pass.specs.Inputs.{input_sets as sets_of};
-ghost use Rattle.sn_once.specs.Rest.{IsOf, rest_of};
 ghost use Rattle.sn_once.specs.Stuck.{TellsFirst, first_stuck};
 
 use crate::fault::FeedFault;
@@ -30,6 +29,8 @@ pub struct Once {
 }
 
 impl Once {
+    ghost use Rattle.sn_once.specs.Rest.{IsOf, rest_of};
+
     /// An engine to which no item was fed yet.
     pub fn new(alloc: Global, run: &Run) -> Result<Once, Memory>
         ensures run { IfOk result (λ once. IsOf once run.now) }

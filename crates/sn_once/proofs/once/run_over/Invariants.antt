@@ -9,4 +9,4 @@ use Rattle.sn_once.proofs.once.run_over.Given as goal
 
 abbrev pub invariant-loop-item : goal.invariant-loop-item
 invariant-loop-item l =
-    IsOf l.once l.run × IsSoFar (one_list (setting_of l.run) (net_of l.run) (map modelled (into_iter_items l.initial.item-iterator))) l.once l.out (into_iter_items l.item-iterator)
+    IsOf l.once l.run × IsSoFar (one_list (setting_of l.run) (net_of l.run) (map modelled l.fn.items)) l.once l.out (into_iter_items l.item-iterator)
