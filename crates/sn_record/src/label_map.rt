@@ -44,12 +44,28 @@ impl<V> LabelMap<V> {
         }
     }
 
+    /// An empty map with room for so many entries.
+    pub fn with_capacity(alloc: Global, capacity: usize) -> Result<LabelMap<V>, Memory>
+        ensures { IfOk result (λ made. made ≡ map.empty) }
+    {
+        let entries = Vec::with_capacity(alloc, capacity)?;
+        Ok(LabelMap { entries })
+    }
+
     /// The map of entries that are in order. Takes no memory.
     pub fn from_sorted(entries: Vec<(Label, V)>) -> LabelMap<V>
         requires { IsTrue (is_sorted label_cmp entries.items) }
         ensures { result ≡ map.from_sorted entries.items }
     {
         LabelMap { entries }
+    }
+
+    /// The entries in the order of their labels. Takes no memory.
+    pub fn into_entries(self) -> Vec<(Label, V)>
+        ensures { result.items ≡ map.entries self }
+    {
+        let LabelMap { entries } = self;
+        entries
     }
 
     pub fn allocator(&self) -> Global {
@@ -96,11 +112,12 @@ impl<V> LabelMap<V> {
 }
 
 impl<V: Drop> LabelMap<V> {
-    /// The map of entries in any order. Of several at one label the first stays.
+    /// The map of entries in any order, with room for no more. Of several at one label the first stays.
     pub fn from_entries(entries: Vec<(Label, V)>) -> Result<LabelMap<V>, Memory>
         ensures { IfOk result (λ made. made ≡ map.from_entries entries.items) }
     {
-        let entries = in_order(&ByLabel, entries)?;
+        let mut entries = in_order(&ByLabel, entries)?;
+        entries.shrink_to_fit();
         Ok(LabelMap { entries })
     }
 

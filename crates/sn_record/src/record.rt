@@ -1,4 +1,4 @@
-ghost use Rattle.std.specs.Prelude.{◌≡◌, ◌<◌, ◌==◌, IfOk, IfErr, OnOk, OnErr, IfSome, IsTrue, ◌↔◌, slice_get};
+ghost use Rattle.std.specs.Prelude.{◌≡◌, ◌<◌, ◌==◌, IfOk, IfErr, OnOk, OnErr, IfSome, IsTrue, ◌↔◌, not, slice_get};
 ghost use Rattle.std.specs.Option.{option_copied};
 ghost use Rattle.std.specs.List.{All, filter};
 ghost use Rattle.std.specs.FinMap as map;
@@ -40,7 +40,7 @@ impl Model for Record {
 fn copy_all(alloc: Global, entries: &[(Label, Value)]) -> Result<Vec<(Label, Value)>, Memory>
     ensures { IfOk result (λ copies. copies.items ≡ entries.now) }
 {
-    let mut copies = Vec::new(alloc);
+    let mut copies = Vec::with_capacity(alloc, entries.len())?;
     for entry in entries {
         let value = entry.1.copy(alloc)?;
         copies.push((entry.0, value))?;
@@ -57,7 +57,8 @@ fn copy_within(
     ensures { IfOk result (λ copies.
         copies.items ≡ filter (λ entry. contains labels.now entry.0) entries.now) }
 {
-    let mut copies = Vec::new(alloc);
+    let most = entries.len().min(labels.len());
+    let mut copies = Vec::with_capacity(alloc, most)?;
     for entry in entries {
         if labels.contains(entry.0) {
             let value = entry.1.copy(alloc)?;
@@ -67,7 +68,17 @@ fn copy_within(
     Ok(copies)
 }
 
-/// A copy of each entry whose label is neither in `named` nor in `values`.
+/// How many entries `values` has with what it inherits of `entries`, where these have each label of `named` and none of
+/// `values` beside. Nothing where it inherits nothing then.
+fn room_of_whole(entries: &[(Label, Value)], named: &LabelSet, values: &LabelMap<Value>) -> usize {
+    let inherited = entries.len().saturating_sub(named.len());
+    if inherited == 0 {
+        return 0;
+    }
+    inherited.saturating_add(values.len())
+}
+
+/// A copy of each entry whose label is neither in `named` nor in `values`, and room for `values` beside them.
 fn copy_missing(
     alloc: Global,
     entries: &[(Label, Value)],
@@ -77,7 +88,7 @@ fn copy_missing(
     ensures { IfOk result (λ copies.
         copies.items ≡ filter (λ entry. is_missing named.now values.now entry.0) entries.now) }
 {
-    let mut copies = Vec::new(alloc);
+    let mut copies = Vec::with_capacity(alloc, room_of_whole(entries, named, values))?;
     for entry in entries {
         if !named.contains(entry.0) && values.get(entry.0).is_none() {
             let value = entry.1.copy(alloc)?;
@@ -85,6 +96,14 @@ fn copy_missing(
         }
     }
     Ok(copies)
+}
+
+/// The entries whose labels are not in `named`, where they stand.
+fn without_named(mut entries: Vec<(Label, Value)>, named: &LabelSet) -> Vec<(Label, Value)>
+    ensures { result.items ≡ filter (λ entry. not (contains named.now entry.0)) entries.items }
+{
+    entries.retain(|entry| !named.contains(entry.0));
+    entries
 }
 
 impl Record {
@@ -99,7 +118,15 @@ impl Record {
         }
     }
 
-    /// The record of entries in any order. Of several at one label the first stays.
+    /// The empty record with room for so many entries.
+    pub fn with_capacity(alloc: Global, capacity: usize) -> Result<Record, Memory>
+        ensures { IfOk result (λ made. made ≡ map.empty) }
+    {
+        let values = LabelMap::with_capacity(alloc, capacity)?;
+        Ok(Record { values })
+    }
+
+    /// The record of entries in any order, with room for no more. Of several at one label the first stays.
     pub fn from_entries(entries: Vec<(Label, Value)>) -> Result<Record, Memory>
         requires { All (λ entry. FitsLabel entry.0 entry.1) entries.items }
         ensures { IfOk result (λ made. made ≡ map.from_entries entries.items) }
@@ -194,6 +221,18 @@ impl Record {
         let Record { values } = self;
         let missing = copy_missing(values.allocator(), from.values.as_slice(), named, &values)?;
         let values = values.union(LabelMap::from_sorted(missing))?;
+        Ok(Record { values })
+    }
+
+    /// As `inheriting`, where `from` is given up: its entries are moved. Takes no memory where `self` or what it inherits is
+    /// empty.
+    pub fn inheriting_owned(self, from: Record, named: &LabelSet) -> Result<Record, Memory>
+        ensures { IfOk result (λ whole. whole ≡ inherit from named.now self) }
+    {
+        let Record { values } = self;
+        let Record { values: taken } = from;
+        let inherited = LabelMap::from_sorted(without_named(taken.into_entries(), named));
+        let values = values.union(inherited)?;
         Ok(Record { values })
     }
 

@@ -83,14 +83,12 @@ impl Value {
                 Ok(Value::Text(text))
             }
             Value::List(values) => {
-                let mut copies = Seq::new(alloc);
+                let mut copies = Vec::with_capacity(alloc, values.len())?;
                 for value in values.as_slice() {
                     let copy = value.copy(alloc)?;
-                    if let Err(_) = copies.push(copy) {
-                        return Err(Memory);
-                    }
+                    copies.push(copy)?;
                 }
-                Ok(Value::List(copies))
+                Ok(Value::List(Seq::from_vec(copies)))
             }
         }
     }
