@@ -4,4 +4,4 @@
 pub mod laws;
 mod line;
 
-pub use line::line_of;
+pub use line::{line_of, push_line};
