@@ -1,33 +1,94 @@
--- Items that are printed one after another.
-use Rattle.std.proofs.Common.{◌≡◌, ℕ, ◌+◌, ◌<◌, List, ◌∷◌, ◌++◌, length, get_or, drop, map, Option, sym, ap, ◌∙◌, subst, append_assoc}
-use Rattle.std.proofs.lemmas.List.{drop_more}
+-- What is printed of items that come one after another.
+use Rattle.std.proofs.Common.{◌≡◌, ℕ, List, [], ◌∷◌, ◌++◌, map, refl, sym, ap, ap₂, ◌∙◌, subst, append-nil, append_assoc}
+use Rattle.std.specs.Prelude.{Bool, true, false, Option, None, Some, is_some}
+use Rattle.sn_record.specs.declared.item.Fault.{Fault}
 use Rattle.sn_record.specs.declared.item.Item.{Item}
-use Rattle.sn_record.specs.declared.item.Item.TheVariants.{Rec}
+use Rattle.sn_record.specs.declared.item.Item.TheVariants as item
 use Rattle.sn_record.specs.Record.{Entries}
 use Rattle.sn_io.specs.Told.{appended, AppendsPrefix}
 use Rattle.sn_io.proofs.Told.{appended_twice, prefix_after, prefix_before}
 use Rattle.sn_net.specs.Item.{ModelItem, modelled}
 use Rattle.sn_output.specs.Line.{line}
 use Rattle.sn_output.specs.Printed.{printed, ending}
+use Rattle.sn_top.specs.Shown.{Shows}
+use Rattle.sn_top.specs.declared.transcript.Transcript.{Transcript}
 
--- the item at place i is a record
-module _ (names : List (List ℕ)) (items : List Item) (i : ℕ) (x : Item) (r : Entries) (within : i < length items) (at : x ≡ get_or items i x) (is : x ≡ Rec r) where
-  -- what is still to come from it on
-  abbrev after : List ModelItem
-  after = map modelled (drop (i + 1) items)
+module _ (names : List (List ℕ)) where
+  -- items behind some that no fault ends
+  printed_on : (before more : List Item) → ending (map modelled before) ≡ None → printed names (map modelled (before ++ more)) ≡ printed names (map modelled before) ++ printed names (map modelled more)
+  printed_on [] more none = refl
+  printed_on (item.Rec r ∷ before) more none =
+      ap (λ bytes. line names r ++ bytes) (printed_on before more none) ∙ sym (append_assoc (line names r) (printed names (map modelled before)) (printed names (map modelled more)))
+  printed_on (item.Fault fault ∷ before) more none = cc
 
-  here_first : {A : Type 0} (f : List ModelItem → A) → f (map modelled (drop i items)) ≡ f (modelled (Rec r) ∷ after)
-  here_first f = ap (λ xs. f (map modelled xs)) (drop_more items i x within ∙ ap (λ y. y ∷ drop (i + 1) items) (sym at)) ∙ ap (λ q. f (modelled q ∷ after)) is
+  -- items behind a fault
+  printed_ended : (before more : List Item) (fault : Fault) → ending (map modelled before) ≡ Some fault → printed names (map modelled (before ++ more)) ≡ printed names (map modelled before)
+  printed_ended [] more fault some = cc
+  printed_ended (item.Rec r ∷ before) more fault some = ap (λ bytes. line names r ++ bytes) (printed_ended before more fault some)
+  printed_ended (item.Fault at ∷ before) more fault some = refl
 
-  pub ending_more : ending (map modelled (drop i items)) ≡ ending (map modelled items) → ending after ≡ ending (map modelled items)
-  ending_more same = sym (here_first ending) ∙ same
+ending_on : (before more : List Item) → ending (map modelled before) ≡ None → ending (map modelled (before ++ more)) ≡ ending (map modelled more)
+ending_on [] more none = refl
+ending_on (item.Rec r ∷ before) more none = ending_on before more none
+ending_on (item.Fault fault ∷ before) more none = cc
 
-  module _ (done : List ℕ) (rest : done ++ printed names (map modelled (drop i items)) ≡ printed names (map modelled items)) (first before now : Option (List ℕ)) (was : before ≡ appended first done) where
-    pub rest_more : (done ++ line names r) ++ printed names after ≡ printed names (map modelled items)
-    rest_more = append_assoc done (line names r) (printed names after) ∙ ap (λ (bytes : List ℕ). done ++ bytes) (sym (here_first (printed names))) ∙ rest
+ending_ended : (before more : List Item) (fault : Fault) → ending (map modelled before) ≡ Some fault → ending (map modelled (before ++ more)) ≡ Some fault
+ending_ended [] more fault some = cc
+ending_ended (item.Rec r ∷ before) more fault some = ending_ended before more fault some
+ending_ended (item.Fault at ∷ before) more fault some = some
 
-    pub held_more : now ≡ appended before (line names r) → now ≡ appended first (done ++ line names r)
-    held_more got = got ∙ ap (λ (h : Option (List ℕ)). appended h (line names r)) was ∙ appended_twice first done (line names r)
+module _ (names : List (List ℕ)) (before : List Item) (old new : Transcript) (shows : Shows names (map modelled before) old) where
+  -- nothing is added behind a fault
+  ended_by : (more : List Item) (ended : Option Fault) → old.fault ≡ ended → is_some ended ≡ true → Shows names (map modelled (before ++ more)) old
+  ended_by more None is some = cc
+  ended_by more (Some fault) is some =
+      let by = sym shows.fault ∙ is in
+      record { text = shows.text ∙ sym (printed_ended names before more fault by); fault = is ∙ sym (ending_ended before more fault by) }
 
-    pub cut_there : AppendsPrefix before now (line names r) → AppendsPrefix first now (printed names (map modelled items))
-    cut_there part = subst (AppendsPrefix first now) rest_more (prefix_before first now (done ++ line names r) (printed names after) (prefix_after first before now done (line names r) was part))
+  pub behind_fault : (more : List Item) → is_some old.fault ≡ true → Shows names (map modelled (before ++ more)) old
+  behind_fault more some = ended_by more old.fault refl some
+
+  -- the line of a record is added
+  pub record_added : (r : Entries) → old.fault ≡ None → new.text ≡ old.text ++ line names r → new.fault ≡ old.fault → Shows names (map modelled (before ++ item.Rec r ∷ [])) new
+  record_added r none text same =
+      let on = sym shows.fault ∙ none in
+      record {
+        text =
+            text ∙ ap₂ (λ bytes more. bytes ++ more) shows.text (sym (append-nil (line names r)))
+            ∙ sym (printed_on names before (item.Rec r ∷ []) on);
+        fault = same ∙ none ∙ sym (ending_on before (item.Rec r ∷ []) on);
+      }
+
+  -- a fault ends the stream
+  pub fault_added : (fault : Fault) → old.fault ≡ None → new.text ≡ old.text → new.fault ≡ Some fault → Shows names (map modelled (before ++ item.Fault fault ∷ [])) new
+  fault_added fault none text is =
+      let on = sym shows.fault ∙ none in
+      record {
+        text = text ∙ shows.text ∙ sym (append-nil (printed names (map modelled before))) ∙ sym (printed_on names before (item.Fault fault ∷ []) on);
+        fault = is ∙ sym (ending_on before (item.Fault fault ∷ []) on);
+      }
+
+-- no fault ended it yet
+pub not_ended : (ended : Option Fault) → is_some ended ≡ false → ended ≡ None
+not_ended None is = refl
+not_ended (Some fault) is = cc
+
+-- one item more
+pub added_more : (names : List (List ℕ)) (before yielded : List Item) (x : Item) (new : Transcript)
+    → Shows names (map modelled ((before ++ yielded) ++ x ∷ [])) new → Shows names (map modelled (before ++ (yielded ++ x ∷ []))) new
+added_more names before yielded x new shows = subst (λ (items : List Item). Shows names (map modelled items) new) (append_assoc before yielded (x ∷ [])) shows
+
+-- a text that is written piece by piece: what was held, and what a piece adds
+module _ (first before now : Option (List ℕ)) (done line more rest whole : List ℕ) (was : before ≡ appended first done) (split : line ++ more ≡ rest) (left : done ++ rest ≡ whole) where
+  pub rest_left : (done ++ line) ++ more ≡ whole
+  rest_left = append_assoc done line more ∙ ap (λ (bytes : List ℕ). done ++ bytes) split ∙ left
+
+  pub held_more : now ≡ appended before line → now ≡ appended first (done ++ line)
+  held_more got = got ∙ ap (λ (h : Option (List ℕ)). appended h line) was ∙ appended_twice first done line
+
+  pub piece_cut : AppendsPrefix before now line → AppendsPrefix first now whole
+  piece_cut part = subst (AppendsPrefix first now) rest_left (prefix_before first now (done ++ line) more (prefix_after first before now done line was part))
+
+-- the last piece
+pub last_cut : (first before now : Option (List ℕ)) (done rest whole : List ℕ) → before ≡ appended first done → done ++ rest ≡ whole → AppendsPrefix before now rest → AppendsPrefix first now whole
+last_cut first before now done rest whole was left part = subst (AppendsPrefix first now) left (prefix_after first before now done rest was part)

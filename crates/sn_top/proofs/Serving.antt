@@ -1,12 +1,10 @@
 -- From what each step of a run gave to why it stopped, and what it printed.
-use Rattle.std.proofs.Common.{◌≡◌, ℕ, ◌<◌, ◌≤◌, List, length, map, Option, None, Some, refl, sym, ap, subst, arith, inl, inr}
+use Rattle.std.proofs.Common.{◌≡◌, ℕ, ◌<◌, ◌≤◌, List, length, Option, None, Some, refl, sym, ap, subst, arith, inl, inr}
 use Rattle.std.specs.Prelude.{Ok, IfSome, ◌⊎◌}
 use Rattle.sn_io.specs.Causes.{Rose}
 use Rattle.sn_io.specs.Told.{AppendsPrefix}
 use Rattle.sn_top.specs.declared.load.Program.{Program}
-use Rattle.sn_top.specs.declared.load.Answered.{Answered}
-use Rattle.sn_top.specs.declared.print.PrintFault.{PrintFault}
-use Rattle.sn_top.specs.declared.print.PrintFault.TheVariants as print_fault
+use Rattle.sn_top.specs.declared.transcript.Transcript.{Transcript}
 use Rattle.sn_top.specs.declared.status.Which.TheVariants.{Source, Input}
 use Rattle.sn_top.specs.declared.status.Refusal.TheVariants.{TooLarge, Source as SourceAt, NoMain, TooDeep, LargeTree, TooManyNames, Line, NotBuilt}
 use Rattle.sn_top.specs.declared.status.Refusal.{Refusal}
@@ -15,11 +13,9 @@ use Rattle.sn_top.specs.declared.status.Stop.TheVariants.{Refused, Faulted, Unre
 use Rattle.sn_top.specs.declared.serve.TheConstants.{SOURCE_LIMIT, INPUT_LIMIT}
 use Rattle.sn_top.specs.Seen.{Sink, File, SinkFailed, WhyUnread}
 use Rattle.sn_record.specs.declared.item.Fault.{Fault}
-use Rattle.sn_net.specs.Item.{modelled}
-use Rattle.sn_output.specs.Printed.{printed, ending}
 use Rattle.sn_top.specs.Load.{Limits, HasManyNames, HasNoRoute, HasWrongLine, IsAnswer, IsLoaded, WhyNoAnswer}
 use Rattle.sn_top.specs.Scope.{WhyUnloaded, WhyNoProgram}
-use Rattle.sn_top.specs.Answer.{IsAccepted, IsRefusedInput, IsRefusedSource, Printout, Prints, Finds, WhyStopped, print_stop}
+use Rattle.sn_top.specs.Answer.{IsAccepted, IsRefusedInput, IsRefusedSource, Printout, Prints, Finds, WhyStopped}
 
 -- what holds of the bytes that were read holds of those that are told
 pub of_told : (told : Option (List ℕ)) (bytes : List ℕ) (P : List ℕ → Type 0) → IfSome told (λ t. bytes ≡ t) → P bytes → IfSome told P
@@ -68,7 +64,7 @@ module _ (limits : Limits) (source input : File) (out : Sink) (same : out.now �
         (told_source (λ t. IsRefusedSource TooManyNames t ⊎ IsRefusedInput input.told HasManyNames t) (inl (read.within, why)), same)
     not_loaded (Refused (Line fault)) why = absurd why
     not_loaded (Faulted fault) why = absurd why
-    not_loaded (Refused NotBuilt) why = (told_source (λ t. IsRefusedSource NotBuilt t ⊎ IsRefusedInput input.told (HasNoRoute limits) t) (inl (read.within, why)), same)
+    not_loaded (Refused NotBuilt) why = absurd why
     not_loaded (Unread which) why = absurd why
     not_loaded Memory why = inl same
     not_loaded Write why = absurd why
@@ -115,35 +111,34 @@ module _ (limits : Limits) (source input : File) (out : Sink) (same : out.now �
         )
         no_answer (Refused (Line fault)) why = (told_source (IsRefusedInput input.told (HasWrongLine fault)) (refused_input (HasWrongLine fault) why), same)
         no_answer (Faulted fault) why = absurd why
-        no_answer (Refused NotBuilt) why = (told_source (λ t. IsRefusedSource NotBuilt t ⊎ IsRefusedInput input.told (HasNoRoute limits) t) (inr (refused_input (HasNoRoute limits) why)), same)
+        no_answer (Refused NotBuilt) why = (told_source (IsRefusedInput input.told (HasNoRoute limits)) (refused_input (HasNoRoute limits) why), same)
         no_answer (Unread which) why = absurd why
         no_answer Memory why = inl same
         no_answer Write why = absurd why
 
 module _ (limits : Limits) (source input : File) (bytes : List ℕ) (read : HasBytes source SOURCE_LIMIT bytes) (program : Program) (is : IsLoaded bytes program) (more : List ℕ) (has : HasBytes input INPUT_LIMIT more)
-    (answered : Answered) (answer : IsAnswer limits program more answered) where
-  -- what is printed of the items
+    (p : Transcript) (answer : IsAnswer limits program more p) where
+  -- what was printed, and the fault that ends it
   abbrev pub shown : Printout
-  shown = record { bytes = printed answered.names (map modelled answered.items); ending = ending (map modelled answered.items) }
+  shown = record { bytes = p.text; ending = p.fault }
 
   prints : Prints limits program more shown
   prints = record {
     within = has.within;
     input = answer.input;
     routed = answer.routed;
-    bytes_are = (λ i. printed (answer.names i) (sym answer.stream i));
-    ending_is = ap ending (sym answer.stream);
+    bytes_are = answer.shown.text;
+    ending_is = answer.shown.fault;
   }
 
   pub finds_shown : Finds limits source.told input.told (Ok shown)
   finds_shown =
-      of_told source.told bytes (λ t. (p : Program) × IsAccepted t p × IfSome input.told (λ m. Prints limits p m shown)) read.told
+      of_told source.told bytes (λ t. (q : Program) × IsAccepted t q × IfSome input.told (λ m. Prints limits q m shown)) read.told
       (program, accepted bytes program is read.within, of_told input.told more (λ m. Prints limits program m shown) has.told prints)
 
   -- what is found, by how it ends
-  pub finds_ending : (fault : Option Fault) → fault ≡ ending (map modelled answered.items) → Finds limits source.told input.told (Ok (record { bytes = printed answered.names (map modelled answered.items); ending = fault }))
-  finds_ending fault same = subst (λ e. Finds limits source.told input.told (Ok (record { bytes = printed answered.names (map modelled answered.items); ending = e }))) (sym same) finds_shown
+  pub finds_ending : (fault : Option Fault) → p.fault ≡ fault → Finds limits source.told input.told (Ok (record { bytes = p.text; ending = fault }))
+  finds_ending fault same = subst (λ e. Finds limits source.told input.told (Ok (record { bytes = p.text; ending = e }))) same finds_shown
 
-  pub not_printed : (out : Sink) (fault : PrintFault) → AppendsPrefix out.before out.now (printed answered.names (map modelled answered.items)) → (fault ≡ print_fault.Write → SinkFailed out) → WhyStopped limits source input out (print_stop fault)
-  not_printed out print_fault.Memory part failed = inr (shown, finds_shown, part)
-  not_printed out print_fault.Write part failed = (failed refl, (shown, finds_shown, part))
+  pub not_written : (out : Sink) → AppendsPrefix out.before out.now p.text → SinkFailed out → WhyStopped limits source input out Write
+  not_written out part failed = (failed, (shown, finds_shown, part))

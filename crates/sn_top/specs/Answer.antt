@@ -11,8 +11,6 @@ use Rattle.sn_top.specs.declared.status.Refusal.{Refusal}
 use Rattle.sn_top.specs.declared.status.Refusal.TheVariants.{TooLarge, Source as SourceAt, NoMain, TooDeep, LargeTree, TooManyNames, Line, NotBuilt}
 use Rattle.sn_top.specs.declared.status.Stop.{Stop}
 use Rattle.sn_top.specs.declared.status.Stop.TheVariants as stop
-use Rattle.sn_top.specs.declared.print.PrintFault.{PrintFault}
-use Rattle.sn_top.specs.declared.print.PrintFault.TheVariants as print_fault
 use Rattle.sn_top.specs.declared.serve.TheConstants.{SOURCE_LIMIT, INPUT_LIMIT}
 use Rattle.sn_top.specs.Source.{FindsSource}
 use Rattle.sn_top.specs.Status.{refusal_status, stop_line}
@@ -22,13 +20,13 @@ use Rattle.sn_record.specs.declared.item.Fault.{Fault}
 use Rattle.sn_input.specs.declared.input.Input.{Input as RecordFile}
 use Rattle.sn_output.specs.Printed.{printed, ending}
 use Rattle.sn_top.specs.Load.{Limits, limits_of, HasManyNames, HasNoRoute, HasWrongLine, stream_of, IsRouted}
-use Rattle.sn_top.specs.Scope.{IsStraight, WhyNoProgram}
+use Rattle.sn_top.specs.Scope.{IsProgram, WhyNoProgram}
 use Rattle.sn_top.specs.declared.load.Program.{Program}
 
--- the source is within the limit, and its main network is made of boxes and filters in series
+-- the source is within the limit, and spells the program
 pub record IsAccepted (bytes : List ℕ) (program : Program) : Type 0 where
   pub within : length bytes ≤ SOURCE_LIMIT
-  pub main : IsStraight bytes program
+  pub main : IsProgram bytes program
 
 -- what a command prints, and the fault that ends it, if there is one
 pub record Printout : Type 0 where
@@ -65,7 +63,7 @@ Finds limits source input (Err (TooDeep at)) = IfSome source (IsRefusedSource (T
 Finds limits source input (Err (LargeTree at)) = IfSome source (IsRefusedSource (LargeTree at))
 Finds limits source input (Err TooManyNames) = IfSome source (λ bytes. IsRefusedSource TooManyNames bytes ⊎ IsRefusedInput input HasManyNames bytes)
 Finds limits source input (Err (Line fault)) = IfSome source (IsRefusedInput input (HasWrongLine fault))
-Finds limits source input (Err NotBuilt) = IfSome source (λ bytes. IsRefusedSource NotBuilt bytes ⊎ IsRefusedInput input (HasNoRoute limits) bytes)
+Finds limits source input (Err NotBuilt) = IfSome source (IsRefusedInput input (HasNoRoute limits))
 Finds limits source input (Err (TooLarge Input)) = IfSome source (λ bytes. (program : Program) × IsAccepted bytes program × IfSome input (λ more. INPUT_LIMIT < length more))
 Finds limits source input (Ok p) = IfSome source (λ bytes. (program : Program) × IsAccepted bytes program × IfSome input (λ more. Prints limits program more p))
 
@@ -184,10 +182,6 @@ WhyUnprinted source out why = StoppedFor (FindsText source.told) (λ which. IsSo
 -- any command
 abbrev pub WhyEnded : Command → (List ℕ → File) → Sink → Stop → Type 0
 WhyEnded command file out why = StoppedFor (FindsFor command file) (UnreadFor command file) out why
-
-abbrev pub print_stop : PrintFault → Stop
-print_stop print_fault.Memory = stop.Memory
-print_stop print_fault.Write = stop.Write
 
 -- The clauses for words, which may be no command.
 pub record HasNoCommand (outside : Outside) (s : Status) : Type 0 where

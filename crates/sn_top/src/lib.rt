@@ -8,6 +8,7 @@ mod outside;
 mod print;
 mod serve;
 mod status;
+mod transcript;
 mod words;
 
 pub use serve::{INPUT_LIMIT, SOURCE_LIMIT, serve_plain, serve_words};

@@ -1,19 +1,21 @@
 //! From the bytes of a source and an input to the records that the network answers.
 ghost use Rattle.std.specs.Prelude.{◌≡◌, ◌≤◌, length, map, IfOk, IfErr};
 ghost use Rattle.sn_net.specs.Item.{modelled, Rec};
+ghost use Rattle.sn_net.specs.WellFormed.{FitsBoxes};
 ghost use Rattle.sn_scope.specs.Resolution.{parts_of};
-ghost use Rattle.sn_top.specs.Load.{AreLimits, limits_of, program_of, IsMain, IsLoaded, IsAnswer, IsRunnable, WhyNoAnswer, WhyNoMain};
+ghost use Rattle.sn_top.specs.Load.{AreLimits, limits_of, IsMain, IsLoaded, IsAnswer, WhyNoAnswer};
 ghost use Rattle.sn_top.specs.Scope.{WhyUnloaded};
 ghost use Rattle.sn_top.specs.declared.serve.TheConstants.{SOURCE_LIMIT, INPUT_LIMIT};
 
 use crate::status::{Refusal, Stop};
-use sn_input::read_records;
+use crate::transcript::{Transcript, print_run};
+use sn_input::{Input, read_records};
 use sn_lexer::lex;
 use sn_list::{Memory, Seq};
 use sn_model::Run;
 use sn_names::Names;
 use sn_net::{Boxes, Claim, Net};
-use sn_once::{FeedFault, run_over};
+use sn_once::FeedFault;
 use sn_parser::parse;
 use sn_record::{Item, Items, Record};
 use sn_scope::{Parts, Resolved, resolve};
@@ -31,13 +33,6 @@ pub struct Program {
     pub net: Net,
 }
 
-/// The items that a network answered, and the names of their labels.
-#[derive(Drop)]
-pub struct Answered {
-    pub names: Names,
-    pub items: Items,
-}
-
 impl From<FeedFault> for Stop {
     ghost use Rattle.std.specs.Prelude.{◌≡◌};
     ghost use Rattle.sn_top.specs.Load.{feed_stop};
@@ -52,10 +47,9 @@ impl From<FeedFault> for Stop {
     }
 }
 
-/// The names, the boxes and the main network of what a source is resolved to. Boxes and filters in series are built so far.
-fn main_of(resolved: Resolved) -> Result<Program, Stop>
-    ensures ok { IfOk result (IsMain (parts_of resolved)) }
-    ensures refused { IfErr result (WhyNoMain (parts_of resolved)) }
+/// The names, the boxes and the main network of what a source is resolved to.
+fn main_of(resolved: Resolved) -> Program
+    ensures { IsMain (parts_of resolved) result }
 {
     let Parts {
         names,
@@ -66,10 +60,10 @@ fn main_of(resolved: Resolved) -> Result<Program, Stop>
     let mut claims = claims.into_vec();
     let claim = claims.swap_remove(main as usize);
     let Claim { net, .. } = claim;
-    Ok(Program { names, boxes, net })
+    Program { names, boxes, net }
 }
 
-/// The program of a source whose main network is made of boxes and filters in series.
+/// The program of a source.
 pub fn load_source(alloc: Global, bytes: &[u8]) -> Result<Program, Stop>
     requires { length bytes.now ≤ SOURCE_LIMIT }
     ensures loaded { IfOk result (IsLoaded bytes.now) }
@@ -78,7 +72,7 @@ pub fn load_source(alloc: Global, bytes: &[u8]) -> Result<Program, Stop>
     let tokens = lex(alloc, bytes)?;
     let tree = parse(alloc, bytes, tokens.as_slice())?;
     let resolved = resolve(alloc, &tree)?;
-    main_of(resolved)
+    Ok(main_of(resolved))
 }
 
 /// The records as items that flow.
@@ -92,28 +86,25 @@ fn items_of(alloc: Global, records: Seq<Record>) -> Result<Items, Memory>
     Ok(items)
 }
 
-/// The items that a program answers to the records of an input, whose new names go to the end of its own. The fuel is that of
-/// each call of a box, and the depth how many replicas a star may have.
+/// What a program prints for the records of an input, whose new names go to the end of its own. The fuel is that of each call of
+/// a box, and the depth how many replicas a star may have.
 pub fn answer_input(
     alloc: Global,
     program: Program,
     fuel: u64,
     depth: u32,
     bytes: &[u8],
-) -> Result<Answered, Stop>
+) -> Result<Transcript, Stop>
     requires limits { AreLimits (limits_of fuel depth) }
-    requires runnable { IsRunnable program.boxes program.net }
+    requires formed { FitsBoxes program.boxes program.net }
     requires within { length bytes.now ≤ INPUT_LIMIT }
     ensures answered { IfOk result (IsAnswer (limits_of fuel depth) program bytes.now) }
     ensures ended { IfErr result (WhyNoAnswer (limits_of fuel depth) program bytes.now) }
 {
     let Program { names, boxes, net } = program;
-    let input = read_records(alloc, bytes, names)?;
-    let items = items_of(alloc, input.records)?;
+    let Input { records, names, .. } = read_records(alloc, bytes, names)?;
+    let items = items_of(alloc, records)?;
     let run = Run::new(net, boxes, fuel, depth, DEFAULT_QUEUE, Items::new(alloc));
-    let items = run_over(alloc, &run, items)?;
-    Ok(Answered {
-        names: input.names,
-        items,
-    })
+    let printed = print_run(alloc, &run, &names, items)?;
+    Ok(printed)
 }

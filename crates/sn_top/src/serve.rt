@@ -11,7 +11,7 @@ ghost use Rattle.sn_top.specs.Answer.{seen, whole, Finds, FindsFor, FindsText, W
 use crate::canonical::canonical_text;
 use crate::load::{answer_input, load_source};
 use crate::outside::{read_file, write_line};
-use crate::print::print_items;
+use crate::print::write_lines;
 use crate::status::{Status, Stop, Which};
 use crate::words::{Command, WordsFault, read_words, usage_line};
 use itoa::Buffer;
@@ -51,8 +51,9 @@ fn run_once<F: Files, O: Sink>(
     let source = read_file(alloc, files, Which::Source, source_name, SOURCE_LIMIT)?;
     let program = load_source(alloc, source.as_slice())?;
     let input = read_file(alloc, files, Which::Input, input_name, INPUT_LIMIT)?;
-    let answered = answer_input(alloc, program, fuel, depth, input.as_slice())?;
-    match print_items(alloc, &answered.names, answered.items.as_slice(), out)? {
+    let printed = answer_input(alloc, program, fuel, depth, input.as_slice())?;
+    write_lines(printed.text.as_slice(), out)?;
+    match printed.fault {
         None => Ok(()),
         Some(fault) => Err(Stop::Faulted(fault)),
     }
