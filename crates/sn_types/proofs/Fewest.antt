@@ -37,7 +37,7 @@ not_same s t fails over under = which (and_cases (is_subset s t) (is_subset t s)
     which (inl e) = no_subset s t e over
     which (inr e) = no_subset t s e under
 
--- where no element passes, one of them does not
+-- where no element passes a test, each of them fails it
 passed_by : (test : Labels → Bool) (vs : List Labels) → list_any test vs ≡ false → (v : Labels) → Contains vs v → test v ≡ false
 passed_by test vs none v there =
     elim (test v) as (λ b. test v ≡ b → b ≡ false) [
