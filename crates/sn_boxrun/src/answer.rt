@@ -59,6 +59,26 @@ fn inheriting(
     Ok(items)
 }
 
+/// As `inheriting`, of a record that is given up: the last record that was emitted takes what it inherits out of it, and
+/// the earlier ones copy it.
+fn inheriting_owned(
+    alloc: Global,
+    input: &LabelSet,
+    taken: Record,
+    emitted: Seq<Record>,
+) -> Result<Items, Memory>
+    ensures { IfOk result (λ items. map modelled items ≡ map (inherited taken input.now) emitted) }
+{
+    let mut emitted = emitted.into_vec();
+    let Some(last) = emitted.pop() else {
+        return Ok(Items::new(alloc));
+    };
+    let mut items = inheriting(alloc, input, &taken, Seq::from_vec(emitted))?;
+    let whole = last.inheriting_owned(taken, input)?;
+    append(&mut items, Item::Rec(whole))?;
+    Ok(items)
+}
+
 /// Appends the fault, if there was one, at the place.
 fn add_fault(items: &mut Items, place: u32, fault: Option<FaultKind>) -> Result<(), Memory>
     ensures { OnOk result (map modelled items.new ≡ map modelled items.old ++ fault_items place fault) }
@@ -93,12 +113,15 @@ pub fn call_owned(
     alloc: Global,
     b: &BoxProgram,
     place: u32,
-    _input: &LabelSet,
+    input: &LabelSet,
     taken: Record,
     fuel: u64,
 ) -> Result<Items, Memory>
-    requires { _input.now ≡ variant_of b.now.input }
+    requires { input.now ≡ variant_of b.now.input }
     ensures { IfOk result (λ items. map modelled items ≡ box_answer b.now place taken fuel) }
 {
-    call(alloc, b, place, &taken, fuel)
+    let (emitted, fault) = evaluate(alloc, b, &taken, fuel)?;
+    let mut items = inheriting_owned(alloc, input, taken, emitted)?;
+    add_fault(&mut items, place, fault)?;
+    Ok(items)
 }

@@ -1,13 +1,14 @@
-ghost use Rattle.std.specs.Prelude.{◌≡◌, ◌++◌, ◌∷◌, [], map, IfOk, OnOk};
+ghost use Rattle.std.specs.Prelude.{◌≡◌, ◌++◌, ◌∷◌, [], map, All, IfOk, OnOk};
 ghost use Rattle.sn_record.specs.Record.{Matches};
-ghost use Rattle.sn_net.specs.Filter.{IsClosed};
+ghost use Rattle.sn_net.specs.Filter.{IsClosed, IsClosedTemplate};
 ghost use Rattle.sn_net.specs.Item.{modelled};
-ghost use Rattle.sn_net.specs.Answer.{fault_at as model_fault, filter_answer};
+ghost use Rattle.sn_net.specs.Answer.{fault_at as model_fault, filter_answer, template_record as answered_record};
+ghost use Rattle.sn_filter.specs.Outcome.{Outcome, Gives, Adds};
 
 use crate::outcome::Stop;
-use crate::template::template_record;
+use crate::template::{template_record, template_record_owned};
 use sn_list::Memory;
-use sn_net::Filter;
+use sn_net::{Filter, Template};
 use sn_record::{Fault, FaultKind, Item, Items, Record};
 use sn_tagexpr::ExprFault;
 use std::alloc::Global;
@@ -33,6 +34,56 @@ fn push(items: &mut Items, item: Item) -> Result<(), Memory>
     }
 }
 
+/// Appends what comes of a template: its record, or its fault at the filter's place. Answers whether it is a record,
+/// since nothing comes behind a fault.
+fn add(items: &mut Items, place: u32, made: Result<Record, Stop>) -> Result<bool, Memory>
+    ensures { (outcome : Outcome) → Gives outcome made
+        → IfOk result (Adds place (outcome ∷ []) (map modelled items.old) (map modelled items.new)) }
+{
+    match made {
+        Ok(made) => {
+            push(items, Item::Rec(made))?;
+            Ok(true)
+        }
+        Err(Stop::Faulted(fault)) => {
+            push(items, Item::Fault(fault_at(place, fault)))?;
+            Ok(false)
+        }
+        Err(Stop::Memory) => Err(Memory),
+    }
+}
+
+/// Appends the record of each template, up to the first fault, which stands at the filter's place. Answers whether there
+/// was none.
+fn add_each(
+    alloc: Global,
+    items: &mut Items,
+    f: &Filter,
+    templates: &[Template],
+    taken: &Record,
+) -> Result<bool, Memory>
+    requires closed { All (IsClosedTemplate f.now.pattern) templates.now }
+    requires matches { Matches taken.now f.now.pattern }
+    ensures { IfOk result (Adds f.now.place (map (answered_record taken.now f.now.pattern) templates.now)
+        (map modelled items.old) (map modelled items.new)) }
+{
+    for template in templates {
+        let made = template_record(alloc, template, &f.pattern, taken);
+        if !add(items, f.place, made)? {
+            return Ok(false);
+        }
+    }
+    Ok(true)
+}
+
+/// No items yet, and room for one of each template.
+fn no_items(alloc: Global, f: &Filter) -> Result<Items, Memory>
+    ensures { IfOk result (λ items. items ≡ []) }
+{
+    let items = Vec::with_capacity(alloc, f.templates.len())?;
+    Ok(Items::from_vec(items))
+}
+
 /// What a filter answers to a record that matches its pattern: the record of each template, in order. The first part
 /// that faults ends the list with its fault, which stands at the filter's place.
 pub fn apply(alloc: Global, f: &Filter, r: &Record) -> Result<Items, Memory>
@@ -40,25 +91,26 @@ pub fn apply(alloc: Global, f: &Filter, r: &Record) -> Result<Items, Memory>
     requires matches { Matches r.now f.now.pattern }
     ensures { IfOk result (λ items. map modelled items ≡ filter_answer f.now r.now) }
 {
-    let mut items = Items::new(alloc);
-    for template in f.templates.as_slice() {
-        match template_record(alloc, template, &f.pattern, r) {
-            Ok(made) => push(&mut items, Item::Rec(made))?,
-            Err(Stop::Faulted(fault)) => {
-                push(&mut items, Item::Fault(fault_at(f.place, fault)))?;
-                return Ok(items);
-            }
-            Err(Stop::Memory) => return Err(Memory),
-        }
-    }
+    let mut items = no_items(alloc, f)?;
+    add_each(alloc, &mut items, f, f.templates.as_slice(), r)?;
     Ok(items)
 }
 
-/// As `apply`, of a record that is given up.
+/// As `apply`, of a record that is given up: the last template's record takes what it inherits out of it, and those of
+/// the earlier ones copy it.
 pub fn apply_owned(alloc: Global, f: &Filter, taken: Record) -> Result<Items, Memory>
     requires closed { IsClosed f.now }
     requires matches { Matches taken f.now.pattern }
     ensures { IfOk result (λ items. map modelled items ≡ filter_answer f.now taken) }
 {
-    apply(alloc, f, &taken)
+    let mut items = no_items(alloc, f)?;
+    let Some((last, earlier)) = f.templates.as_slice().split_last() else {
+        return Ok(items);
+    };
+    if !add_each(alloc, &mut items, f, earlier, &taken)? {
+        return Ok(items);
+    }
+    let made = template_record_owned(alloc, last, &f.pattern, taken);
+    add(&mut items, f.place, made)?;
+    Ok(items)
 }

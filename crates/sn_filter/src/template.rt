@@ -59,7 +59,8 @@ fn set_value(made: &mut Record, label: Label, value: Option<Value>) -> Result<()
     }
 }
 
-/// The record in which the parts are set, from left to right.
+/// The record in which the parts are set, from left to right. It has room for them and no more: where it inherits, its
+/// entries are moved to those that it inherits.
 fn record_of(
     alloc: Global,
     parts: &[Part],
@@ -70,7 +71,7 @@ fn record_of(
     requires matches { Matches taken.now pattern.now }
     ensures { Gives (with_parts taken.now parts.now empty) result }
 {
-    let mut made = Record::new(alloc);
+    let mut made = Record::with_capacity(alloc, parts.len())?;
     for part in parts {
         let value = value_of(alloc, part, pattern, taken)?;
         set_value(&mut made, part.target(), value)?;
@@ -91,4 +92,19 @@ pub fn template_record(
 {
     let made = record_of(alloc, template.parts.as_slice(), pattern, taken)?;
     Ok(made.inheriting(taken, pattern)?)
+}
+
+/// As `template_record`, of a record that is given up once each part has its value.
+pub fn template_record_owned(
+    alloc: Global,
+    template: &Template,
+    pattern: &LabelSet,
+    taken: Record,
+) -> Result<Record, Stop>
+    requires from { All (λ part. IsTrue (is_from pattern.now part)) template.now.parts }
+    requires matches { Matches taken pattern.now }
+    ensures { Gives (answered_record taken pattern.now template.now) result }
+{
+    let made = record_of(alloc, template.parts.as_slice(), pattern, &taken)?;
+    Ok(made.inheriting_owned(taken, pattern)?)
 }

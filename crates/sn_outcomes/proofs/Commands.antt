@@ -1,7 +1,7 @@
 -- A command and its files are found to be one thing, where the bytes of the files are told.
 use Rattle.std.proofs.Common.{ℕ, List, ◌≡◌, ◌<◌, ◌≤◌, refl, sym, ◌∙◌, ap, subst, inl, inr, length, arith}
 use Rattle.std.specs.Prelude.{Result, Ok, Err, Option, Some}
-use Rattle.sn_outcomes.proofs.Loaded.{IsFound, found_once, straight_found, refused_found}
+use Rattle.sn_outcomes.proofs.Loaded.{IsFound, found_once, program_found, refused_found}
 use Rattle.sn_outcomes.proofs.Inputs.{Found, printout, Comes, comes_once, refusal_comes, routed_comes}
 use Rattle.sn_outcomes.proofs.Sources.{text_once}
 use Rattle.sn_outcomes.specs.Told.{AreTold}
@@ -56,11 +56,11 @@ wrong_source : (limits : Limits) (bytes more : List ℕ) (refusal : Refusal) →
 wrong_source limits bytes more refusal r = Goes.refused refusal r.0 (refused_found bytes refusal r.1)
 
 wrong_input : (limits : Limits) (bytes more : List ℕ) (refusal : Refusal) → IsRefusedInput (Some more) (λ program more. WhyNoItems limits program more refusal) bytes → Goes limits bytes more (Err refusal)
-wrong_input limits bytes more refusal r = Goes.accepted r.0 r.1.within (straight_found bytes r.0 r.1.main) (Feeds.fed r.2.0 (refusal_comes limits r.0 more refusal r.2.1))
+wrong_input limits bytes more refusal r = Goes.accepted r.0 r.1.within (program_found bytes r.0 r.1.main) (Feeds.fed r.2.0 (refusal_comes limits r.0 more refusal r.2.1))
 
 goes : (limits : Limits) (bytes more : List ℕ) (found : Found) → Finds limits (Some bytes) (Some more) found → Goes limits bytes more found
 goes limits bytes more (Err (TooLarge Source)) f = Goes.large f
-goes limits bytes more (Err (TooLarge InputFile)) f = Goes.accepted f.0 f.1.within (straight_found bytes f.0 f.1.main) (Feeds.large f.2)
+goes limits bytes more (Err (TooLarge InputFile)) f = Goes.accepted f.0 f.1.within (program_found bytes f.0 f.1.main) (Feeds.large f.2)
 goes limits bytes more (Err (SourceAt fault at)) f = wrong_source limits bytes more (SourceAt fault at) f
 goes limits bytes more (Err NoMain) f = wrong_source limits bytes more NoMain f
 goes limits bytes more (Err (TooDeep at)) f = wrong_source limits bytes more (TooDeep at) f
@@ -68,12 +68,11 @@ goes limits bytes more (Err (LargeTree at)) f = wrong_source limits bytes more (
 goes limits bytes more (Err TooManyNames) (inl f) = wrong_source limits bytes more TooManyNames f
 goes limits bytes more (Err TooManyNames) (inr f) = wrong_input limits bytes more TooManyNames f
 goes limits bytes more (Err (Line fault)) f = wrong_input limits bytes more (Line fault) f
-goes limits bytes more (Err NotBuilt) (inl f) = wrong_source limits bytes more NotBuilt f
-goes limits bytes more (Err NotBuilt) (inr f) = wrong_input limits bytes more NotBuilt f
+goes limits bytes more (Err NotBuilt) f = wrong_input limits bytes more NotBuilt f
 goes limits bytes more (Ok p) f =
     let prints = f.2 in
     let fields : p ≡ printout limits f.0 prints.input = λ i. record { bytes = prints.bytes_are i; ending = prints.ending_is i } in
-    Goes.accepted f.0 f.1.within (straight_found bytes f.0 f.1.main)
+    Goes.accepted f.0 f.1.within (program_found bytes f.0 f.1.main)
     (Feeds.fed prints.within (subst (λ x. Comes limits f.0 more (Ok x)) (sym fields) (routed_comes limits f.0 more prints.input prints.routed)))
 
 finds_once : (limits : Limits) (bytes more : List ℕ) (source input : Option (List ℕ)) (found other : Found) → source ≡ Some bytes → input ≡ Some more →

@@ -1,16 +1,15 @@
 -- The bytes of a source are resolved to one program, or refused for one thing.
-use Rattle.std.proofs.Common.{ℕ, List, ◌≡◌, Bool, true, false, refl, sym, ◌∙◌, ap}
+use Rattle.std.proofs.Common.{ℕ, List, ◌≡◌, refl, sym, ◌∙◌, ap}
 use Rattle.std.specs.Prelude.{Result, Ok, Err, Option, Some, None, slice_get}
 use Rattle.sn_ast.specs.declared.declaration.Program.{Program as Tree}
 use Rattle.sn_net.specs.declared.net.Claim.{Claim}
-use Rattle.sn_once.specs.Straight.{is_straight}
 use Rattle.sn_outcomes.proofs.Sources.{IsRead, read_once, wrong_read, deep_read}
 use Rattle.sn_scope.specs.Resolution.{resolution}
 use Rattle.sn_scope.specs.declared.resolved.Parts.{Parts}
 use Rattle.sn_scope.specs.declared.resolution.ScopeFault.{ScopeFault}
 use Rattle.sn_scope.specs.declared.resolution.ScopeFault.TheVariants as scope
 use Rattle.sn_top.specs.Load.{program_of}
-use Rattle.sn_top.specs.Scope.{IsUnresolved, IsStraight, IsWrongAt, WhyNoProgram}
+use Rattle.sn_top.specs.Scope.{IsUnresolved, IsProgram, IsWrongAt, WhyNoProgram}
 use Rattle.sn_top.specs.declared.load.Program.{Program}
 use Rattle.sn_top.specs.declared.status.Refusal.{Refusal}
 use Rattle.sn_top.specs.declared.status.Refusal.TheVariants.{TooLarge, Source as SourceAt, NoMain, TooDeep, LargeTree, TooManyNames, Line, NotBuilt}
@@ -28,13 +27,9 @@ scope_refusal (scope.TooLarge at) = LargeTree at
 scope_refusal scope.TooManyNames = TooManyNames
 scope_refusal scope.Memory = NotBuilt
 
-abbrev straight_program : Parts → Claim → Bool → Result Program Refusal
-straight_program resolved claim true = Ok (program_of resolved.names resolved.boxes claim.net)
-straight_program resolved claim false = Err NotBuilt
-
 abbrev with_claim : Parts → Option Claim → Result Program Refusal
 with_claim resolved None = Err NotBuilt
-with_claim resolved (Some claim) = straight_program resolved claim (is_straight claim.net)
+with_claim resolved (Some claim) = Ok (program_of resolved.names resolved.boxes claim.net)
 
 abbrev of_resolved : Result Parts ScopeFault → Result Program Refusal
 of_resolved (Ok resolved) = with_claim resolved (slice_get resolved.claims resolved.main)
@@ -68,19 +63,18 @@ wrong_found bytes refusal r = record { read = Err refusal; is_read = r; is = sym
 unresolved_found : (bytes : List ℕ) (fault : ScopeFault) → IsUnresolved bytes fault → IsFound bytes (Err (scope_refusal fault))
 unresolved_found bytes fault u = record { read = Ok u.tree; is_read = IsRead.tree u.read; is = sym (loaded_tree u.tree (Err fault) u.refused) }
 
-claim_found : (resolved : Parts) (claim : Claim) (straight : Bool) → slice_get resolved.claims resolved.main ≡ Some claim → is_straight claim.net ≡ straight →
-    of_resolved (Ok resolved) ≡ straight_program resolved claim straight
-claim_found resolved claim straight main is = ap (with_claim resolved) main ∙ ap (straight_program resolved claim) is
+claim_found : (resolved : Parts) (claim : Claim) → slice_get resolved.claims resolved.main ≡ Some claim →
+    of_resolved (Ok resolved) ≡ Ok (program_of resolved.names resolved.boxes claim.net)
+claim_found resolved claim main = ap (with_claim resolved) main
 
-pub straight_found : (bytes : List ℕ) (program : Program) → IsStraight bytes program → IsFound bytes (Ok program)
-straight_found bytes program s =
+pub program_found : (bytes : List ℕ) (program : Program) → IsProgram bytes program → IsFound bytes (Ok program)
+program_found bytes program s =
     let r = s.resolved in
-    let straight : is_straight s.claim.net ≡ true = ap is_straight (sym s.net_is) ∙ s.straight in
     let fields : program ≡ program_of r.resolved.names r.resolved.boxes s.claim.net = λ i. record { names = r.names_are i; boxes = r.boxes_are i; net = s.net_is i } in
     record {
       read = Ok r.tree;
       is_read = IsRead.tree r.read;
-      is = ap Ok fields ∙ sym (loaded_tree r.tree (Ok r.resolved) r.is ∙ claim_found r.resolved s.claim true r.main straight);
+      is = ap Ok fields ∙ sym (loaded_tree r.tree (Ok r.resolved) r.is ∙ claim_found r.resolved s.claim r.main);
     }
 
 wrong_at : (bytes : List ℕ) (fault : SourceFault) (at : ℕ) → IsWrongAt bytes fault at → IsFound bytes (Err (SourceAt fault at))
@@ -102,17 +96,11 @@ refused_found bytes (TooDeep at) w = wrong_found bytes (TooDeep at) (deep_read b
 refused_found bytes (LargeTree at) w = unresolved_found bytes (scope.TooLarge at) w
 refused_found bytes TooManyNames w = unresolved_found bytes scope.TooManyNames w
 refused_found bytes (Line fault) w = absurd w
-refused_found bytes NotBuilt w =
-    let r = w.resolved in
-    record {
-      read = Ok r.tree;
-      is_read = IsRead.tree r.read;
-      is = sym (loaded_tree r.tree (Ok r.resolved) r.is ∙ claim_found r.resolved w.claim false r.main w.other);
-    }
+refused_found bytes NotBuilt w = absurd w
 
-pub same_program : (bytes : List ℕ) (program other : Program) → IsStraight bytes program → IsStraight bytes other → program ≡ other
+pub same_program : (bytes : List ℕ) (program other : Program) → IsProgram bytes program → IsProgram bytes other → program ≡ other
 same_program bytes program other p q =
-    let same = found_once bytes (Ok program) (Ok other) (straight_found bytes program p) (straight_found bytes other q) in
+    let same = found_once bytes (Ok program) (Ok other) (program_found bytes program p) (program_found bytes other q) in
     cc
 
 pub same_refusal : (bytes : List ℕ) (refusal other : Refusal) → WhyNoProgram bytes refusal → WhyNoProgram bytes other → refusal ≡ other
@@ -120,7 +108,7 @@ same_refusal bytes refusal other r s =
     let same = found_once bytes (Err refusal) (Err other) (refused_found bytes refusal r) (refused_found bytes other s) in
     cc
 
-pub program_or_refusal : (bytes : List ℕ) (program : Program) (refusal : Refusal) → IsStraight bytes program → WhyNoProgram bytes refusal → ⊥
+pub program_or_refusal : (bytes : List ℕ) (program : Program) (refusal : Refusal) → IsProgram bytes program → WhyNoProgram bytes refusal → ⊥
 program_or_refusal bytes program refusal p r =
-    let same = found_once bytes (Ok program) (Err refusal) (straight_found bytes program p) (refused_found bytes refusal r) in
+    let same = found_once bytes (Ok program) (Err refusal) (program_found bytes program p) (refused_found bytes refusal r) in
     absurd cc

@@ -1,7 +1,7 @@
 -- A refusal of the source stands alone, whatever is told of the input.
 use Rattle.std.proofs.Common.{ℕ, List, ◌≡◌, ◌<◌, ◌≤◌, refl, ap, inl, inr, length, arith}
 use Rattle.std.specs.Prelude.{Result, Ok, Err, Option, Some}
-use Rattle.sn_outcomes.proofs.Loaded.{IsFound, found_once, straight_found, refused_found}
+use Rattle.sn_outcomes.proofs.Loaded.{IsFound, found_once, program_found, refused_found}
 use Rattle.sn_outcomes.specs.Told.{IsOfSource}
 use Rattle.sn_top.specs.Answer.{Printout, IsRefusedSource, Finds}
 use Rattle.sn_top.specs.Load.{Limits}
@@ -25,17 +25,16 @@ wrong_source bytes refusal r = Judged.refused refusal r.0 (refused_found bytes r
 
 judged : (limits : Limits) (bytes : List ℕ) (input : Option (List ℕ)) (found : Found) → Finds limits (Some bytes) input found → Judged bytes found
 judged limits bytes input (Err (TooLarge Source)) f = Judged.large f
-judged limits bytes input (Err (TooLarge Input)) f = Judged.accepted (Err (TooLarge Input)) f.0 f.1.within (straight_found bytes f.0 f.1.main)
+judged limits bytes input (Err (TooLarge Input)) f = Judged.accepted (Err (TooLarge Input)) f.0 f.1.within (program_found bytes f.0 f.1.main)
 judged limits bytes input (Err (SourceAt fault at)) f = wrong_source bytes (SourceAt fault at) f
 judged limits bytes input (Err NoMain) f = wrong_source bytes NoMain f
 judged limits bytes input (Err (TooDeep at)) f = wrong_source bytes (TooDeep at) f
 judged limits bytes input (Err (LargeTree at)) f = wrong_source bytes (LargeTree at) f
 judged limits bytes input (Err TooManyNames) (inl f) = wrong_source bytes TooManyNames f
-judged limits bytes input (Err TooManyNames) (inr f) = Judged.accepted (Err TooManyNames) f.0 f.1.within (straight_found bytes f.0 f.1.main)
-judged limits bytes input (Err (Line fault)) f = Judged.accepted (Err (Line fault)) f.0 f.1.within (straight_found bytes f.0 f.1.main)
-judged limits bytes input (Err NotBuilt) (inl f) = wrong_source bytes NotBuilt f
-judged limits bytes input (Err NotBuilt) (inr f) = Judged.accepted (Err NotBuilt) f.0 f.1.within (straight_found bytes f.0 f.1.main)
-judged limits bytes input (Ok p) f = Judged.accepted (Ok p) f.0 f.1.within (straight_found bytes f.0 f.1.main)
+judged limits bytes input (Err TooManyNames) (inr f) = Judged.accepted (Err TooManyNames) f.0 f.1.within (program_found bytes f.0 f.1.main)
+judged limits bytes input (Err (Line fault)) f = Judged.accepted (Err (Line fault)) f.0 f.1.within (program_found bytes f.0 f.1.main)
+judged limits bytes input (Err NotBuilt) f = Judged.accepted (Err NotBuilt) f.0 f.1.within (program_found bytes f.0 f.1.main)
+judged limits bytes input (Ok p) f = Judged.accepted (Ok p) f.0 f.1.within (program_found bytes f.0 f.1.main)
 
 -- a refusal of the source
 data Refused (bytes : List ℕ) : Refusal → Type 0 where

@@ -15,12 +15,12 @@ ghost use Rattle.sn_lexer.specs.declared.token.LexFault.{LexFault as SomeLexFaul
 ghost use Rattle.sn_lexer.specs.declared.token.LexFault.TheVariants as lex_fault;
 ghost use Rattle.sn_lexer.specs.declared.token.Token.{Token as SomeToken};
 ghost use Rattle.sn_outcomes.specs.Told.{AreTold, IsOfSource};
-ghost use Rattle.sn_parser.specs.Answer.{Faults, IsFault as IsParseFault, IsProgram, Spell, Spells};
+ghost use Rattle.sn_parser.specs.Answer.{Faults, IsFault as IsParseFault, IsProgram as IsTree, Spell, Spells};
 ghost use Rattle.sn_parser.specs.declared.parsing.ParseFault.{ParseFault as SomeParseFault};
 ghost use Rattle.sn_parser.specs.declared.parsing.ParseFault.TheVariants as parse_fault;
 ghost use Rattle.sn_top.specs.Answer.{Finds, FindsFor, IsAnswered, Outside, Printout};
 ghost use Rattle.sn_top.specs.Load.{IsRouted, Limits, WhyNoItems};
-ghost use Rattle.sn_top.specs.Scope.{IsStraight, WhyNoProgram};
+ghost use Rattle.sn_top.specs.Scope.{IsProgram, WhyNoProgram};
 ghost use Rattle.sn_top.specs.Seen.{File};
 ghost use Rattle.sn_top.specs.Source.{FindsSource, IsSource};
 ghost use Rattle.sn_top.specs.declared.load.Program.{Program as SomeProgram};
@@ -46,10 +46,10 @@ pub fn grammar_is_unambiguous()
 /// Terminals spell one program within the limits, or are unexpected at one place, or too deep at one place, and no two of
 /// these.
 pub fn terminals_are_one_program()
-    ensures one_program { (said : List SomeTerminal) (program other : SomeTree) → IsProgram said program → IsProgram said other → program ≡ other }
+    ensures one_program { (said : List SomeTerminal) (program other : SomeTree) → IsTree said program → IsTree said other → program ≡ other }
     ensures one_refusal { (size : ℕ) (said : List SomeTerminal) (fault other : SomeParseFault) → IsParseFault size said fault → IsParseFault size said other
         → fault ≢ parse_fault.Memory → other ≢ parse_fault.Memory → fault ≡ other }
-    ensures never_both { (size : ℕ) (said : List SomeTerminal) (program : SomeTree) (fault : SomeParseFault) → IsProgram said program → IsParseFault size said fault
+    ensures never_both { (size : ℕ) (said : List SomeTerminal) (program : SomeTree) (fault : SomeParseFault) → IsTree said program → IsParseFault size said fault
         → fault ≡ parse_fault.Memory }
 {}
 
@@ -70,9 +70,9 @@ pub fn source_is_read_once()
 
 /// The bytes of a source give one program to run, with its names resolved, or one refusal, and never both.
 pub fn source_is_resolved_once()
-    ensures one_program { (bytes : List ℕ) (program other : SomeProgram) → IsStraight bytes program → IsStraight bytes other → program ≡ other }
+    ensures one_program { (bytes : List ℕ) (program other : SomeProgram) → IsProgram bytes program → IsProgram bytes other → program ≡ other }
     ensures one_refusal { (bytes : List ℕ) (refusal other : SomeRefusal) → WhyNoProgram bytes refusal → WhyNoProgram bytes other → refusal ≡ other }
-    ensures never_both { (bytes : List ℕ) (program : SomeProgram) (refusal : SomeRefusal) → IsStraight bytes program → WhyNoProgram bytes refusal → ⊥ }
+    ensures never_both { (bytes : List ℕ) (program : SomeProgram) (refusal : SomeRefusal) → IsProgram bytes program → WhyNoProgram bytes refusal → ⊥ }
 {}
 
 /// A record file gives one thing to names that are there: the records with the names, or one refusal.

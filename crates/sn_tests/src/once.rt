@@ -3,7 +3,7 @@ ghost use Rattle.sn_net.specs.Filter.{IsClosed};
 use sn_list::{Memory, Seq};
 use sn_model::Run;
 use sn_net::{Filter, Net};
-use sn_once::{FeedFault, is_straight, run_once};
+use sn_once::{FeedFault, run_once};
 use sn_record::{Item, Items, Kind, Label, LabelSet, Record};
 use std::alloc::Global;
 use std::test::Fail;
@@ -36,9 +36,6 @@ fn given(alloc: Global) -> Result<Items, FeedFault> {
         return Err(FeedFault::Memory);
     }
     let run = run_of(alloc, filter, items);
-    if !is_straight(run.net()) {
-        return Err(FeedFault::Memory);
-    }
     run_once(alloc, &run)
 }
 

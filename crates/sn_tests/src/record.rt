@@ -77,6 +77,32 @@ fn what_was_not_named_flows(rt: HostRuntime) -> Result<(), Fail> {
     Ok(())
 }
 
+/// As `inherits`, where the record that was taken is given up.
+fn inherits_owned(alloc: Global, text: &str) -> Result<bool, Fail> {
+    let input = records(alloc, text)?;
+    let [taken, emitted, whole, named] = input.records.as_slice() else {
+        return Ok(false);
+    };
+    let named = labels_of(alloc, named)?;
+    let taken = taken.copy()?;
+    let made = emitted.copy()?.inheriting_owned(taken, &named)?;
+    Ok(made == *whole)
+}
+
+#[test]
+fn what_is_given_up_flows(rt: HostRuntime) -> Result<(), Fail> {
+    for text in [
+        "{a=1, <t>=7}\n{}\n{<t>=7}\n{a=0}",
+        "{a=1, <t>=7}\n{b=1, <t>=2}\n{a=1, b=1, <t>=2}\n{}",
+        "{a=1, <t>=7}\n{a=2}\n{a=2}\n{a=0, <t>=0}",
+        "{a=1}\n{a=1,b=2,c=3,d=4,e=5,f=6,g=7,h=8,<a>=1,<b>=2,<c>=3,<d>=4,<e>=5,<f>=6,<g>=7,<h>=8}\n{a=1,b=2,c=3,d=4,e=5,f=6,g=7,h=8,<a>=1,<b>=2,<c>=3,<d>=4,<e>=5,<f>=6,<g>=7,<h>=8}\n{}",
+        "{x=1,a=7}\n{a=1,b=2,c=3,d=4,e=5,f=6,g=7,h=8,<a>=1,<b>=2,<c>=3,<d>=4,<e>=5,<f>=6,<g>=7,<h>=8}\n{a=1,b=2,c=3,d=4,e=5,f=6,g=7,h=8,x=1,<a>=1,<b>=2,<c>=3,<d>=4,<e>=5,<f>=6,<g>=7,<h>=8}\n{}",
+    ] {
+        assert!(rt; inherits_owned(rt.alloc(), text)?);
+    }
+    Ok(())
+}
+
 /// Whether the third record is what the first two give together, and the fourth what the first has of the second's labels.
 fn wins_left(alloc: Global, text: &str) -> Result<bool, Fail> {
     let input = records(alloc, text)?;

@@ -210,14 +210,60 @@ fn the_first_refusal_of_names_comes(rt: HostRuntime) -> Result<(), Fail> {
     Ok(())
 }
 
+const CELL: &[u8] = b"net main ({a} | {b} -> {a,b}) connect [|{a},{b}|];";
+
+const CHOICE: &[u8] = b"net main ({a} -> {x}) connect [{a} -> {x=a}] || [{a,b} -> {x=b}];";
+
+const STAR: &[u8] =
+    b"net main ({<n>} -> {<n>}) connect [{<n>} -> {<n>=<n>-1}] ** {<n>} if (<n> == 0);";
+
+const SPLIT: &[u8] = b"net main ({a,<k>} -> {b,<k>}) connect [{a} -> {b=a}] !! <k>;";
+
 #[test]
-fn other_networks_are_not_built(rt: HostRuntime) -> Result<(), Fail> {
-    let table: [&[u8]; 2] = [
-        b"net main ({a} -> {a}) connect [|{a},{b}|];",
-        b"net main ({a} -> {a}) connect [] || [];",
+fn networks_of_every_form_answer(rt: HostRuntime) -> Result<(), Fail> {
+    let alloc = rt.alloc();
+    let table: [(&[u8], &[u8], Status, &[u8], &[u8]); 5] = [
+        (
+            CELL,
+            b"{a=1}\n{a=2}\n{b=3}\n{b=4}\n",
+            Status::Ok,
+            b"{a=2}\n{a=1, b=3}\n{b=4}\n",
+            b"",
+        ),
+        // The branch with the larger variant is the better match.
+        (
+            CHOICE,
+            b"{a=1, b=2, c=3}\n{a=1}",
+            Status::Ok,
+            b"{c=3, x=2}\n{x=1}\n",
+            b"",
+        ),
+        // As many replicas as there are, and one more.
+        (
+            STAR,
+            b"{<n>=1000}\n{<n>=1001}\n{<n>=1}",
+            Status::Fault,
+            b"{<n>=0}\n",
+            b"fault: Depth at 57\n",
+        ),
+        (
+            SPLIT,
+            b"{a=1, <k>=-1}\n{a=2, <k>=7}",
+            Status::Ok,
+            b"{b=1, <k>=-1}\n{b=2, <k>=7}\n",
+            b"",
+        ),
+        (
+            SPLIT,
+            b"{a=1, <k>=0}\n{a=2}",
+            Status::NotBuilt,
+            b"",
+            b"not built\n",
+        ),
     ];
-    for source in table {
-        assert!(rt; is_refused(rt.alloc(), source, Status::NotBuilt, b"not built\n")?);
+    for (source, input, status, out, err) in table {
+        let served = serve(alloc, files(alloc, source, input)?, sink(alloc, 64)?)?;
+        assert!(rt; served.is(status, out, err));
     }
     Ok(())
 }

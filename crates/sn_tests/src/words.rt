@@ -14,20 +14,32 @@ fn read(alloc: Global, words: &[&str]) -> Result<Result<Command, WordsFault>, Fa
 #[test]
 fn gives_commands(rt: HostRuntime) -> Result<(), Fail> {
     let alloc = rt.alloc();
-    let table: [(&[&str], &str, u64); 4] = [
-        (&["once", "s", "i"], "s", 1_000_000),
-        (&["once", "--", "-s", "i"], "-s", 1_000_000),
-        (&["once", "-", "--fuel", "5", "i"], "-", 5),
-        (&["once", "--fuel=0000000005", "s", "--", "i"], "s", 5),
+    let table: [(&[&str], &str, u64, u32); 6] = [
+        (&["once", "s", "i"], "s", 1_000_000, 1_000),
+        (&["once", "--", "-s", "i"], "-s", 1_000_000, 1_000),
+        (&["once", "-", "--fuel", "5", "i"], "-", 5, 1_000),
+        (
+            &["once", "--fuel=0000000005", "s", "--", "i"],
+            "s",
+            5,
+            1_000,
+        ),
+        (
+            &["once", "--depth", "2000", "s", "i"],
+            "s",
+            1_000_000,
+            2_000,
+        ),
+        (&["once", "--depth=1", "s", "--fuel=5", "i"], "s", 5, 1),
     ];
-    for (words, name, fuel) in table {
+    for (words, name, fuel, depth) in table {
         let source = Seq::from_slice(alloc, name.as_bytes())?;
         let input = Seq::from_slice(alloc, b"i")?;
         let wanted = Command::Once {
             source,
             input,
             fuel,
-            depth: 1_000,
+            depth,
         };
         assert!(rt; read(alloc, words)? == Ok(wanted));
     }
@@ -36,7 +48,7 @@ fn gives_commands(rt: HostRuntime) -> Result<(), Fail> {
 
 #[test]
 fn refuses_words(rt: HostRuntime) -> Result<(), Fail> {
-    let table: [&[&str]; 12] = [
+    let table: [&[&str]; 18] = [
         &[],
         &["once", "s"],
         &["once", "s", "i", "t"],
@@ -49,6 +61,12 @@ fn refuses_words(rt: HostRuntime) -> Result<(), Fail> {
         &["once", "--fuel=00000000005", "s", "i"],
         &["once", "--fuel=+5", "s", "i"],
         &["once", "--fuel=5", "--fuel", "5", "s", "i"],
+        &["once", "s", "i", "--depth"],
+        &["once", "--depth", "0", "s", "i"],
+        &["once", "--depth=2001", "s", "i"],
+        &["once", "--depth=00000000005", "s", "i"],
+        &["once", "--depth=5", "--depth", "5", "s", "i"],
+        &["print", "--depth=5", "s"],
     ];
     for words in table {
         assert!(rt; read(rt.alloc(), words)? == Err(WordsFault::Usage));

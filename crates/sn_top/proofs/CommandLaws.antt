@@ -1,6 +1,6 @@
 -- What the words of the command line give.
 use Rattle.std.proofs.Common.{◌≡◌, ◌≢◌, ℕ, suc, ◌<◌, ◌≤◌, ◌^◌, Bool, true, false, cond, List, [], ◌∷◌, codes, length, map, take, drop, get_or, ◌-◌, refl, sym, ap, subst, ◌||◌, arith}
-use Rattle.std.specs.Prelude.{Option, Some, None, Result, Ok, Err, IfOk, IfSome, option_map, option_and_then, unwrap_or}
+use Rattle.std.specs.Prelude.{Option, Some, None, Result, Ok, Err, IfOk, IfSome, option_map, option_and_then, unwrap_or, is_some}
 use Rattle.std.specs.List.{position_or_len, after_first}
 use Rattle.std.specs.Result.{OkIff, result_ok}
 use Rattle.std.specs.Str.{all_ascii_digits}
@@ -11,7 +11,7 @@ use Rattle.std.proofs.lemmas.List.{take_all}
 use Rattle.std.proofs.lemmas.Result.{IfOk-weaker}
 use Rattle.sn_top.specs.declared.words.Command.{Command}
 use Rattle.sn_top.specs.declared.words.Setting.{Setting}
-use Rattle.sn_top.specs.declared.words.Setting.TheVariants.{Fuel}
+use Rattle.sn_top.specs.declared.words.Setting.TheVariants.{Fuel, Depth}
 use Rattle.sn_top.specs.declared.words.WordsFault.{WordsFault}
 use Rattle.sn_top.specs.declared.words.Verb.{Verb}
 use Rattle.sn_top.specs.declared.words.Verb.TheVariants.{Once, Print}
@@ -58,48 +58,56 @@ first_word bytes [] word e h = absurd (omega arith)
 first_word bytes (first ∷ words) word e h =
     rw e (ap (λ rest. bytes first ∷ map bytes rest) (sym (take_all (suc (length words) - 1) words (omega arith))))
 
--- what is read of the fuel is in its range
-abbrev IsFuel : ℕ → Type 0
-IsFuel n = (1 ≤ n) × (n ≤ 1_000_000_000)
+-- what is read of the numbers is in its range
+abbrev IsUpTo : ℕ → ℕ → Type 0
+IsUpTo most n = (1 ≤ n) × (n ≤ most)
+
+abbrev AreInRange : Given → Type 0
+AreInRange given = IfSome given.fuel (IsUpTo 1_000_000_000) × IfSome given.depth (IsUpTo 2_000)
 
 abbrev IsSound : Option Given → Type 0
-IsSound o = IfSome o (λ given. IfSome given.fuel IsFuel)
+IsSound o = IfSome o AreInRange
 
 sound_if : (b : Bool) (x y : Option Given) → IsSound x → IsSound y → IsSound (cond b x y)
 sound_if true x y h k = h
 sound_if false x y h k = k
 
-sound_then : (o : Option Given) (go : Given → Option Given) → IsSound o → ((given : Given) → IfSome given.fuel IsFuel → IsSound (go given)) → IsSound (option_and_then go o)
+sound_then : (o : Option Given) (go : Given → Option Given) → IsSound o → ((given : Given) → AreInRange given → IsSound (go given)) → IsSound (option_and_then go o)
 sound_then None go h more = tt
 sound_then (Some given) go h more = more given h
 
-fuel_within : (n : ℕ) → IfSome (within 1_000_000_000 n) IsFuel
-fuel_within n = grind (arith, nat_tests)
+number_within : (most n : ℕ) → IfSome (within most n) (IsUpTo most)
+number_within most n = grind (arith, nat_tests)
 
-fuel_read : (o : Option ℕ) → IfSome (option_and_then (within 1_000_000_000) o) IsFuel
-fuel_read None = tt
-fuel_read (Some n) = fuel_within n
+number_read_within : (most : ℕ) (o : Option ℕ) → IfSome (option_and_then (within most) o) (IsUpTo most)
+number_read_within most None = tt
+number_read_within most (Some n) = number_within most n
 
-fuel_set : (names : List (List ℕ)) (o : Option ℕ) → IfSome o IsFuel → IsSound (option_map (λ n. record { names = names; fuel = Some n }) o)
-fuel_set names None h = tt
-fuel_set names (Some n) h = h
+first_within : (is_given : Bool) (most : ℕ) (word : List ℕ) → IfSome (first_given is_given most word) (IsUpTo most)
+first_within true most word = tt
+first_within false most word = number_read_within most (number_of word)
 
-fuel_given : (before : Option ℕ) (word : List ℕ) → IfSome (first_given before 1_000_000_000 word) IsFuel
-fuel_given (Some n) word = tt
-fuel_given None word = fuel_read (number_of word)
+fuel_set : (given : Given) (o : Option ℕ) → AreInRange given → IfSome o (IsUpTo 1_000_000_000) → IsSound (option_map (λ n. record given { fuel = Some n }) o)
+fuel_set given None h k = tt
+fuel_set given (Some n) h k = (k, h.1)
 
-sound_set : (given : Given) (setting : Setting) (value : List ℕ) → IsSound (set given setting value)
-sound_set given Fuel value = fuel_set given.names _ (fuel_given given.fuel value)
+depth_set : (given : Given) (o : Option ℕ) → AreInRange given → IfSome o (IsUpTo 2_000) → IsSound (option_map (λ n. record given { depth = Some n }) o)
+depth_set given None h k = tt
+depth_set given (Some n) h k = (h.0, k)
 
-sound_behind : (go : Option Setting → Given → Option Given) (given : Given) (setting : Option Setting) (value : Option (List ℕ)) → ((due : Option Setting) (more : Given) → IfSome more.fuel IsFuel → IsSound (go due more)) → IfSome given.fuel IsFuel → IsSound (behind go given setting value)
+sound_set : (given : Given) (setting : Setting) (value : List ℕ) → AreInRange given → IsSound (set given setting value)
+sound_set given Fuel value h = fuel_set given _ h (first_within (is_some given.fuel) 1_000_000_000 value)
+sound_set given Depth value h = depth_set given _ h (first_within (is_some given.depth) 2_000 value)
+
+sound_behind : (go : Option Setting → Given → Option Given) (given : Given) (setting : Option Setting) (value : Option (List ℕ)) → ((due : Option Setting) (more : Given) → AreInRange more → IsSound (go due more)) → AreInRange given → IsSound (behind go given setting value)
 sound_behind go given None value more h = tt
 sound_behind go given (Some setting) None more h = more (Some setting) given h
-sound_behind go given (Some setting) (Some value) more h = sound_then (set given setting value) (go None) (sound_set given setting value) (more None)
+sound_behind go given (Some setting) (Some value) more h = sound_then (set given setting value) (go None) (sound_set given setting value h) (more None)
 
-sound_read : (verb : Verb) (due : Option Setting) (given : Given) (words : List (List ℕ)) → IfSome given.fuel IsFuel → IsSound (read_on verb due given words)
+sound_read : (verb : Verb) (due : Option Setting) (given : Given) (words : List (List ℕ)) → AreInRange given → IsSound (read_on verb due given words)
 sound_read verb None given [] h = h
 sound_read verb (Some setting) given [] h = tt
-sound_read verb (Some setting) given (value ∷ words) h = sound_then (set given setting value) _ (sound_set given setting value) (λ more k. sound_read verb None more words k)
+sound_read verb (Some setting) given (value ∷ words) h = sound_then (set given setting value) _ (sound_set given setting value h) (λ more k. sound_read verb None more words k)
 sound_read verb None given (word ∷ words) h =
     let go : Option Setting → Given → Option Given = λ due more. read_on verb due more words in
     let setting = setting_of verb (option_name word) in
@@ -112,28 +120,29 @@ made_if : (b : Bool) (command : Command) → IsInRange command → IfSome (cond 
 made_if true command h = tt
 made_if false command h = h
 
-made_once : (fuel : ℕ) (names : List (List ℕ)) → IsFuel fuel → IfSome (once_of fuel names) IsInRange
-made_once fuel [] h = tt
-made_once fuel (source ∷ []) h = tt
-made_once fuel (source ∷ (input ∷ [])) h = made_if (is_nothing source || is_nothing input) _ (h.0, h.1, omega arith, omega arith)
-made_once fuel (source ∷ (input ∷ (more ∷ names))) h = tt
+made_once : (fuel depth : ℕ) (names : List (List ℕ)) → IsUpTo 1_000_000_000 fuel → IsUpTo 2_000 depth → IfSome (once_of fuel depth names) IsInRange
+made_once fuel depth [] h k = tt
+made_once fuel depth (source ∷ []) h k = tt
+made_once fuel depth (source ∷ (input ∷ [])) h k = made_if (is_nothing source || is_nothing input) _ (h.0, h.1, k.0, k.1)
+made_once fuel depth (source ∷ (input ∷ (more ∷ names))) h k = tt
 
 made_print : (names : List (List ℕ)) → IfSome (print_of names) IsInRange
 made_print [] = tt
 made_print (source ∷ []) = made_if (is_nothing source) _ tt
 made_print (source ∷ (input ∷ names)) = tt
 
-fuel_or : (fuel : Option ℕ) → IfSome fuel IsFuel → IsFuel (unwrap_or fuel 1_000_000)
-fuel_or None h = (omega arith, omega arith)
-fuel_or (Some n) h = h
+number_or : (most other : ℕ) (number : Option ℕ) → IsUpTo most other → IfSome number (IsUpTo most) → IsUpTo most (unwrap_or number other)
+number_or most other None o h = o
+number_or most other (Some n) o h = h
 
 made : (verb : Verb) (o : Option Given) → IsSound o → IfSome (option_and_then (made_of verb) o) IsInRange
 made verb None h = tt
-made Once (Some given) h = made_once _ given.names (fuel_or given.fuel h)
+made Once (Some given) h =
+    made_once _ _ given.names (number_or 1_000_000_000 1_000_000 given.fuel (omega arith, omega arith) h.0) (number_or 2_000 1_000 given.depth (omega arith, omega arith) h.1)
 made Print (Some given) h = made_print given.names
 
 -- a command has its numbers in their ranges
 pub made_in_range : {E : Type 0} (verb other : Verb) (words : List (List ℕ)) (given : Given) (r : Result Command E) → read_on verb None nothing words ≡ Some given → IfOk r (λ command. made_of other given ≡ Some command) → IfOk r IsInRange
 made_in_range verb other words given r e h =
-    let sound : IsSound (Some given) = subst IsSound e (sound_read verb None nothing words tt) in
+    let sound : IsSound (Some given) = subst IsSound e (sound_read verb None nothing words (tt, tt)) in
     IfOk-weaker r _ _ (λ command k. subst (λ o. IfSome o IsInRange) k (made other (Some given) sound)) h

@@ -12,7 +12,7 @@ use Rattle.sn_parser.specs.declared.parsing.ParseFault.TheVariants as parse_faul
 use Rattle.sn_record.specs.declared.item.Item.{Item}
 use Rattle.sn_net.specs.Item.{Rec, modelled}
 use Rattle.sn_model.specs.Meaning.{one_list}
-use Rattle.sn_model.specs.Run.{boxes_of, depth_of, fuel_of, given, items_of, net_of}
+use Rattle.sn_model.specs.Run.{boxes_of, depth_of, fuel_of, net_of, setting_of}
 use Rattle.sn_model.specs.declared.run.Run.{Run}
 use Rattle.sn_once.specs.Stuck.{TellsFirst, first_stuck}
 use Rattle.sn_once.specs.declared.fault.FeedFault.{FeedFault}
@@ -26,10 +26,9 @@ use Rattle.sn_scope.specs.declared.resolved.Parts.{Parts}
 use Rattle.sn_scope.specs.declared.resolution.ScopeFault.{ScopeFault}
 use Rattle.sn_scope.specs.declared.resolution.ScopeFault.TheVariants as scope
 use Rattle.sn_top.specs.declared.load.Program.{Program}
-use Rattle.sn_top.specs.declared.status.Stop.{Stop}
 use Rattle.sn_top.specs.Source.{IsSource, lex_stop, parse_stop}
 use Rattle.sn_top.specs.Scope.{scope_stop, WhyUnloaded}
-use Rattle.sn_top.specs.Load.{input_stop, feed_stop, setting, Limits, IsAnswer, IsLoaded, IsMain, stream_of, WhyNoAnswer, WhyNoMain}
+use Rattle.sn_top.specs.Load.{input_stop, feed_stop, setting, Limits, IsAnswer, IsLoaded, IsMain, stream_of, WhyNoAnswer}
 
 module _ (bytes : List ℕ) where
   -- the lexer refuses
@@ -60,26 +59,16 @@ module _ (bytes : List ℕ) where
     not_resolved scope.Memory (inr is) = tt
 
     module _ (resolved : Parts) (is : resolution tree ≡ Ok resolved) where
-      -- the main network is made of boxes and filters in series, or is another
+      -- the program is that of the source
       pub loaded : (program : Program) → IsMain resolved program → IsLoaded bytes program
       loaded program main = record {
         main = record {
           claim = main.claim;
           resolved = record { tree = tree; read = read; resolved = resolved; is = is; names_are = main.names_are; boxes_are = main.boxes_are; main = main.main };
           net_is = main.net_is;
-          straight = main.runnable.straight;
         };
-        runnable = main.runnable;
+        formed = main.formed;
       }
-
-      pub other_main : (why : Stop) → WhyNoMain resolved why → WhyUnloaded bytes why
-      other_main why not = subst (WhyUnloaded bytes) (sym not.0) (record {
-        names = resolved.names;
-        boxes = resolved.boxes;
-        claim = not.1.claim;
-        resolved = record { tree = tree; read = read; resolved = resolved; is = is; names_are = refl; boxes_are = refl; main = not.1.main };
-        other = not.1.other;
-      })
 
 module _ (limits : Limits) (program : Program) (bytes : List ℕ) where
   -- the reader of record files refuses
@@ -104,8 +93,8 @@ module _ (limits : Limits) (program : Program) (bytes : List ℕ) where
     answered out is free =
         record { input = input; routed = record { read = read; routed = ap first_stuck (sym stream_is) ∙ free }; names = refl; stream = sym (is ∙ stream_is) }
 
--- what a run gives whose parts are those of a program
-pub given_is : (run : Run) (program : Program) (limits : Limits) (items : List Item) → net_of run ≡ program.net → boxes_of run ≡ program.boxes → fuel_of run ≡ limits.fuel → depth_of run ≡ limits.depth → items_of run ≡ items
-    → given run ≡ one_list (setting program limits) program.net (map modelled items)
-given_is run program limits items net boxes fuel depth same =
-    λ i. one_list (record { boxes = boxes i; fuel = fuel i; depth = depth i }) (net i) (map modelled (same i))
+-- what the network of a run gives whose parts are those of a program
+pub given_is : (run : Run) (program : Program) (limits : Limits) (items : List Item) → net_of run ≡ program.net → boxes_of run ≡ program.boxes → fuel_of run ≡ limits.fuel → depth_of run ≡ limits.depth
+    → one_list (setting_of run) (net_of run) (map modelled items) ≡ one_list (setting program limits) program.net (map modelled items)
+given_is run program limits items net boxes fuel depth =
+    λ i. one_list (record { boxes = boxes i; fuel = fuel i; depth = depth i }) (net i) (map modelled items)

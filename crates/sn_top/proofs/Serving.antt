@@ -68,7 +68,7 @@ module _ (limits : Limits) (source input : File) (out : Sink) (same : out.now �
         (told_source (λ t. IsRefusedSource TooManyNames t ⊎ IsRefusedInput input.told HasManyNames t) (inl (read.within, why)), same)
     not_loaded (Refused (Line fault)) why = absurd why
     not_loaded (Faulted fault) why = absurd why
-    not_loaded (Refused NotBuilt) why = (told_source (λ t. IsRefusedSource NotBuilt t ⊎ IsRefusedInput input.told (HasNoRoute limits) t) (inl (read.within, why)), same)
+    not_loaded (Refused NotBuilt) why = absurd why
     not_loaded (Unread which) why = absurd why
     not_loaded Memory why = inl same
     not_loaded Write why = absurd why
@@ -115,7 +115,7 @@ module _ (limits : Limits) (source input : File) (out : Sink) (same : out.now �
         )
         no_answer (Refused (Line fault)) why = (told_source (IsRefusedInput input.told (HasWrongLine fault)) (refused_input (HasWrongLine fault) why), same)
         no_answer (Faulted fault) why = absurd why
-        no_answer (Refused NotBuilt) why = (told_source (λ t. IsRefusedSource NotBuilt t ⊎ IsRefusedInput input.told (HasNoRoute limits) t) (inr (refused_input (HasNoRoute limits) why)), same)
+        no_answer (Refused NotBuilt) why = (told_source (IsRefusedInput input.told (HasNoRoute limits)) (refused_input (HasNoRoute limits) why), same)
         no_answer (Unread which) why = absurd why
         no_answer Memory why = inl same
         no_answer Write why = absurd why

@@ -22,13 +22,13 @@ use Rattle.sn_record.specs.declared.item.Fault.{Fault}
 use Rattle.sn_input.specs.declared.input.Input.{Input as RecordFile}
 use Rattle.sn_output.specs.Printed.{printed, ending}
 use Rattle.sn_top.specs.Load.{Limits, limits_of, HasManyNames, HasNoRoute, HasWrongLine, stream_of, IsRouted}
-use Rattle.sn_top.specs.Scope.{IsStraight, WhyNoProgram}
+use Rattle.sn_top.specs.Scope.{IsProgram, WhyNoProgram}
 use Rattle.sn_top.specs.declared.load.Program.{Program}
 
--- the source is within the limit, and its main network is made of boxes and filters in series
+-- the source is within the limit, and spells the program
 pub record IsAccepted (bytes : List ℕ) (program : Program) : Type 0 where
   pub within : length bytes ≤ SOURCE_LIMIT
-  pub main : IsStraight bytes program
+  pub main : IsProgram bytes program
 
 -- what a command prints, and the fault that ends it, if there is one
 pub record Printout : Type 0 where
@@ -65,7 +65,7 @@ Finds limits source input (Err (TooDeep at)) = IfSome source (IsRefusedSource (T
 Finds limits source input (Err (LargeTree at)) = IfSome source (IsRefusedSource (LargeTree at))
 Finds limits source input (Err TooManyNames) = IfSome source (λ bytes. IsRefusedSource TooManyNames bytes ⊎ IsRefusedInput input HasManyNames bytes)
 Finds limits source input (Err (Line fault)) = IfSome source (IsRefusedInput input (HasWrongLine fault))
-Finds limits source input (Err NotBuilt) = IfSome source (λ bytes. IsRefusedSource NotBuilt bytes ⊎ IsRefusedInput input (HasNoRoute limits) bytes)
+Finds limits source input (Err NotBuilt) = IfSome source (IsRefusedInput input (HasNoRoute limits))
 Finds limits source input (Err (TooLarge Input)) = IfSome source (λ bytes. (program : Program) × IsAccepted bytes program × IfSome input (λ more. INPUT_LIMIT < length more))
 Finds limits source input (Ok p) = IfSome source (λ bytes. (program : Program) × IsAccepted bytes program × IfSome input (λ more. Prints limits program more p))
 

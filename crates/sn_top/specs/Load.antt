@@ -1,12 +1,11 @@
 -- What the layers below the top calls give: programs, inputs and answers.
-use Rattle.std.specs.Prelude.{◌≡◌, ℕ, None, false, IsTrue, List, map, slice_get, Some, Ok, Err}
+use Rattle.std.specs.Prelude.{◌≡◌, ℕ, None, List, map, slice_get, Some, Ok, Err}
 use Rattle.sn_net.specs.Item.{ModelItem, Rec, modelled}
 use Rattle.sn_net.specs.WellFormed.{FitsBoxes}
 use Rattle.sn_net.specs.declared.expr.BoxProgram.{BoxProgram}
 use Rattle.sn_model.specs.Meaning.{Setting, one_list}
 use Rattle.sn_model.specs.Ranges.{IsWithin}
 use Rattle.sn_model.specs.declared.run.TheConstants.{MOST_FUEL, MOST_REPLICAS}
-use Rattle.sn_once.specs.Straight.{is_straight}
 use Rattle.sn_once.specs.Stuck.{first_stuck}
 use Rattle.sn_once.specs.declared.fault.FeedFault.{FeedFault}
 use Rattle.sn_once.specs.declared.fault.FeedFault.TheVariants as feed_fault
@@ -25,7 +24,7 @@ use Rattle.sn_top.specs.declared.status.Refusal.{Refusal}
 use Rattle.sn_top.specs.declared.status.Refusal.TheVariants as refusal
 use Rattle.sn_top.specs.declared.status.Stop.{Stop}
 use Rattle.sn_top.specs.declared.status.Stop.TheVariants as stop
-use Rattle.sn_top.specs.Scope.{IsStraight}
+use Rattle.sn_top.specs.Scope.{IsProgram}
 
 abbrev pub input_stop : InputFault → Stop
 input_stop (input_fault.BadLine n) = stop.Refused (refusal.Line (line.BadLine n))
@@ -44,33 +43,19 @@ abbrev pub feed_stop : FeedFault → Stop
 feed_stop (feed_fault.NoRoute place) = stop.Refused refusal.NotBuilt
 feed_stop feed_fault.Memory = stop.Memory
 
--- a network of boxes and filters in series that can be run
-pub record IsRunnable (boxes : List BoxProgram) (net : Net) : Type 0 where
-  pub formed : FitsBoxes boxes net
-  pub straight : IsTrue (is_straight net)
-
--- the names, the boxes and the main network of what a source is resolved to
+-- the names, the boxes and the main network of what a source is resolved to; the network is well formed over the boxes
 pub record IsMain (resolved : Parts) (program : Program) : Type 0 where
   pub claim : Claim
   pub main : slice_get resolved.claims resolved.main ≡ Some claim
   pub names_are : program.names ≡ resolved.names
   pub boxes_are : program.boxes ≡ resolved.boxes
   pub net_is : program.net ≡ claim.net
-  pub runnable : IsRunnable program.boxes program.net
-
--- the main network is another
-pub record IsOther (resolved : Parts) : Type 0 where
-  pub claim : Claim
-  pub main : slice_get resolved.claims resolved.main ≡ Some claim
-  pub other : is_straight claim.net ≡ false
-
-abbrev pub WhyNoMain : Parts → Stop → Type 0
-WhyNoMain resolved why = (why ≡ stop.Refused refusal.NotBuilt) × IsOther resolved
+  pub formed : FitsBoxes program.boxes program.net
 
 -- the program is that of the source, and can be run
 pub record IsLoaded (bytes : List ℕ) (program : Program) : Type 0 where
-  pub main : IsStraight bytes program
-  pub runnable : IsRunnable program.boxes program.net
+  pub main : IsProgram bytes program
+  pub formed : FitsBoxes program.boxes program.net
 
 -- the program of names, boxes and a network
 abbrev pub program_of : List (List ℕ) → List BoxProgram → Net → Program

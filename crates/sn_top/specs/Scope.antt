@@ -1,9 +1,8 @@
 -- What a source of the whole language is resolved to, or why it is not.
-use Rattle.std.specs.Prelude.{◌≡◌, ℕ, false, IsTrue, List, slice_get, Some, Ok, Err}
+use Rattle.std.specs.Prelude.{◌≡◌, ℕ, List, slice_get, Some, Ok, Err}
 use Rattle.sn_ast.specs.declared.declaration.Program.{Program as Tree}
 use Rattle.sn_net.specs.declared.expr.BoxProgram.{BoxProgram}
 use Rattle.sn_net.specs.declared.net.Claim.{Claim}
-use Rattle.sn_once.specs.Straight.{is_straight}
 use Rattle.sn_scope.specs.Resolution.{resolution}
 use Rattle.sn_scope.specs.declared.resolved.Parts.{Parts}
 use Rattle.sn_scope.specs.declared.resolution.ScopeFault.{ScopeFault}
@@ -44,20 +43,11 @@ pub record IsResolved (bytes : List ℕ) (names : List (List ℕ)) (boxes : List
   pub boxes_are : boxes ≡ resolved.boxes
   pub main : slice_get resolved.claims resolved.main ≡ Some claim
 
--- a program whose main net has a synchrocell, a choice, a star or a split
-pub record IsUnbuilt (bytes : List ℕ) : Type 0 where
-  pub names : List (List ℕ)
-  pub boxes : List BoxProgram
-  pub claim : Claim
-  pub resolved : IsResolved bytes names boxes claim
-  pub other : is_straight claim.net ≡ false
-
--- the names, the boxes and the main net of a program, which is made of boxes and filters in series
-pub record IsStraight (bytes : List ℕ) (program : Program) : Type 0 where
+-- the names, the boxes and the main net of the program that the bytes spell
+pub record IsProgram (bytes : List ℕ) (program : Program) : Type 0 where
   pub claim : Claim
   pub resolved : IsResolved bytes program.names program.boxes claim
   pub net_is : program.net ≡ claim.net
-  pub straight : IsTrue (is_straight program.net)
 
 -- what is wrong in the source, as it is read or as its names are resolved, and where
 abbrev pub IsWrongAt : List ℕ → SourceFault → ℕ → Type 0
@@ -80,7 +70,7 @@ WhyNoProgram bytes (TooDeep at) = IsRefused bytes (parse_fault.TooDeep at)
 WhyNoProgram bytes (LargeTree at) = IsUnresolved bytes (scope.TooLarge at)
 WhyNoProgram bytes TooManyNames = IsUnresolved bytes scope.TooManyNames
 WhyNoProgram bytes (Line fault) = ⊥
-WhyNoProgram bytes NotBuilt = IsUnbuilt bytes
+WhyNoProgram bytes NotBuilt = ⊥
 
 -- why loading a source stopped
 abbrev pub WhyUnloaded : List ℕ → Stop → Type 0

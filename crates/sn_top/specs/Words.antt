@@ -1,5 +1,5 @@
 -- The words of the command line, after the program's name, as bytes.
-use Rattle.std.specs.Prelude.{◌≤◌, ◌++◌, ℕ, ◌+◌, Bool, ◌==◌, ◌&&◌, ◌||◌, List, [], ◌∷◌, codes, length, map, drop, nat_lt, nat_le, nat_eq, get_or, Option, Some, None, unwrap_or, option_map, option_and_then, if◌then◌else◌}
+use Rattle.std.specs.Prelude.{◌≤◌, ◌++◌, ℕ, ◌+◌, Bool, true, false, ◌==◌, ◌&&◌, ◌||◌, List, [], ◌∷◌, codes, length, map, drop, nat_lt, nat_le, nat_eq, get_or, Option, Some, None, unwrap_or, is_some, option_map, option_and_then, if◌then◌else◌}
 use Rattle.std.specs.List.{position, before_first}
 use Rattle.std.specs.Str.{bytes_eq, all_ascii_digits}
 use Rattle.std.specs.Str.Parse.{digits_value}
@@ -10,8 +10,8 @@ use Rattle.sn_top.specs.declared.words.Reading.{Reading}
 use Rattle.sn_top.specs.declared.words.Verb.{Verb}
 use Rattle.sn_top.specs.declared.words.Verb.TheVariants as verbs
 use Rattle.sn_top.specs.declared.words.Setting.{Setting}
-use Rattle.sn_top.specs.declared.words.Setting.TheVariants.{Fuel}
-use Rattle.sn_top.specs.declared.words.TheConstants.{DEFAULT_FUEL, DEFAULT_DEPTH, MOST_FUEL}
+use Rattle.sn_top.specs.declared.words.Setting.TheVariants.{Fuel, Depth}
+use Rattle.sn_top.specs.declared.words.TheConstants.{DEFAULT_FUEL, DEFAULT_DEPTH, MOST_FUEL, MOST_DEPTH}
 
 abbrev pub usage_text : List ℕ
 usage_text = codes "usage: snet run SOURCE INPUT [--workers N] [--fuel N] [--depth N] [--queue N] | once SOURCE INPUT [--fuel N] [--depth N] | check SOURCE | print SOURCE | sample SEED COUNT\n"
@@ -40,7 +40,7 @@ option_value word = option_map (λ place. drop (place + 1) word) (position is_eq
 
 -- the option of a command that has this name
 abbrev pub setting_of : Verb → List ℕ → Option Setting
-setting_of verbs.Once name = if is_word (codes "--fuel") name then Some Fuel else None
+setting_of verbs.Once name = if is_word (codes "--fuel") name then Some Fuel else (if is_word (codes "--depth") name then Some Depth else None)
 setting_of verbs.Print name = None
 
 -- the number that one to ten digits write
@@ -51,22 +51,23 @@ number_of word = if all_ascii_digits word && nat_le 1 (length word) && nat_le (l
 abbrev pub within : ℕ → ℕ → Option ℕ
 within most n = if nat_le 1 n && nat_le n most then Some n else None
 
--- the number of a word, for an option that has none yet
-abbrev pub first_given : Option ℕ → ℕ → List ℕ → Option ℕ
-first_given (Some n) most word = None
-first_given None most word = option_and_then (within most) (number_of word)
+-- the number of a word, for an option that may be given once
+abbrev pub first_given : Bool → ℕ → List ℕ → Option ℕ
+first_given true most word = None
+first_given false most word = option_and_then (within most) (number_of word)
 
--- what was read so far: the positional words, and the fuel where it was given
+-- what was read so far: the positional words, and the fuel and the depth where they were given
 pub record Given : Type 0 where
   pub names : List (List ℕ)
   pub fuel : Option ℕ
+  pub depth : Option ℕ
 
 -- what the code has read
 abbrev pub so_far : Reading → Given
-so_far reading = record { names = map (λ word. string_bytes word.now) reading.names; fuel = reading.fuel }
+so_far reading = record { names = map (λ word. string_bytes word.now) reading.names; fuel = reading.fuel; depth = reading.depth }
 
 abbrev pub nothing : Given
-nothing = record { names = []; fuel = None }
+nothing = record { names = []; fuel = None; depth = None }
 
 -- with more positional words
 abbrev pub named : Given → List (List ℕ) → Given
@@ -74,7 +75,8 @@ named given words = record given { names = given.names ++ words }
 
 -- with the value of an option, which may be given once
 abbrev pub set : Given → Setting → List ℕ → Option Given
-set given Fuel value = option_map (λ n. record given { fuel = Some n }) (first_given given.fuel MOST_FUEL value)
+set given Fuel value = option_map (λ n. record given { fuel = Some n }) (first_given (is_some given.fuel) MOST_FUEL value)
+set given Depth value = option_map (λ n. record given { depth = Some n }) (first_given (is_some given.depth) MOST_DEPTH value)
 
 -- goes on behind the word of an option: its value stands in that word, or is still due
 abbrev pub behind : (Option Setting → Given → Option Given) → Given → Option Setting → Option (List ℕ) → Option Given
@@ -96,9 +98,9 @@ abbrev pub is_nothing : List ℕ → Bool
 is_nothing word = nat_eq (length word) 0
 
 -- a source and an input, neither of them an empty word
-abbrev pub once_of : ℕ → List (List ℕ) → Option Command
-once_of fuel (source ∷ input ∷ []) = if is_nothing source || is_nothing input then None else Some (Once source input fuel DEFAULT_DEPTH)
-once_of fuel _ = None
+abbrev pub once_of : ℕ → ℕ → List (List ℕ) → Option Command
+once_of fuel depth (source ∷ input ∷ []) = if is_nothing source || is_nothing input then None else Some (Once source input fuel depth)
+once_of fuel depth _ = None
 
 -- a source alone
 abbrev pub print_of : List (List ℕ) → Option Command
@@ -107,7 +109,7 @@ print_of _ = None
 
 -- the command that was given
 abbrev pub made_of : Verb → Given → Option Command
-made_of verbs.Once given = once_of (unwrap_or given.fuel DEFAULT_FUEL) given.names
+made_of verbs.Once given = once_of (unwrap_or given.fuel DEFAULT_FUEL) (unwrap_or given.depth DEFAULT_DEPTH) given.names
 made_of verbs.Print given = print_of given.names
 
 -- what the words after a command's name ask for

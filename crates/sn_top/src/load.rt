@@ -1,8 +1,9 @@
 //! From the bytes of a source and an input to the records that the network answers.
 ghost use Rattle.std.specs.Prelude.{◌≡◌, ◌≤◌, length, map, IfOk, IfErr};
 ghost use Rattle.sn_net.specs.Item.{modelled, Rec};
+ghost use Rattle.sn_net.specs.WellFormed.{FitsBoxes};
 ghost use Rattle.sn_scope.specs.Resolution.{parts_of};
-ghost use Rattle.sn_top.specs.Load.{AreLimits, limits_of, program_of, IsMain, IsLoaded, IsAnswer, IsRunnable, WhyNoAnswer, WhyNoMain};
+ghost use Rattle.sn_top.specs.Load.{AreLimits, limits_of, IsMain, IsLoaded, IsAnswer, WhyNoAnswer};
 ghost use Rattle.sn_top.specs.Scope.{WhyUnloaded};
 ghost use Rattle.sn_top.specs.declared.serve.TheConstants.{SOURCE_LIMIT, INPUT_LIMIT};
 
@@ -52,10 +53,9 @@ impl From<FeedFault> for Stop {
     }
 }
 
-/// The names, the boxes and the main network of what a source is resolved to. Boxes and filters in series are built so far.
-fn main_of(resolved: Resolved) -> Result<Program, Stop>
-    ensures ok { IfOk result (IsMain (parts_of resolved)) }
-    ensures refused { IfErr result (WhyNoMain (parts_of resolved)) }
+/// The names, the boxes and the main network of what a source is resolved to.
+fn main_of(resolved: Resolved) -> Program
+    ensures { IsMain (parts_of resolved) result }
 {
     let Parts {
         names,
@@ -66,10 +66,10 @@ fn main_of(resolved: Resolved) -> Result<Program, Stop>
     let mut claims = claims.into_vec();
     let claim = claims.swap_remove(main as usize);
     let Claim { net, .. } = claim;
-    Ok(Program { names, boxes, net })
+    Program { names, boxes, net }
 }
 
-/// The program of a source whose main network is made of boxes and filters in series.
+/// The program of a source.
 pub fn load_source(alloc: Global, bytes: &[u8]) -> Result<Program, Stop>
     requires { length bytes.now ≤ SOURCE_LIMIT }
     ensures loaded { IfOk result (IsLoaded bytes.now) }
@@ -78,7 +78,7 @@ pub fn load_source(alloc: Global, bytes: &[u8]) -> Result<Program, Stop>
     let tokens = lex(alloc, bytes)?;
     let tree = parse(alloc, bytes, tokens.as_slice())?;
     let resolved = resolve(alloc, &tree)?;
-    main_of(resolved)
+    Ok(main_of(resolved))
 }
 
 /// The records as items that flow.
@@ -102,7 +102,7 @@ pub fn answer_input(
     bytes: &[u8],
 ) -> Result<Answered, Stop>
     requires limits { AreLimits (limits_of fuel depth) }
-    requires runnable { IsRunnable program.boxes program.net }
+    requires formed { FitsBoxes program.boxes program.net }
     requires within { length bytes.now ≤ INPUT_LIMIT }
     ensures answered { IfOk result (IsAnswer (limits_of fuel depth) program bytes.now) }
     ensures ended { IfErr result (WhyNoAnswer (limits_of fuel depth) program bytes.now) }

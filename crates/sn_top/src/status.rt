@@ -34,7 +34,7 @@ pub enum Status {
     TooLarge,
     /// Another limit is passed.
     Limit,
-    /// The source is of a form that is not built yet, or a record has no route.
+    /// A record has no route.
     NotBuilt,
 }
 
@@ -169,6 +169,7 @@ pub enum Refusal {
     TooManyNames,
     /// A line of the input is wrong.
     Line(LineFault),
+    /// A record of the input has no route.
     NotBuilt,
 }
 

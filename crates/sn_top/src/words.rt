@@ -17,6 +17,8 @@ pub const DEFAULT_DEPTH: u32 = 1_000;
 
 const MOST_FUEL: u64 = 1_000_000_000;
 
+const MOST_DEPTH: u64 = 2_000;
+
 const USAGE: &[u8] =
     b"usage: snet run SOURCE INPUT [--workers N] [--fuel N] [--depth N] [--queue N] | once SOURCE INPUT [--fuel N] [--depth N] | check SOURCE | print SOURCE | sample SEED COUNT\n";
 
@@ -107,6 +109,7 @@ enum Verb {
 #[derive(Clone, Copy)]
 enum Setting {
     Fuel,
+    Depth,
 }
 
 /// The command that a word names.
@@ -126,6 +129,7 @@ fn find_setting(verb: Verb, name: &str) -> Option<Setting>
 {
     match (verb, name) {
         (Verb::Once, "--fuel") => Some(Setting::Fuel),
+        (Verb::Once, "--depth") => Some(Setting::Depth),
         _ => None,
     }
 }
@@ -151,11 +155,12 @@ fn read_number(word: &str) -> Option<u64>
     word.parse().ok()
 }
 
-/// A number from 1 to `most`, for an option that has none yet.
-fn read_first(before: Option<u64>, most: u64, word: &str) -> Option<u64>
-    ensures { result ≡ first_given before most word.now }
+/// A number from 1 to `most`, for an option that was not given yet.
+fn read_first(is_given: bool, most: u64, word: &str) -> Option<u64>
+    ensures number { result ≡ first_given is_given most word.now }
+    ensures few { IfSome result (λ n. n ≤ most) }
 {
-    if before.is_some() {
+    if is_given {
         return None;
     }
     let n = read_number(word)?;
@@ -181,6 +186,7 @@ struct Reading<'a> {
     /// The positional words.
     names: Seq<&'a String>,
     fuel: Option<u64>,
+    depth: Option<u32>,
 }
 
 impl<'a> Reading<'a> {
@@ -190,6 +196,7 @@ impl<'a> Reading<'a> {
         Reading {
             names: Seq::new(alloc),
             fuel: None,
+            depth: None,
         }
     }
 
@@ -200,10 +207,16 @@ impl<'a> Reading<'a> {
     {
         match setting {
             Setting::Fuel => {
-                let Some(fuel) = read_first(self.fuel, MOST_FUEL, value) else {
+                let Some(fuel) = read_first(self.fuel.is_some(), MOST_FUEL, value) else {
                     return Err(WordsFault::Usage);
                 };
                 self.fuel = Some(fuel);
+            }
+            Setting::Depth => {
+                let Some(depth) = read_first(self.depth.is_some(), MOST_DEPTH, value) else {
+                    return Err(WordsFault::Usage);
+                };
+                self.depth = Some(depth as u32);
             }
         }
         Ok(())
@@ -293,7 +306,7 @@ fn make_once(alloc: Global, reading: &Reading) -> Result<Command, WordsFault>
         source,
         input,
         fuel: reading.fuel.unwrap_or(DEFAULT_FUEL),
-        depth: DEFAULT_DEPTH,
+        depth: reading.depth.unwrap_or(DEFAULT_DEPTH),
     })
 }
 

@@ -1,9 +1,7 @@
-use Rattle.std.proofs.Common.{◌≡◌, sym, ◌∙◌, subst, arith}
+use Rattle.std.proofs.Common.{◌≡◌, ◌∙◌, subst, arith}
 use Rattle.std.proofs.lemmas.Result.{err_from_is_err_and}
-use Rattle.std.specs.Prelude.{List, None, IsTrue}
-use Rattle.sn_net.specs.declared.net.Net.{Net}
+use Rattle.std.specs.Prelude.{List, None}
 use Rattle.sn_net.specs.Item.{ModelItem}
-use Rattle.sn_once.specs.Straight.{is_straight}
 use Rattle.sn_once.specs.Stuck.{TellsFirst, first_stuck}
 use Rattle.sn_top.specs.Load.{Limits, limits_of}
 use Rattle.sn_top.proofs.Loading.{answered, given_is, not_answered}
@@ -19,22 +17,19 @@ pub new-run-requires-clause-queue : goal.new-run-requires-clause-queue
 new-run-requires-clause-queue c = record { some = omega arith; few = omega arith }
 
 pub new-run-requires-clause-formed : goal.new-run-requires-clause-formed
-new-run-requires-clause-formed c = c.requires.runnable.formed
-
-pub run_once-requires : goal.run_once-requires
-run_once-requires c = record { straight = subst (λ (net : Net). IsTrue (is_straight net)) (sym c.new-run.ensures.net) c.requires.runnable.straight }
+new-run-requires-clause-formed c = c.requires.formed
 
 pub returns-in_err-items-2-clause-ended : goal.returns-in_err-items-2-clause-ended
 returns-in_err-items-2-clause-ended c =
     let p = err_from_is_err_and c.from_residual-in_err-items-2.result c.from_residual-in_err-items-2.ensures.1 in
     let limits : Limits = limits_of c.args.fuel c.args.depth in
-    let same = given_is c.new-run.result c.args.program limits c.in_ok-items.items c.new-run.ensures.net c.new-run.ensures.boxes c.new-run.ensures.fuel c.new-run.ensures.depth c.new-run.ensures.items in
+    let same = given_is c.new-run.result c.args.program limits c.in_ok-items.items c.new-run.ensures.net c.new-run.ensures.boxes c.new-run.ensures.fuel c.new-run.ensures.depth in
     rw (p.1, p.2) (not_answered limits c.args.program c.args.bytes.now c.in_ok-input.input c.in_ok-input.ensures.answer c.in_ok-items.items c.in_ok-items.ensures c.in_err-items-2.field-0.0
     (subst (λ (ys : List ModelItem). TellsFirst ys c.in_err-items-2.field-0.0) same c.in_err-items-2.ensures.no_route))
 
 pub returns-clause-answered : goal.returns-clause-answered
 returns-clause-answered c =
     let limits : Limits = limits_of c.args.fuel c.args.depth in
-    let same = given_is c.new-run.result c.args.program limits c.in_ok-items.items c.new-run.ensures.net c.new-run.ensures.boxes c.new-run.ensures.fuel c.new-run.ensures.depth c.new-run.ensures.items in
+    let same = given_is c.new-run.result c.args.program limits c.in_ok-items.items c.new-run.ensures.net c.new-run.ensures.boxes c.new-run.ensures.fuel c.new-run.ensures.depth in
     answered limits c.args.program c.args.bytes.now c.in_ok-input.input c.in_ok-input.ensures.answer c.in_ok-items.items c.in_ok-items.ensures c.in_ok-items-2.items
     (c.in_ok-items-2.ensures.given ∙ same) (subst (λ (ys : List ModelItem). first_stuck ys ≡ None) same c.in_ok-items-2.ensures.routed)

@@ -1,9 +1,7 @@
-use Rattle.std.proofs.lemmas.Result.{err_from_is_err_and, IfErr-weaker, IfOk-weaker}
+use Rattle.std.proofs.lemmas.Result.{err_from_is_err_and}
 use Rattle.sn_scope.specs.Resolution.{parts_of}
-use Rattle.sn_top.specs.Load.{IsLoaded, IsMain, WhyNoMain}
-use Rattle.sn_top.specs.Scope.{WhyUnloaded}
 use Rattle.sn_top.specs.Source.{IsSource}
-use Rattle.sn_top.proofs.Loading.{loaded, not_lexed, not_parsed, not_resolved, other_main}
+use Rattle.sn_top.proofs.Loading.{loaded, not_lexed, not_parsed, not_resolved}
 use Rattle.sn_top.proofs.load.load_source.Goals as goal
 
 pub returns-in_err-tokens-clause-ended : goal.returns-in_err-tokens-clause-ended
@@ -25,11 +23,4 @@ returns-in_err-resolved-clause-ended c =
 pub returns-clause-loaded : goal.returns-clause-loaded
 returns-clause-loaded c =
     let read : IsSource c.args.bytes.now c.in_ok-tree.tree = record { tokens = c.in_ok-tokens.tokens; lexed = c.in_ok-tokens.ensures.answer; spelled = rw c.as_slice.ensures at c.in_ok-tree.ensures.answer } in
-    IfOk-weaker c.main_of.result (IsMain (parts_of c.in_ok-resolved.resolved)) (IsLoaded c.args.bytes.now)
-    (λ program is. loaded c.args.bytes.now c.in_ok-tree.tree read (parts_of c.in_ok-resolved.resolved) c.in_ok-resolved.ensures.ok program is) c.main_of.ensures.ok
-
-pub returns-clause-ended : goal.returns-clause-ended
-returns-clause-ended c =
-    let read : IsSource c.args.bytes.now c.in_ok-tree.tree = record { tokens = c.in_ok-tokens.tokens; lexed = c.in_ok-tokens.ensures.answer; spelled = rw c.as_slice.ensures at c.in_ok-tree.ensures.answer } in
-    IfErr-weaker c.main_of.result (WhyNoMain (parts_of c.in_ok-resolved.resolved)) (WhyUnloaded c.args.bytes.now)
-    (λ why is. other_main c.args.bytes.now c.in_ok-tree.tree read (parts_of c.in_ok-resolved.resolved) c.in_ok-resolved.ensures.ok why is) c.main_of.ensures.refused
+    loaded c.args.bytes.now c.in_ok-tree.tree read (parts_of c.in_ok-resolved.resolved) c.in_ok-resolved.ensures.ok c.main_of.result c.main_of.ensures

@@ -89,5 +89,5 @@ returns-clause-stopped g c =
     let end = rw c.as_slice-3.ensures at c.in_ok-print_items.ensures.end in
     (printed c.in_ok-answered.answered.names (map modelled c.in_ok-answered.answered.items), finds_ending (limits_of c.args.fuel c.args.depth) source input c.in_ok-source.source read c.in_ok-program.program program c.in_ok-input.input has c.in_ok-answered.answered answer (Some c.in-Some.fault) (sym c.in-Some.is ∙ end), whole)
 
-pub answer_input-requires-clause-runnable : goal.answer_input-requires-clause-runnable
-answer_input-requires-clause-runnable g c = c.in_ok-program.ensures.loaded.runnable
+pub answer_input-requires-clause-formed : goal.answer_input-requires-clause-formed
+answer_input-requires-clause-formed g c = c.in_ok-program.ensures.loaded.formed
