@@ -1,4 +1,5 @@
 use Rattle.std.proofs.Common.{◌≡◌, [], ◌∷◌, ◌++◌, map, refl, sym, subst, ◌∙◌}
+use Rattle.std.specs.Prelude.{Some}
 use Rattle.std.proofs.lemmas.Result.{on_ok_weaker}
 use Rattle.sn_record.specs.declared.item.Item.{Item}
 use Rattle.sn_net.specs.Item.{modelled}
@@ -19,6 +20,8 @@ returns-in-Rec c =
     c.push_line.ensures
 
 pub returns-in-Fault : goal.returns-in-Fault
-returns-in-Fault c = λ before shows.
-    subst (λ (x : Item). Shows c.args.names.now (map modelled (before ++ x ∷ [])) _) (sym c.in-Fault.is)
-    (fault_added c.args.names.now before c.args.self.now _ shows c.in-Fault.fault (not_ended c.args.self.now.fault (sym c.is_some.ensures ∙ c.if-is_some.false)) refl refl)
+returns-in-Fault c =
+    let new : Transcript = record { text = c.args.self.now.text; fault = Some c.in-Fault.fault } in
+    λ before shows.
+    subst (λ (x : Item). Shows c.args.names.now (map modelled (before ++ x ∷ [])) new) (sym c.in-Fault.is)
+    (fault_added c.args.names.now before c.args.self.now new shows c.in-Fault.fault (not_ended c.args.self.now.fault (sym c.is_some.ensures ∙ c.if-is_some.false)) refl refl)
