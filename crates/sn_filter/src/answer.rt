@@ -96,21 +96,25 @@ pub fn apply(alloc: Global, f: &Filter, r: &Record) -> Result<Items, Memory>
     Ok(items)
 }
 
-/// As `apply`, of a record that is given up: the last template's record takes what it inherits out of it, and those of
-/// the earlier ones copy it.
-pub fn apply_owned(alloc: Global, f: &Filter, taken: Record) -> Result<Items, Memory>
+/// As `apply`, of a record that is given up, and behind the items that are there: the last template's record takes what it
+/// inherits out of it, and those of the earlier ones copy it.
+pub fn apply_onto(
+    alloc: Global,
+    f: &Filter,
+    taken: Record,
+    items: &mut Items,
+) -> Result<(), Memory>
     requires closed { IsClosed f.now }
     requires matches { Matches taken f.now.pattern }
-    ensures { IfOk result (λ items. map modelled items ≡ filter_answer f.now taken) }
+    ensures { OnOk result (map modelled items.new ≡ map modelled items.old ++ filter_answer f.now taken) }
 {
-    let mut items = no_items(alloc, f)?;
     let Some((last, earlier)) = f.templates.as_slice().split_last() else {
-        return Ok(items);
+        return Ok(());
     };
-    if !add_each(alloc, &mut items, f, earlier, &taken)? {
-        return Ok(items);
+    if !add_each(alloc, items, f, earlier, &taken)? {
+        return Ok(());
     }
     let made = template_record_owned(alloc, last, &f.pattern, taken);
-    add(&mut items, f.place, made)?;
-    Ok(items)
+    add(items, f.place, made)?;
+    Ok(())
 }

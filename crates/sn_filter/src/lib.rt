@@ -5,4 +5,4 @@ mod answer;
 mod outcome;
 mod template;
 
-pub use answer::{apply, apply_owned};
+pub use answer::{apply, apply_onto};

@@ -1,4 +1,4 @@
-ghost use Rattle.std.specs.Prelude.{◌≡◌, All, IsTrue, IfOk, IfSome, OnOk};
+ghost use Rattle.std.specs.Prelude.{◌≡◌, ◌∷◌, [], All, IsTrue, IfOk, IfSome, OnOk};
 ghost use Rattle.std.specs.FinMap.{empty, get};
 ghost use Rattle.sn_record.specs.Record.{FitsLabel, Matches};
 ghost use Rattle.sn_net.specs.Filter.{is_from, target};
@@ -94,6 +94,24 @@ pub fn template_record(
     Ok(made.inheriting(taken, pattern)?)
 }
 
+/// The record of a template of one part, whose value is set in what stays of the record that is given up. So it takes no room
+/// of its own.
+fn part_record(
+    alloc: Global,
+    part: &Part,
+    pattern: &LabelSet,
+    taken: Record,
+) -> Result<Record, Stop>
+    requires from { IsTrue (is_from pattern.now part.now) }
+    requires matches { Matches taken pattern.now }
+    ensures { Gives (answered_record taken pattern.now (record { parts = part.now ∷ [] })) result }
+{
+    let value = value_of(alloc, part, pattern, &taken)?;
+    let mut made = Record::new(alloc).inheriting_owned(taken, pattern)?;
+    set_value(&mut made, part.target(), value)?;
+    Ok(made)
+}
+
 /// As `template_record`, of a record that is given up once each part has its value.
 pub fn template_record_owned(
     alloc: Global,
@@ -105,6 +123,11 @@ pub fn template_record_owned(
     requires matches { Matches taken pattern.now }
     ensures { Gives (answered_record taken pattern.now template.now) result }
 {
-    let made = record_of(alloc, template.parts.as_slice(), pattern, &taken)?;
-    Ok(made.inheriting_owned(taken, pattern)?)
+    match template.parts.as_slice() {
+        [part] => part_record(alloc, part, pattern, taken),
+        parts => {
+            let made = record_of(alloc, parts, pattern, &taken)?;
+            Ok(made.inheriting_owned(taken, pattern)?)
+        }
+    }
 }

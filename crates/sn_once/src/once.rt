@@ -11,6 +11,7 @@ use sn_list::{Memory, Seq};
 use sn_model::Run;
 use sn_pass::flowing::Flowing;
 use sn_pass::kept::Kept;
+use sn_pass::output::Output;
 use sn_pass::pass::pass;
 use sn_pass::walk::{Walk, input_sets};
 use sn_record::{Item, Items, LabelSet};
@@ -25,6 +26,8 @@ pub struct Once {
     /// The set of each box's input labels, made once for all items.
     inputs: Seq<LabelSet>,
     kept: Kept,
+    /// Lists for the next item.
+    output: Output,
     pub ghost ready: { inputs ≡ sets_of (boxes_of run.value) },
 }
 
@@ -41,6 +44,7 @@ impl Once {
             run: Snapshot::of(run),
             inputs,
             kept: Kept::Fresh,
+            output: Output::new(alloc),
         })
     }
 
@@ -57,19 +61,29 @@ impl Once {
             run: made_by,
             inputs,
             mut kept,
+            mut output,
         } = self;
         let walk = Walk {
             alloc,
             run,
             inputs: inputs.as_slice(),
         };
-        let mut came = Seq::new(alloc);
-        pass(&walk, run.net(), &mut kept, Flowing::of(item), &mut came)?;
-        let given = settled(alloc, came)?;
+        let before = output.begin(alloc);
+        pass(
+            &walk,
+            run.net(),
+            &mut kept,
+            Flowing::of(item),
+            &mut output,
+        )?;
+        let mut came = output.end(before).into_vec();
+        let given = settled(alloc, &mut came)?;
+        output.put_by(came)?;
         let next = Once {
             run: made_by,
             inputs,
             kept,
+            output,
         };
         Ok((next, given))
     }

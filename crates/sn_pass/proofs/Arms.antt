@@ -1,8 +1,8 @@
 -- The steps of the forms as the code takes them: with the networks, the lists and the choices that it has by equations.
-use Rattle.std.proofs.Common.{◌≡◌, ◌≢◌, ℕ, ℤ, false, List, [], ◌∷◌, ◌++◌, map, refl, sym, subst}
+use Rattle.std.proofs.Common.{◌≡◌, ◌≢◌, ◌-◌, ◌≤◌, ◌∙◌, ℕ, ℤ, false, List, [], ◌∷◌, ◌++◌, length, map, take, slice_range, refl, sym, ap, subst, arith}
 use Rattle.std.specs.Prelude.{Err, None, Ok, OnOk, Option, Result, Some, slice_get}
 use Rattle.std.specs.Ordering.{int_eq}
-use Rattle.std.proofs.lemmas.List.{map-append}
+use Rattle.std.proofs.lemmas.List.{map-append, take_all}
 use Rattle.sn_record.specs.LabelSet.{Labels}
 use Rattle.sn_record.specs.Record.{Entries}
 use Rattle.sn_streams.specs.Keys.{Branch, Value}
@@ -36,10 +36,26 @@ pub child_passes : (t : Network) (state before after later : Kept) (x : ModelIte
 child_passes t state before after later x out grown taken put step =
     subst (λ (q : Kept). Passes t before q x out grown) (sym put) (subst (λ (q : Kept). Passes t q after x out grown) taken step)
 
+-- a range that has all of a list
+pub whole_range : {X : Type 0} (n : ℕ) (xs : List X) → length xs ≤ n → slice_range xs 0 n ≡ xs
+whole_range n xs within =
+    let none_less : n - 0 ≡ n = omega arith in
+    ap (λ k. take k xs) none_less ∙ take_all n xs within
+
+-- what holds whatever was answered
+pub always_ok : {A E : Type 0} (result : Result A E) (P : Type 0) → P → OnOk result P
+always_ok (Ok x) P p = p
+always_ok (Err e) P p = tt
+
 -- where both clauses of an answer hold, so does what follows from them
 pub both_ok : {A E : Type 0} (result : Result A E) (P Q R : Type 0) → (P → Q → R) → OnOk result P → OnOk result Q → OnOk result R
 both_ok (Ok x) P Q R follows p q = follows p q
 both_ok (Err e) P Q R follows p q = tt
+
+-- items through a network, with the items and what was given before by equations
+pub passes_all_at : (t : Network) (before after : Kept) (xs ys out start grown : List ModelItem) → xs ≡ ys → out ≡ start → PassesAll t before after xs out grown → PassesAll t before after ys start grown
+passes_all_at t before after xs ys out start grown items same step =
+    subst (λ (zs : List ModelItem). PassesAll t before after zs start grown) items (subst (λ (zs : List ModelItem). PassesAll t before after xs zs grown) same step)
 
 module _ (s : Setting) where
   pub serial_arm : (net left right l r : Net) (q later first second first_then second_then : Kept) (x : ModelItem) (between out grown none : List ModelItem)

@@ -3,6 +3,7 @@ pub mod Held
 pub mod Inputs
 pub mod Keeping
 pub mod Levels
+pub mod Output
 pub mod Passing
 pub mod States
 pub mod Steps

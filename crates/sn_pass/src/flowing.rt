@@ -31,14 +31,15 @@ impl Flowing {
     }
 }
 
-/// Appends items.
-pub fn append_items(out: &mut Seq<Flowing>, items: Items) -> Result<(), Memory>
+/// Appends items, and answers the room that their list took.
+pub fn append_items(out: &mut Seq<Flowing>, items: Items) -> Result<Items, Memory>
     ensures { OnOk result (map flows out.new ≡ map flows out.old ++ map modelled items) }
 {
-    for item in items.into_vec() {
+    let mut room = items.into_vec();
+    for item in room.drain(..) {
         append(out, Flowing::of(item))?;
     }
-    Ok(())
+    Ok(Items::from_vec(room))
 }
 
 /// Appends what comes out of a cell.

@@ -10,13 +10,15 @@ ghost use Rattle.sn_model.specs.Run.{boxes_of, fuel_of};
 ghost use Rattle.sn_pass.specs.Flowing.{flows};
 ghost use Rattle.sn_pass.specs.Inputs.{HasInputs};
 ghost use Rattle.sn_pass.specs.Keeping.{state_or};
+ghost use Rattle.sn_pass.specs.Output.{given};
 ghost use Rattle.sn_pass.specs.States.{held};
 
 use crate::flowing::{Flowing, append_items, append_joined};
 use crate::kept::{Kept, into_holding};
+use crate::output::Output;
 use crate::walk::Walk;
 use sn_boxrun::call_owned;
-use sn_filter::apply_owned;
+use sn_filter::apply_onto;
 use sn_list::{Memory, Seq};
 use sn_net::Filter;
 use sn_record::{LabelSet, Record};
@@ -36,16 +38,20 @@ fn filter_record(
     alloc: Global,
     filter: &Filter,
     taken: Record,
-    out: &mut Seq<Flowing>,
+    out: &mut Output,
 ) -> Result<(), Memory>
     requires { IsClosed filter.now }
-    ensures { OnOk result (map flows out.new ≡ map flows out.old
+    ensures { OnOk result (given out.new ≡ given out.old
         ++ (if is_match taken filter.now.pattern then filter_answer filter.now taken else model.Stuck filter.now.place ∷ [])) }
 {
     if !is_match(&taken, &filter.pattern) {
-        return append(out, Flowing::Stuck(filter.place));
+        return append(&mut out.given, Flowing::Stuck(filter.place));
     }
-    append_items(out, apply_owned(alloc, filter, taken)?)
+    let mut answers = out.take_answers(alloc);
+    apply_onto(alloc, filter, taken, &mut answers)?;
+    let room = append_items(&mut out.given, answers)?;
+    out.put_answers(room);
+    Ok(())
 }
 
 /// Appends what a filter answers to an item.
@@ -53,15 +59,15 @@ pub fn pass_filter(
     alloc: Global,
     filter: &Filter,
     item: Flowing,
-    out: &mut Seq<Flowing>,
+    out: &mut Output,
 ) -> Result<(), Memory>
     requires { IsClosed filter.now }
-    ensures { OnOk result (map flows out.new ≡ map flows out.old ++ filter_item filter.now (flows item)) }
+    ensures { OnOk result (given out.new ≡ given out.old ++ filter_item filter.now (flows item)) }
 {
     match item {
         Flowing::Rec(taken) => filter_record(alloc, filter, taken, out),
-        Flowing::Fault(fault) => append(out, Flowing::Fault(fault)),
-        Flowing::Stuck(at) => append(out, Flowing::Stuck(at)),
+        Flowing::Fault(fault) => append(&mut out.given, Flowing::Fault(fault)),
+        Flowing::Stuck(at) => append(&mut out.given, Flowing::Stuck(at)),
     }
 }
 
@@ -83,7 +89,8 @@ fn call_box(
         return append(out, Flowing::Stuck(place));
     }
     let came = call_owned(walk.alloc, program, place, input, taken, walk.run.fuel())?;
-    append_items(out, came)
+    append_items(out, came)?;
+    Ok(())
 }
 
 /// Appends what the box of a number answers to an item.

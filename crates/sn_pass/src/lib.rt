@@ -5,6 +5,7 @@ mod dispatch;
 pub mod flowing;
 pub mod kept;
 mod leaf;
+pub mod output;
 pub mod pass;
 mod slots;
 mod waiting;

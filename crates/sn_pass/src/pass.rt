@@ -11,6 +11,7 @@ ghost use Rattle.sn_model.specs.Run.{boxes_of, depth_of, setting_of};
 ghost use Rattle.sn_pass.specs.Flowing.{flows};
 ghost use Rattle.sn_pass.specs.Inputs.{HasInputs};
 ghost use Rattle.sn_pass.specs.Keeping.{child_of};
+ghost use Rattle.sn_pass.specs.Output.{given};
 ghost use Rattle.sn_pass.specs.Passing.{IsAtStar, Passes, PassesAll};
 ghost use Rattle.sn_pass.specs.States.{held};
 
@@ -21,6 +22,7 @@ use crate::kept::{
     take_replica,
 };
 use crate::leaf::{pass_box, pass_cell, pass_filter};
+use crate::output::Output;
 use crate::slots::{put_at, take_at};
 use crate::waiting::{Waiting, wait};
 use crate::walk::Walk;
@@ -37,22 +39,30 @@ pub fn pass(
     net: &Net,
     kept: &mut Kept,
     item: Flowing,
-    out: &mut Seq<Flowing>,
+    out: &mut Output,
 ) -> Result<(), Memory>
     requires formed { FitsBoxes (boxes_of walk.now.run.now) net.now }
     requires inputs { HasInputs walk.now }
-    ensures { OnOk result (Passes (tree (setting_of walk.now.run.now) net.now) (held kept.old) (held kept.new) (flows item) (map flows out.old) (map flows out.new)) }
+    ensures { OnOk result (Passes (tree (setting_of walk.now.run.now) net.now) (held kept.old) (held kept.new) (flows item) (given out.old) (given out.new)) }
 {
     match net {
-        Net::Box { place, number } => pass_box(walk, *place, *number, item, out),
+        Net::Box { place, number } => pass_box(walk, *place, *number, item, &mut out.given),
         Net::Filter(filter) => pass_filter(walk.alloc, filter, item, out),
         Net::Sync { place, patterns } => {
-            pass_cell(walk.alloc, *place, patterns.as_slice(), kept, item, out)
+            pass_cell(
+                walk.alloc,
+                *place,
+                patterns.as_slice(),
+                kept,
+                item,
+                &mut out.given,
+            )
         }
         Net::Serial { left, right } => {
             let (mut first, mut second) = into_parts(replace(kept, Kept::Fresh));
-            let mut between = Seq::new(walk.alloc);
-            pass(walk, left.get(), &mut first, item, &mut between)?;
+            let before = out.begin(walk.alloc);
+            pass(walk, left.get(), &mut first, item, out)?;
+            let between = out.end(before);
             pass_each(walk, right.get(), &mut second, between, out)?;
             *kept = of_parts(walk.alloc, first, second)?;
             Ok(())
@@ -63,7 +73,7 @@ pub fn pass(
             faces,
             ..
         } => {
-            let (number, taken) = match choose(net, *place, faces.as_slice(), item, out)? {
+            let (number, taken) = match choose(net, *place, faces.as_slice(), item, &mut out.given)? {
                 Some(picked) => picked,
                 None => return Ok(()),
             };
@@ -83,7 +93,7 @@ pub fn pass(
             tag,
             ..
         } => {
-            let (value, taken) = match split(net, *place, *tag, item, out)? {
+            let (value, taken) = match split(net, *place, *tag, item, &mut out.given)? {
                 Some(picked) => picked,
                 None => return Ok(()),
             };
@@ -99,16 +109,17 @@ fn pass_each(
     net: &Net,
     kept: &mut Kept,
     items: Seq<Flowing>,
-    out: &mut Seq<Flowing>,
+    out: &mut Output,
 ) -> Result<(), Memory>
     requires formed { FitsBoxes (boxes_of walk.now.run.now) net.now }
     requires inputs { HasInputs walk.now }
-    ensures { OnOk result (PassesAll (tree (setting_of walk.now.run.now) net.now) (held kept.old) (held kept.new) (map flows items) (map flows out.old) (map flows out.new)) }
+    ensures { OnOk result (PassesAll (tree (setting_of walk.now.run.now) net.now) (held kept.old) (held kept.new) (map flows items) (given out.old) (given out.new)) }
 {
-    for item in items.into_vec() {
+    let mut items = items.into_vec();
+    for item in items.drain(..) {
         pass(walk, net, kept, item, out)?;
     }
-    Ok(())
+    out.put_by(items)
 }
 
 /// A record through the branch of a number, with what is kept for it among the branches of its choice.
@@ -119,12 +130,12 @@ fn pass_branch(
     number: u32,
     kept: &mut Kept,
     taken: Record,
-    out: &mut Seq<Flowing>,
+    out: &mut Output,
 ) -> Result<(), Memory>
     requires formed { FitsBoxes (boxes_of walk.now.run.now) branch.now }
     requires inputs { HasInputs walk.now }
     ensures passes { OnOk result (Passes (tree (setting_of walk.now.run.now) branch.now) (child_of (held kept.old) (Branch number)) (child_of (held kept.new) (Branch number))
-        (model.Rec taken) (map flows out.old) (map flows out.new)) }
+        (model.Rec taken) (given out.old) (given out.new)) }
     ensures others { OnOk result ((j : ℕ) → j ≢ number → child_of (held kept.new) (Branch j) ≡ child_of (held kept.old) (Branch j)) }
 {
     let mut branches = into_branches(replace(kept, Kept::Fresh), walk.alloc);
@@ -143,12 +154,12 @@ fn pass_replica(
     value: i64,
     kept: &mut Kept,
     taken: Record,
-    out: &mut Seq<Flowing>,
+    out: &mut Output,
 ) -> Result<(), Memory>
     requires formed { FitsBoxes (boxes_of walk.now.run.now) body.now }
     requires inputs { HasInputs walk.now }
     ensures passes { OnOk result (Passes (tree (setting_of walk.now.run.now) body.now) (child_of (held kept.old) (Value value)) (child_of (held kept.new) (Value value))
-        (model.Rec taken) (map flows out.old) (map flows out.new)) }
+        (model.Rec taken) (given out.old) (given out.new)) }
     ensures others { OnOk result ((k : ℤ) → int_eq k value ≡ false → child_of (held kept.new) (Value k) ≡ child_of (held kept.old) (Value k)) }
 {
     let mut replicas = into_replicas(replace(kept, Kept::Fresh), walk.alloc);
@@ -170,13 +181,13 @@ fn pass_star(
     guard: &Option<TagExpr>,
     kept: &mut Kept,
     item: Flowing,
-    out: &mut Seq<Flowing>,
+    out: &mut Output,
 ) -> Result<(), Memory>
     requires formed { FitsBoxes (boxes_of walk.now.run.now) body.now }
     requires inputs { HasInputs walk.now }
     requires star { IsAtStar star.now place exit.now guard.now }
     ensures { OnOk result ((m : SomeMerge) → Passes (level place m exit.now guard.now (tree (setting_of walk.now.run.now) body.now) (depth_of walk.now.run.now))
-        (held kept.old) (held kept.new) (flows item) (map flows out.old) (map flows out.new)) }
+        (held kept.old) (held kept.new) (flows item) (given out.old) (given out.new)) }
 {
     let depth = walk.run.depth();
     let mut levels = into_levels(replace(kept, Kept::Fresh), walk.alloc);
@@ -184,15 +195,17 @@ fn pass_star(
     waiting.push(Waiting { level: 0, item })?;
     while let Some(next) = waiting.pop() {
         let Waiting { level, item } = next;
-        let taken = match tap(star, place, exit, guard, depth - level, item, out)? {
+        let taken = match tap(star, place, exit, guard, depth - level, item, &mut out.given)? {
             Some(taken) => taken,
             None => continue,
         };
         let mut state = take_at(&mut levels, level as usize);
-        let mut made = Seq::new(walk.alloc);
-        pass(walk, body, &mut state, Flowing::Rec(taken), &mut made)?;
+        let before = out.begin(walk.alloc);
+        pass(walk, body, &mut state, Flowing::Rec(taken), out)?;
+        let made = out.end(before);
         put_at(&mut levels, level as usize, state)?;
-        wait(&mut waiting, level + 1, made)?;
+        let room = wait(&mut waiting, level + 1, made)?;
+        out.put_by(room)?;
     }
     *kept = Kept::Levels(levels);
     Ok(())

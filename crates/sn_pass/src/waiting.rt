@@ -14,13 +14,17 @@ pub struct Waiting {
     pub item: Flowing,
 }
 
-/// Lets items wait at a level, before all that wait already, and the first of them first.
-pub fn wait(waiting: &mut Vec<Waiting>, level: u32, items: Seq<Flowing>) -> Result<(), Memory>
+/// Lets items wait at a level, before all that wait already, and the first of them first. Answers the room that their list took.
+pub fn wait(
+    waiting: &mut Vec<Waiting>,
+    level: u32,
+    items: Seq<Flowing>,
+) -> Result<Vec<Flowing>, Memory>
     ensures { OnOk result (stack_of waiting.new.items ≡ entries level (map flows items) ++ stack_of waiting.old.items) }
 {
     let mut items = items.into_vec();
     while let Some(item) = items.pop() {
         waiting.push(Waiting { level, item })?;
     }
-    Ok(())
+    Ok(items)
 }

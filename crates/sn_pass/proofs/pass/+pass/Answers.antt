@@ -1,6 +1,6 @@
-use Rattle.std.proofs.lemmas.List.{append-nil, nil_from_length}
-use Rattle.std.proofs.Common.{take, false, FitsSigned, w64, ◌-◌, ◌≡◌, ◌<◌, ◌++◌, ◌∷◌, [], append_assoc, List, length, refl, sym, ap, subst, ◌∙◌, map, rules}
-use Rattle.std.specs.Vec.Iter.{into_iter_items}
+use Rattle.std.proofs.lemmas.List.{append-nil}
+use Rattle.std.proofs.Common.{take, false, ◌+◌, FitsSigned, w64, ◌-◌, ◌≡◌, ◌<◌, ◌++◌, ◌∷◌, [], append_assoc, List, length, refl, sym, ap, subst, ◌∙◌, map, rules}
+use Rattle.std.specs.Vec.Iter.{drain_items}
 use Rattle.sn_net.specs.WellFormed.{FitsBoxes}
 use Rattle.sn_pass.specs.Passing.{IsAtChoice, IsTapped, Passes, PassesAll}
 use Rattle.sn_net.specs.declared.net.Net.TheViews.{the_lemmas}
@@ -8,10 +8,12 @@ use Rattle.sn_net.specs.declared.net.Net.{Net}
 use Rattle.sn_model.specs.Meaning.{tree}
 use Rattle.sn_pass.specs.Flowing.{flows}
 use Rattle.sn_pass.specs.declared.flowing.Flowing.{Flowing}
+use Rattle.sn_pass.specs.Levels.{entries}
+use Rattle.sn_pass.specs.Output.{given}
 use Rattle.sn_pass.specs.States.{at_value, held}
-use Rattle.sn_pass.proofs.Arms.{both_ok, child_passes, choice_goes_to, choice_none, choice_some, goes_through, serial_arm, split_none, split_some, star_arm}
+use Rattle.sn_pass.proofs.Arms.{always_ok, both_ok, child_passes, choice_goes_to, choice_none, choice_some, goes_through, passes_all_at, serial_arm, split_none, split_some, star_arm, whole_range}
 use Rattle.sn_pass.proofs.States.{held-Branches, held-Levels, replica_held}
-use Rattle.sn_pass.proofs.StarLoop.{at_levels, enters_turned, leaves_turned, so_far_begins, so_far_ends, so_far_enters, so_far_leaves, top_within, turned_falls}
+use Rattle.sn_pass.proofs.StarLoop.{IsSoFar, at_levels, enters_turned, leaves_turned, so_far_begins, so_far_ends, so_far_enters, so_far_leaves, top_within, turned_falls}
 use Rattle.std.proofs.lemmas.Int.{to_z-of_z}
 use Rattle.std.proofs.lemmas.Result.{on_ok_weaker}
 use Rattle.sn_record.specs.Record.{Entries}
@@ -65,10 +67,13 @@ pub pass-returns-in_ok-kept-in-Serial : goal.pass-returns-in_ok-kept-in-Serial
 pass-returns-in_ok-kept-in-Serial t c =
     serial_arm (setting_of c.args.walk.now.run.now) c.args.net.now c.in-Serial.left c.in-Serial.right c.get.result.now c.get-in-Serial.result.now (held c.args.kept.now) (held c.in_ok-kept-in-Serial.field-0)
     (held c.into_parts-first.result.0) (held c.into_parts-first.result.1) (held c.pass.new.kept) (held c.pass_each.new.kept) (flows c.args.item)
-    (map flows c.pass.new.out) (map flows c.args.out.now) (map flows c.pass_each.new.out) (map flows c.new-between.result)
+    (given c.pass.new.out) (given c.args.out.now) (given c.pass_each.new.out) (given c.begin-before.new.self)
     c.in-Serial.is c.get.ensures c.get-in-Serial.ensures (c.into_parts-first.ensures.left ∙ ap (λ (k : Kept). left_of (held k)) c.replace.ensures.value)
-    (c.into_parts-first.ensures.right ∙ ap (λ (k : Kept). right_of (held k)) c.replace.ensures.value) (ap (map flows) c.new-between.ensures)
-    c.in_ok-pass-in-Serial.ensures c.in_ok-pass_each-in-Serial.ensures c.in_ok-kept-in-Serial.ensures.left c.in_ok-kept-in-Serial.ensures.right
+    (c.into_parts-first.ensures.right ∙ ap (λ (k : Kept). right_of (held k)) c.replace.ensures.value) (ap (map flows) c.begin-before.ensures.anew)
+    c.in_ok-pass-in-Serial.ensures
+    (passes_all_at (tree (setting_of c.args.walk.now.run.now) c.get-in-Serial.result.now) (held c.into_parts-first.result.1) (held c.pass_each.new.kept) _ _ _ _ (given c.pass_each.new.out)
+    (ap (map flows) c.end-between.ensures.since) (ap (map flows) (c.end-between.ensures.back ∙ c.begin-before.ensures.before)) c.in_ok-pass_each-in-Serial.ensures)
+    c.in_ok-kept-in-Serial.ensures.left c.in_ok-kept-in-Serial.ensures.right
 
 pub pass-choose-requires : goal.pass-choose-requires
 pass-choose-requires t c =
@@ -78,19 +83,19 @@ pass-choose-requires t c =
 pub pass-returns-in-None : goal.pass-returns-in-None
 pass-returns-in-None t c =
     choice_none (setting_of c.args.walk.now.run.now) c.args.net.now c.in-Choice.place c.in-Choice.merge c.in-Choice.branches c.in-Choice.faces c.as_slice-in-Choice.result.now c.in-Choice.is c.as_slice-in-Choice.ensures
-    (held c.args.kept.now) (flows c.args.item) (map flows c.args.out.now) (map flows c.choose.new.out) c.in_ok-picked-in-Choice.field-0 c.in_ok-picked-in-Choice.ensures c.in-None.is
+    (held c.args.kept.now) (flows c.args.item) (given c.args.out.now) (map flows c.choose.new.out) c.in_ok-picked-in-Choice.field-0 c.in_ok-picked-in-Choice.ensures c.in-None.is
 
 pub pass-bounds-nets-number : goal.pass-bounds-nets-number
 pass-bounds-nets-number t c =
     let goes = choice_goes_to (setting_of c.args.walk.now.run.now) c.args.net.now c.in-Choice.place c.in-Choice.merge c.in-Choice.branches c.in-Choice.faces c.as_slice-in-Choice.result.now c.in-Choice.is c.as_slice-in-Choice.ensures
-    (held c.args.kept.now) (flows c.args.item) (map flows c.args.out.now) (map flows c.choose.new.out) c.in_ok-picked-in-Choice.field-0 c.in_ok-picked-in-Choice.ensures c.in-Some.picked c.in-Some.is in
+    (held c.args.kept.now) (flows c.args.item) (given c.args.out.now) (map flows c.choose.new.out) c.in_ok-picked-in-Choice.field-0 c.in_ok-picked-in-Choice.ensures c.in-Some.picked c.in-Some.is in
     subst (λ (ns : List Net). c.in-Some.picked.0 < length ns) (sym c.as_slice-nets.ensures)
     (branch_there (boxes_of c.args.walk.now.run.now) c.args.net.now c.requires.formed c.in-Choice.place c.in-Choice.merge c.in-Choice.branches c.in-Choice.faces c.in-Choice.is c.in-Some.picked.0 goes.there)
 
 pub pass-pass_branch-requires : goal.pass-pass_branch-requires
 pass-pass_branch-requires t c =
     let goes = choice_goes_to (setting_of c.args.walk.now.run.now) c.args.net.now c.in-Choice.place c.in-Choice.merge c.in-Choice.branches c.in-Choice.faces c.as_slice-in-Choice.result.now c.in-Choice.is c.as_slice-in-Choice.ensures
-    (held c.args.kept.now) (flows c.args.item) (map flows c.args.out.now) (map flows c.choose.new.out) c.in_ok-picked-in-Choice.field-0 c.in_ok-picked-in-Choice.ensures c.in-Some.picked c.in-Some.is in
+    (held c.args.kept.now) (flows c.args.item) (given c.args.out.now) (map flows c.choose.new.out) c.in_ok-picked-in-Choice.field-0 c.in_ok-picked-in-Choice.ensures c.in-Some.picked c.in-Some.is in
     let below = branch_there (boxes_of c.args.walk.now.run.now) c.args.net.now c.requires.formed c.in-Choice.place c.in-Choice.merge c.in-Choice.branches c.in-Choice.faces c.in-Choice.is c.in-Some.picked.0 goes.there in
     let inside : c.in-Some.picked.0 < length c.as_slice-nets.result.now = subst (λ (ns : List Net). c.in-Some.picked.0 < length ns) (sym c.as_slice-nets.ensures) below in (
       search (rules, the_lemmas, inside),
@@ -104,15 +109,15 @@ pass-pass_branch-requires t c =
 pub pass-returns-in-Some : goal.pass-returns-in-Some
 pass-returns-in-Some t c =
     let goes = choice_goes_to (setting_of c.args.walk.now.run.now) c.args.net.now c.in-Choice.place c.in-Choice.merge c.in-Choice.branches c.in-Choice.faces c.as_slice-in-Choice.result.now c.in-Choice.is c.as_slice-in-Choice.ensures
-    (held c.args.kept.now) (flows c.args.item) (map flows c.args.out.now) (map flows c.choose.new.out) c.in_ok-picked-in-Choice.field-0 c.in_ok-picked-in-Choice.ensures c.in-Some.picked c.in-Some.is in
+    (held c.args.kept.now) (flows c.args.item) (given c.args.out.now) (map flows c.choose.new.out) c.in_ok-picked-in-Choice.field-0 c.in_ok-picked-in-Choice.ensures c.in-Some.picked c.in-Some.is in
     let there = branch_stands (boxes_of c.args.walk.now.run.now) c.args.net.now c.requires.formed c.in-Choice.place c.in-Choice.merge c.in-Choice.branches c.in-Choice.faces c.in-Choice.is c.as_slice-nets.result.now
     c.in-Some.picked.0 c.index-nets-number.result c.as_slice-nets.ensures
     (branch_there (boxes_of c.args.walk.now.run.now) c.args.net.now c.requires.formed c.in-Choice.place c.in-Choice.merge c.in-Choice.branches c.in-Choice.faces c.in-Choice.is c.in-Some.picked.0 goes.there)
     c.index-nets-number.is in
     both_ok c.pass_branch.result _ _ _
     (choice_some (setting_of c.args.walk.now.run.now) c.args.net.now c.in-Choice.place c.in-Choice.merge c.in-Choice.branches c.in-Choice.faces c.as_slice-in-Choice.result.now c.in-Choice.is c.as_slice-in-Choice.ensures
-    (held c.args.kept.now) (flows c.args.item) (map flows c.args.out.now) (map flows c.choose.new.out) c.in_ok-picked-in-Choice.field-0 c.in_ok-picked-in-Choice.ensures
-    c.in-Some.picked c.index-nets-number.result (held c.pass_branch.new.kept) (map flows c.pass_branch.new.out) c.in-Some.is there) c.pass_branch.ensures.passes c.pass_branch.ensures.others
+    (held c.args.kept.now) (flows c.args.item) (given c.args.out.now) (map flows c.choose.new.out) c.in_ok-picked-in-Choice.field-0 c.in_ok-picked-in-Choice.ensures
+    c.in-Some.picked c.index-nets-number.result (held c.pass_branch.new.kept) (given c.pass_branch.new.out) c.in-Some.is there) c.pass_branch.ensures.passes c.pass_branch.ensures.others
 
 pub pass-pass_star-requires : goal.pass-pass_star-requires
 pass-pass_star-requires t c = (
@@ -130,7 +135,7 @@ pub pass-returns-in-Star : goal.pass-returns-in-Star
 pass-returns-in-Star t c =
     on_ok_weaker c.pass_star.result
     (star_arm (setting_of c.args.walk.now.run.now) c.args.net.now c.in-Star.body c.get-in-Star.result.now c.in-Star.place c.in-Star.merge c.in-Star.exit c.in-Star.guard (held c.args.kept.now) (held c.pass_star.new.kept)
-    (flows c.args.item) (map flows c.args.out.now) (map flows c.pass_star.new.out) c.in-Star.is c.get-in-Star.ensures) c.pass_star.ensures
+    (flows c.args.item) (given c.args.out.now) (given c.pass_star.new.out) c.in-Star.is c.get-in-Star.ensures) c.pass_star.ensures
 
 pub pass-split-requires : goal.pass-split-requires
 pass-split-requires t c = at_split (boxes_of c.args.walk.now.run.now) c.args.net.now c.requires.formed c.in-Split.place c.in-Split.merge c.in-Split.body c.in-Split.tag c.in-Split.is
@@ -138,7 +143,7 @@ pass-split-requires t c = at_split (boxes_of c.args.walk.now.run.now) c.args.net
 pub pass-returns-in-None-2 : goal.pass-returns-in-None-2
 pass-returns-in-None-2 t c =
     split_none (setting_of c.args.walk.now.run.now) c.args.net.now c.in-Split.body c.in-Split.place c.in-Split.merge c.in-Split.tag c.in-Split.is
-    (held c.args.kept.now) (flows c.args.item) (map flows c.args.out.now) (map flows c.split.new.out) c.in_ok-picked-in-Split.field-0 c.in_ok-picked-in-Split.ensures c.in-None-2.is
+    (held c.args.kept.now) (flows c.args.item) (given c.args.out.now) (map flows c.split.new.out) c.in_ok-picked-in-Split.field-0 c.in_ok-picked-in-Split.ensures c.in-None-2.is
 
 pub pass-pass_replica-requires : goal.pass-pass_replica-requires
 pass-pass_replica-requires t c = (
@@ -155,32 +160,36 @@ pass-returns-in-Some-2 t c =
     let same = to_z-of_z w64 c.in-Some-2.picked.0 fits in
     both_ok c.pass_replica.result _ _ _
     (split_some (setting_of c.args.walk.now.run.now) c.args.net.now c.in-Split.body c.in-Split.place c.in-Split.merge c.in-Split.tag c.in-Split.is
-    (held c.args.kept.now) (flows c.args.item) (map flows c.args.out.now) (map flows c.split.new.out) c.in_ok-picked-in-Split.field-0 c.in_ok-picked-in-Split.ensures
-    c.in-Some-2.picked c.get-in-Split.result.now (held c.pass_replica.new.kept) (map flows c.pass_replica.new.out) c.in-Some-2.is c.get-in-Split.ensures)
+    (held c.args.kept.now) (flows c.args.item) (given c.args.out.now) (map flows c.split.new.out) c.in_ok-picked-in-Split.field-0 c.in_ok-picked-in-Split.ensures
+    c.in-Some-2.picked c.get-in-Split.result.now (held c.pass_replica.new.kept) (given c.pass_replica.new.out) c.in-Some-2.is c.get-in-Split.ensures)
     (rw same at c.pass_replica.ensures.passes) (rw same at c.pass_replica.ensures.others)
 
 pub pass_each-loop-item-init : goal.pass_each-loop-item-init
-pass_each-loop-item-init t c = (refl, through_none (tree (setting_of c.args.walk.now.run.now) c.args.net.now) (held c.args.kept.now) (map flows c.args.out.now))
+pass_each-loop-item-init t c = (refl, through_none (tree (setting_of c.args.walk.now.run.now) c.args.net.now) (held c.args.kept.now) (given c.args.out.now))
 
 pub pass_each-loop-item-preserved : goal.pass_each-loop-item-preserved
 pass_each-loop-item-preserved t c = (
-  append_assoc c.loop-item.yielded (c.in-Some.item ∷ []) (into_iter_items c.next.new.self)
+  append_assoc c.loop-item.yielded (c.in-Some.item ∷ []) (drain_items c.next.new.self)
       ∙ ap (λ items. c.loop-item.yielded ++ items) (sym c.in-Some.ensures.steps.0) ∙ c.loop-item.invariant.0,
   goes_through (tree (setting_of c.args.walk.now.run.now) c.args.net.now) (held c.args.kept.now) (held c.loop-item.kept) (held c.pass.new.kept)
-      c.loop-item.yielded c.in-Some.item (map flows c.args.out.now) (map flows c.loop-item.out) (map flows c.pass.new.out) c.loop-item.invariant.1 c.in_ok-pass.ensures,
+      c.loop-item.yielded c.in-Some.item (given c.args.out.now) (given c.loop-item.out) (given c.pass.new.out) c.loop-item.invariant.1 c.in_ok-pass.ensures,
 )
 
 pub pass_each-returns : goal.pass_each-returns
 pass_each-returns t c =
-    let none : into_iter_items c.loop-item.item-iterator ≡ [] = nil_from_length (into_iter_items c.loop-item.item-iterator) (sym c.loop-item.item-iterator.rest.ok.0 ∙ c.in-None.ensures.steps.0) in
+    let lent : drain_items c.into_iter-item-iterator.result ≡ drain_items c.drain-item-items.result = ap drain_items c.into_iter-item-iterator.ensures.into_iter_gives in
+    let whole : drain_items c.into_iter-item-iterator.result ≡ c.args.items = lent ∙ c.drain-item-items.ensures.rest ∙ whole_range c.into_vec-items.result.len c.into_vec-items.result.items (search rules) ∙ c.into_vec-items.ensures in
     let all : c.loop-item.yielded ≡ c.args.items =
-    sym (append-nil c.loop-item.yielded) ∙ ap (λ items. c.loop-item.yielded ++ items) (sym none) ∙ c.loop-item.invariant.0 ∙ c.into_iter-item-iterator.ensures.into_iter_gives.0 ∙ c.into_vec-item-items.ensures in
-    subst (λ (items : List Flowing). PassesAll (tree (setting_of c.args.walk.now.run.now) c.args.net.now) (held c.args.kept.now) (held c.loop-item.kept) (map flows items) (map flows c.args.out.now) (map flows c.loop-item.out)) all c.loop-item.invariant.1
+    sym (append-nil c.loop-item.yielded) ∙ ap (λ items. c.loop-item.yielded ++ items) (sym c.in-None.ensures.steps.0) ∙ c.loop-item.invariant.0 ∙ whole in
+    always_ok c.put_by.result _
+    (subst (λ (grown : List ModelItem). PassesAll (tree (setting_of c.args.walk.now.run.now) c.args.net.now) (held c.args.kept.now) (held c.loop-item.kept) (map flows c.args.items) (given c.args.out.now) grown)
+    (sym (ap (map flows) c.put_by.ensures))
+    (subst (λ (items : List Flowing). PassesAll (tree (setting_of c.args.walk.now.run.now) c.args.net.now) (held c.args.kept.now) (held c.loop-item.kept) (map flows items) (given c.args.out.now) (given c.loop-item.out)) all c.loop-item.invariant.1))
 
 pub pass_branch-returns-clause-passes : goal.pass_branch-returns-clause-passes
 pass_branch-returns-clause-passes t c =
     child_passes (tree (setting_of c.args.walk.now.run.now) c.args.branch.now) (held c.take_at-state.result) (child_of (held c.args.kept.now) (Branch c.args.number)) (held c.pass.new.kept)
-    (child_of (held (kept.Branches c.put_at.new.states)) (Branch c.args.number)) (Rec c.args.taken) (map flows c.args.out.now) (map flows c.pass.new.out)
+    (child_of (held (kept.Branches c.put_at.new.states)) (Branch c.args.number)) (Rec c.args.taken) (given c.args.out.now) (given c.pass.new.out)
     (c.take_at-state.ensures.taken ∙ c.into_branches-branches.ensures c.args.number ∙ ap (λ (k : Kept). child_of (held k) (Branch c.args.number)) c.replace.ensures.value)
     (held-Branches c.put_at.new.states c.args.number ∙ c.in_ok-put_at.ensures.put) c.in_ok-pass.ensures
 
@@ -194,7 +203,7 @@ pass_replica-returns-clause-passes t c =
     let fits : FitsSigned w64 c.args.value = search rules in
     let same = to_z-of_z w64 c.args.value fits in
     child_passes (tree (setting_of c.args.walk.now.run.now) c.args.body.now) (held c.take_replica-state.result) (child_of (held c.args.kept.now) (Value c.args.value)) (held c.pass.new.kept)
-    (child_of (held (kept.Replicas c.put_replica.new.replicas)) (Value c.args.value)) (Rec c.args.taken) (map flows c.args.out.now) (map flows c.pass.new.out)
+    (child_of (held (kept.Replicas c.put_replica.new.replicas)) (Value c.args.value)) (Rec c.args.taken) (given c.args.out.now) (given c.pass.new.out)
     (subst (λ z. held c.take_replica-state.result ≡ at_value c.into_replicas-replicas.result z) same c.take_replica-state.ensures.taken
     ∙ c.into_replicas-replicas.ensures c.args.value ∙ ap (λ (k : Kept). child_of (held k) (Value c.args.value)) c.replace.ensures.value)
     (replica_held c.put_replica.new.replicas c.args.value ∙ subst (λ z. at_value c.put_replica.new.replicas z ≡ held c.pass.new.kept) same c.in_ok-put_replica.ensures.put) c.in_ok-pass.ensures
@@ -210,64 +219,66 @@ pass_replica-returns-clause-others t c k other =
 
 pub pass_star-loop-next-init : goal.pass_star-loop-next-init
 pass_star-loop-next-init t c =
-    so_far_begins c.args.place c.args.exit.now c.args.guard.now (tree (setting_of c.args.walk.now.run.now) c.args.body.now) c.depth-depth.result (at_levels c.into_levels-levels.result.items) (flows c.args.item) (map flows c.args.out.now) (map flows c.args.out.now) c.into_levels-levels.result.items c.push.new.self.items refl refl
+    so_far_begins c.args.place c.args.exit.now c.args.guard.now (tree (setting_of c.args.walk.now.run.now) c.args.body.now) c.depth-depth.result (at_levels c.into_levels-levels.result.items) (flows c.args.item) (given c.args.out.now) (given c.args.out.now) c.into_levels-levels.result.items c.push.new.self.items refl refl
     (ap stack_of (c.in_ok-push.ensures.items ∙ ap (λ (xs : List Waiting). xs ++ record { level = 0; item = c.args.item } ∷ []) c.new-waiting.ensures.items))
 
 pub pass_star-overflow_sub-depth : goal.pass_star-overflow_sub-depth
 pass_star-overflow_sub-depth t c =
-    top_within c.args.place c.args.exit.now c.args.guard.now (tree (setting_of c.args.walk.now.run.now) c.args.body.now) c.depth-depth.result (at_levels c.into_levels-levels.result.items) (flows c.args.item) (map flows c.args.out.now) c.loop-next.waiting.items c.pop.new.self.items c.in-Some.next c.in-Some.ensures.items c.loop-next.invariant.within
+    top_within c.args.place c.args.exit.now c.args.guard.now (tree (setting_of c.args.walk.now.run.now) c.args.body.now) c.depth-depth.result (at_levels c.into_levels-levels.result.items) (flows c.args.item) (given c.args.out.now) c.loop-next.waiting.items c.pop.new.self.items c.in-Some.next c.in-Some.ensures.items c.loop-next.invariant.within
 
 pub pass_star-loop-next-smaller-in-None : goal.pass_star-loop-next-smaller-in-None
 pass_star-loop-next-smaller-in-None t c =
     turned_falls c.args.place c.args.exit.now c.args.guard.now (tree (setting_of c.args.walk.now.run.now) c.args.body.now) c.depth-depth.result Det c.loop-next.levels.items c.loop-next.levels.items (stack_of c.loop-next.waiting.items) (stack_of c.pop.new.self.items) _
-    (leaves_turned c.args.place c.args.exit.now c.args.guard.now (tree (setting_of c.args.walk.now.run.now) c.args.body.now) c.depth-depth.result Det c.loop-next.levels.items c.loop-next.waiting.items c.pop.new.self.items c.in-Some.next (map flows c.loop-next.out) (map flows c.tap.new.out) c.in-Some.ensures.items
-    (subst (λ (o : Option Entries). IsTapped c.args.place c.args.exit.now c.args.guard.now (c.depth-depth.result - c.in-Some.next.level) (flows c.in-Some.next.item) (map flows c.loop-next.out) (map flows c.tap.new.out) o) c.in-None.is c.in_ok-taken.ensures))
+    (leaves_turned c.args.place c.args.exit.now c.args.guard.now (tree (setting_of c.args.walk.now.run.now) c.args.body.now) c.depth-depth.result Det c.loop-next.levels.items c.loop-next.waiting.items c.pop.new.self.items c.in-Some.next (given c.loop-next.out) (map flows c.tap.new.out) c.in-Some.ensures.items
+    (subst (λ (o : Option Entries). IsTapped c.args.place c.args.exit.now c.args.guard.now (c.depth-depth.result - c.in-Some.next.level) (flows c.in-Some.next.item) (given c.loop-next.out) (map flows c.tap.new.out) o) c.in-None.is c.in_ok-taken.ensures))
 
 pub pass_star-loop-next-preserved-in-None : goal.pass_star-loop-next-preserved-in-None
 pass_star-loop-next-preserved-in-None t c =
-    so_far_leaves c.args.place c.args.exit.now c.args.guard.now (tree (setting_of c.args.walk.now.run.now) c.args.body.now) c.depth-depth.result (at_levels c.into_levels-levels.result.items) (flows c.args.item) (map flows c.args.out.now) c.loop-next.levels.items c.loop-next.waiting.items c.pop.new.self.items c.in-Some.next (map flows c.loop-next.out) (map flows c.tap.new.out) c.in-Some.ensures.items c.loop-next.invariant
-    (subst (λ (o : Option Entries). IsTapped c.args.place c.args.exit.now c.args.guard.now (c.depth-depth.result - c.in-Some.next.level) (flows c.in-Some.next.item) (map flows c.loop-next.out) (map flows c.tap.new.out) o) c.in-None.is c.in_ok-taken.ensures)
+    so_far_leaves c.args.place c.args.exit.now c.args.guard.now (tree (setting_of c.args.walk.now.run.now) c.args.body.now) c.depth-depth.result (at_levels c.into_levels-levels.result.items) (flows c.args.item) (given c.args.out.now) c.loop-next.levels.items c.loop-next.waiting.items c.pop.new.self.items c.in-Some.next (given c.loop-next.out) (map flows c.tap.new.out) c.in-Some.ensures.items c.loop-next.invariant
+    (subst (λ (o : Option Entries). IsTapped c.args.place c.args.exit.now c.args.guard.now (c.depth-depth.result - c.in-Some.next.level) (flows c.in-Some.next.item) (given c.loop-next.out) (map flows c.tap.new.out) o) c.in-None.is c.in_ok-taken.ensures)
 
 pub pass_star-loop-next-smaller : goal.pass_star-loop-next-smaller
 pass_star-loop-next-smaller t c =
     turned_falls c.args.place c.args.exit.now c.args.guard.now (tree (setting_of c.args.walk.now.run.now) c.args.body.now) c.depth-depth.result Det c.loop-next.levels.items c.put_at.new.states.items (stack_of c.loop-next.waiting.items) (stack_of c.wait.new.waiting.items) []
-    (enters_turned c.args.place c.args.exit.now c.args.guard.now (tree (setting_of c.args.walk.now.run.now) c.args.body.now) c.depth-depth.result Det c.loop-next.levels.items c.put_at.new.states.items c.loop-next.waiting.items c.pop.new.self.items c.wait.new.waiting.items c.in-Some.next c.in-Some-2.taken (map flows c.loop-next.out) (map flows c.tap.new.out) c.in-Some.ensures.items
-    (top_within c.args.place c.args.exit.now c.args.guard.now (tree (setting_of c.args.walk.now.run.now) c.args.body.now) c.depth-depth.result (at_levels c.into_levels-levels.result.items) (flows c.args.item) (map flows c.args.out.now) c.loop-next.waiting.items c.pop.new.self.items c.in-Some.next c.in-Some.ensures.items c.loop-next.invariant.within)
-    (subst (λ (o : Option Entries). IsTapped c.args.place c.args.exit.now c.args.guard.now (c.depth-depth.result - c.in-Some.next.level) (flows c.in-Some.next.item) (map flows c.loop-next.out) (map flows c.tap.new.out) o) c.in-Some-2.is c.in_ok-taken.ensures)
+    (enters_turned c.args.place c.args.exit.now c.args.guard.now (tree (setting_of c.args.walk.now.run.now) c.args.body.now) c.depth-depth.result Det c.loop-next.levels.items c.put_at.new.states.items c.loop-next.waiting.items c.pop.new.self.items c.wait.new.waiting.items c.in-Some.next c.in-Some-2.taken (given c.loop-next.out) (map flows c.tap.new.out) c.in-Some.ensures.items
+    (top_within c.args.place c.args.exit.now c.args.guard.now (tree (setting_of c.args.walk.now.run.now) c.args.body.now) c.depth-depth.result (at_levels c.into_levels-levels.result.items) (flows c.args.item) (given c.args.out.now) c.loop-next.waiting.items c.pop.new.self.items c.in-Some.next c.in-Some.ensures.items c.loop-next.invariant.within)
+    (subst (λ (o : Option Entries). IsTapped c.args.place c.args.exit.now c.args.guard.now (c.depth-depth.result - c.in-Some.next.level) (flows c.in-Some.next.item) (given c.loop-next.out) (map flows c.tap.new.out) o) c.in-Some-2.is c.in_ok-taken.ensures)
     (record {
       mid = c.take_at-state.new.states.items;
       state = held c.take_at-state.result;
       later = held c.pass.new.kept;
-      made = map flows c.pass.new.out;
+      made = given c.pass.new.out;
       taken = c.take_at-state.ensures.taken;
       took = c.take_at-state.ensures.others;
-      passed = subst (λ (none : List ModelItem). Passes (tree (setting_of c.args.walk.now.run.now) c.args.body.now) (held c.take_at-state.result) (held c.pass.new.kept) (Rec c.in-Some-2.taken) none (map flows c.pass.new.out)) (ap (map flows) c.new-made.ensures) c.in_ok-pass.ensures;
+      passed = subst (λ (none : List ModelItem). Passes (tree (setting_of c.args.walk.now.run.now) c.args.body.now) (held c.take_at-state.result) (held c.pass.new.kept) (Rec c.in-Some-2.taken) none (given c.pass.new.out)) (ap (map flows) c.begin-before.ensures.anew) c.in_ok-pass.ensures;
       put = c.in_ok-put_at.ensures.put;
       others = c.in_ok-put_at.ensures.others;
-      waits = c.in_ok-wait.ensures;
+      waits = c.in_ok-room.ensures ∙ ap (λ (made : List Flowing). entries (c.in-Some.next.level + 1) (map flows made) ++ stack_of c.pop.new.self.items) c.end-made.ensures.since;
     }))
 
 pub pass_star-loop-next-preserved : goal.pass_star-loop-next-preserved
 pass_star-loop-next-preserved t c =
-    so_far_enters c.args.place c.args.exit.now c.args.guard.now (tree (setting_of c.args.walk.now.run.now) c.args.body.now) c.depth-depth.result (at_levels c.into_levels-levels.result.items) (flows c.args.item) (map flows c.args.out.now) c.loop-next.levels.items c.put_at.new.states.items c.loop-next.waiting.items c.pop.new.self.items c.wait.new.waiting.items c.in-Some.next c.in-Some-2.taken (map flows c.loop-next.out) (map flows c.tap.new.out) c.in-Some.ensures.items c.loop-next.invariant
-    (subst (λ (o : Option Entries). IsTapped c.args.place c.args.exit.now c.args.guard.now (c.depth-depth.result - c.in-Some.next.level) (flows c.in-Some.next.item) (map flows c.loop-next.out) (map flows c.tap.new.out) o) c.in-Some-2.is c.in_ok-taken.ensures)
+    subst (λ (grown : List ModelItem). IsSoFar c.args.place c.args.exit.now c.args.guard.now (tree (setting_of c.args.walk.now.run.now) c.args.body.now) c.depth-depth.result (at_levels c.into_levels-levels.result.items) (flows c.args.item) (given c.args.out.now) grown c.put_at.new.states.items c.wait.new.waiting.items)
+    (sym (ap (map flows) (c.in_ok-put_by.ensures ∙ c.end-made.ensures.back ∙ c.begin-before.ensures.before)))
+    (so_far_enters c.args.place c.args.exit.now c.args.guard.now (tree (setting_of c.args.walk.now.run.now) c.args.body.now) c.depth-depth.result (at_levels c.into_levels-levels.result.items) (flows c.args.item) (given c.args.out.now) c.loop-next.levels.items c.put_at.new.states.items c.loop-next.waiting.items c.pop.new.self.items c.wait.new.waiting.items c.in-Some.next c.in-Some-2.taken (given c.loop-next.out) (map flows c.tap.new.out) c.in-Some.ensures.items c.loop-next.invariant
+    (subst (λ (o : Option Entries). IsTapped c.args.place c.args.exit.now c.args.guard.now (c.depth-depth.result - c.in-Some.next.level) (flows c.in-Some.next.item) (given c.loop-next.out) (map flows c.tap.new.out) o) c.in-Some-2.is c.in_ok-taken.ensures)
     (record {
       mid = c.take_at-state.new.states.items;
       state = held c.take_at-state.result;
       later = held c.pass.new.kept;
-      made = map flows c.pass.new.out;
+      made = given c.pass.new.out;
       taken = c.take_at-state.ensures.taken;
       took = c.take_at-state.ensures.others;
-      passed = subst (λ (none : List ModelItem). Passes (tree (setting_of c.args.walk.now.run.now) c.args.body.now) (held c.take_at-state.result) (held c.pass.new.kept) (Rec c.in-Some-2.taken) none (map flows c.pass.new.out)) (ap (map flows) c.new-made.ensures) c.in_ok-pass.ensures;
+      passed = subst (λ (none : List ModelItem). Passes (tree (setting_of c.args.walk.now.run.now) c.args.body.now) (held c.take_at-state.result) (held c.pass.new.kept) (Rec c.in-Some-2.taken) none (given c.pass.new.out)) (ap (map flows) c.begin-before.ensures.anew) c.in_ok-pass.ensures;
       put = c.in_ok-put_at.ensures.put;
       others = c.in_ok-put_at.ensures.others;
-      waits = c.in_ok-wait.ensures;
-    })
+      waits = c.in_ok-room.ensures ∙ ap (λ (made : List Flowing). entries (c.in-Some.next.level + 1) (map flows made) ++ stack_of c.pop.new.self.items) c.end-made.ensures.since;
+    }))
 
 pub pass_star-returns : goal.pass_star-returns
 pass_star-returns t c =
     let done : c.loop-next.waiting.items ≡ [] = c.in_default.ensures.items ∙ ap (λ (xs : List Waiting). xs ++ []) (c.in_default.ensures.rest ∙ ap (λ n. take (n - 1) c.loop-next.waiting.items) c.in_default.ensures.cases.0) in
-    subst (λ depth. (m : Merge) → Passes (level c.args.place m c.args.exit.now c.args.guard.now (tree (setting_of c.args.walk.now.run.now) c.args.body.now) depth) (held c.args.kept.now) (held (kept.Levels c.loop-next.levels)) (flows c.args.item) (map flows c.args.out.now) (map flows c.loop-next.out)) c.depth-depth.ensures.depth
-    (so_far_ends c.args.place c.args.exit.now c.args.guard.now (tree (setting_of c.args.walk.now.run.now) c.args.body.now) c.depth-depth.result (held c.args.kept.now) (held (kept.Levels c.loop-next.levels)) (map held c.into_levels-levels.result.items) (flows c.args.item) (map flows c.args.out.now) (map flows c.loop-next.out) c.loop-next.levels.items c.loop-next.waiting.items
+    subst (λ depth. (m : Merge) → Passes (level c.args.place m c.args.exit.now c.args.guard.now (tree (setting_of c.args.walk.now.run.now) c.args.body.now) depth) (held c.args.kept.now) (held (kept.Levels c.loop-next.levels)) (flows c.args.item) (given c.args.out.now) (given c.loop-next.out)) c.depth-depth.ensures.depth
+    (so_far_ends c.args.place c.args.exit.now c.args.guard.now (tree (setting_of c.args.walk.now.run.now) c.args.body.now) c.depth-depth.result (held c.args.kept.now) (held (kept.Levels c.loop-next.levels)) (map held c.into_levels-levels.result.items) (flows c.args.item) (given c.args.out.now) (given c.loop-next.out) c.loop-next.levels.items c.loop-next.waiting.items
     (subst (λ (k : Kept). LevelsOf (held k) (map held c.into_levels-levels.result.items)) c.replace.ensures.value c.into_levels-levels.ensures)
     (held-Levels c.loop-next.levels) done c.loop-next.invariant)
