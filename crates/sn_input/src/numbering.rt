@@ -32,6 +32,17 @@ fn number_of(names: &mut Names, name: &[u8]) -> Result<u32, InputFault>
     }
 }
 
+/// No entries yet, and room for so many.
+fn no_entries(alloc: Global, count: usize) -> Result<Vec<(Label, Value)>, InputFault>
+    ensures made { IfOk result (λ made. made.items ≡ []) }
+    ensures refused { IfErr result (λ fault. fault ≡ InputFault.Memory) }
+{
+    match Vec::with_capacity(alloc, count) {
+        Ok(made) => Ok(made),
+        Err(_) => Err(InputFault::Memory),
+    }
+}
+
 /// Appends the value at a label.
 fn push(entries: &mut Vec<(Label, Value)>, label: Label, value: Value) -> Result<(), InputFault>
     ensures pushed { OnOk result (entries.new.items ≡ entries.old.items ++ (label, value) ∷ []) }
@@ -68,7 +79,7 @@ pub fn record_of(
     ensures numbered { IfOk result (λ made. made ≡ numbered names.new entries) }
     ensures refused { IfErr result (LacksNames (with_entries names.old entries)) }
 {
-    let mut made = Vec::new(alloc);
+    let mut made = no_entries(alloc, entries.len())?;
     // So few are held from the start, also where no entry adds to them.
     prove!(names.count() <= MOST_NAMES);
     for entry in entries.into_vec() {

@@ -12,13 +12,13 @@ loop-entry-init c = record {
   all = refl;
   names = refl;
   few = omega (arith, c.count.ensures.number, c.count.ensures.most);
-  made = c.new-made.ensures.items;
+  made = c.in_ok-made.ensures.made;
 }
 
 pub returns-in_err-id-clause-refused : goal.returns-in_err-id-clause-refused
 returns-in_err-id-clause-refused c =
     let at = c.loop-entry in
-    let p = err_from_is_err_and c.from_residual.result c.from_residual.ensures.1 in
+    let p = err_from_is_err_and c.from_residual-in_err-id.result c.from_residual-in_err-id.ensures.1 in
     let steps : into_iter_items at.entry-iterator ≡ c.in-Some.entry ∷ into_iter_items c.next.new.self = c.in-Some.ensures.steps.0 in
     let whole = c.into_iter-entry-iterator.ensures.into_iter_gives.0 ∙ c.into_vec-entry-items.ensures in
     let all : at.yielded ++ c.in-Some.entry ∷ into_iter_items c.next.new.self ≡ c.args.entries = (rw (← steps) at.invariant.all) ∙ whole in

@@ -6,7 +6,7 @@ use Rattle.sn_record_tokens.proofs.Walks.{at_start, advances_shorter, goes_on, a
 use Rattle.sn_record_tokens.proofs.scan.tokens_of.Goals as goal
 
 pub loop-tokens-init : goal.loop-tokens-init
-loop-tokens-init c = (search rules, at_start _ _ c.new-tokens.ensures)
+loop-tokens-init c = (search rules, at_start _ _ c.in_ok-tokens.ensures)
 
 pub loop-tokens-smaller : goal.loop-tokens-smaller
 loop-tokens-smaller c = advances_shorter _ _ _ _ (rw c.in-Some.is at c.in_ok-next.ensures)
@@ -16,7 +16,7 @@ loop-tokens-preserved c = (search rules, goes_on _ _ _ _ _ c.loop-tokens.invaria
 
 pub returns-in_err-next-clause-wrong : goal.returns-in_err-next-clause-wrong
 returns-in_err-next-clause-wrong c =
-    let p = err_from_is_err_and c.from_residual.result c.from_residual.ensures.1 in
+    let p = err_from_is_err_and c.from_residual-in_err-next.result c.from_residual-in_err-next.ensures.1 in
     stopped _ _ _ _ _ c.loop-tokens.invariant.1 c.in_err-next.ensures (p.1 ∙ ap Err p.2)
 
 pub returns-clause-answer : goal.returns-clause-answer
