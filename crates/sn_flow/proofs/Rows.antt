@@ -1,5 +1,7 @@
 -- A row more, no row more, and no room for one.
-use Rattle.std.proofs.Common.{◌≡◌, ◌⊎◌, inl, inr, ◌<◌, ◌≤◌, List, [], ◌∷◌, length, refl, sym, ap, ◌∙◌, subst, arith, length-append}
+use Rattle.std.proofs.Common.{true, false, cond, Some, ◌≡◌, ◌⊎◌, inl, inr, ◌<◌, ◌≤◌, List, [], ◌∷◌, length, refl, sym, ap, ◌∙◌, subst, arith, length-append}
+use Rattle.std.specs.Prelude.{unwrap_or}
+use Rattle.std.specs.Option.{option_map}
 use Rattle.std.proofs.lemmas.List.{map-append}
 use Rattle.std.proofs.Math.ListN.{length-map}
 use Rattle.std.specs.List.{Contains}
@@ -11,7 +13,9 @@ use Rattle.sn_typing.specs.Accepted.{IsReached, most_variants}
 use Rattle.sn_flow.specs.declared.table.Row.{Row}
 use Rattle.sn_flow.specs.declared.table.Table.{Table}
 use Rattle.sn_flow.specs.Tables.{AreDistinct, Came, Holds, Inner, IsFlow, RowsHold, rows_of, variants_of}
-use Rattle.sn_flow.specs.Visits.{AddsRow, Refuted, Visits, row_of}
+use Rattle.sn_types.specs.RecordType.{is_same}
+use Rattle.sn_flow.specs.Places.{first_of}
+use Rattle.sn_flow.specs.Visits.{AddsRow, Refuted, Visits, flow_in, row_of}
 use Rattle.sn_flow.proofs.Lists.{cases, none, head, unmapped, distinct_push, too_many}
 
 -- no row is of the variant
@@ -81,3 +85,12 @@ no_room net v t new full holds root input way reached came bounded =
     (omega (arith, full, length-map (rows_of t) (λ (row : Row). row.variant)))
     (λ u there. let found = unmapped (λ (row : Row). row.variant) (rows_of t) u there in subst (IsReached root input way net) found.is (came.0 found.origin found.listed))
     reached (bounded.parts way net)
+
+-- the flow of a variant is that of the first row of it
+pub flow_found : (rows : List Row) (v : Labels) → flow_in rows v ≡ unwrap_or (option_map (λ (row : Row). row.flow) (first_of (λ (row : Row). row.variant) rows v)) []
+flow_found [] v = refl
+flow_found (row ∷ rows) v =
+    elim (is_same row.variant v) as (λ b. cond b row.flow (flow_in rows v) ≡ unwrap_or (option_map (λ (r : Row). r.flow) (cond b (Some row) (first_of (λ (r : Row). r.variant) rows v))) []) [
+      | true ↦ refl
+      | false ↦ flow_found rows v
+    ]

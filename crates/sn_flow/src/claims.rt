@@ -31,7 +31,7 @@ pub fn flow(
         Err(Stop::TooMany) => Err(FlowFault::TooManyVariants(0)),
         Err(Stop::Memory) => Err(FlowFault::Memory),
         Ok(table) => {
-            let flow = flow_of(alloc, table.rows.as_slice(), variant)?;
+            let flow = flow_of(alloc, &table.rows, variant)?;
             match unrouted_spot(alloc, net, boxes, table, None)? {
                 Some(spot) => Err(FlowFault::NoRoute(spot.place, spot.variant)),
                 None => Ok(ascending(flow)),
@@ -53,7 +53,7 @@ pub fn check(alloc: Global, claim: &Claim, boxes: &Boxes) -> Result<(), FlowFaul
                 alloc,
                 claim.place,
                 claim.output.as_slice(),
-                table.rows.as_slice(),
+                &table.rows,
                 claim.input.as_slice(),
             )?;
             match unrouted_spot(alloc, &claim.net, boxes, table, None)? {

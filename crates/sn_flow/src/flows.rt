@@ -5,6 +5,7 @@ ghost use Rattle.sn_net.specs.Face.{variant_of};
 ghost use Rattle.sn_typing.specs.Outline.{template_variant};
 ghost use Rattle.sn_flow.specs.Visits.{ComponentFlows};
 
+use crate::indexed::Indexed;
 use crate::sets::{add, append, has_subset};
 use crate::stop::Stop;
 use sn_list::{Memory, Seq};
@@ -27,12 +28,12 @@ fn component_flow(
         return Ok(Seq::new(alloc));
     }
     let rest = variant.minus(named)?;
-    let mut flow = Seq::new(alloc);
+    let mut flow = Indexed::new(alloc);
     for output in outputs {
         let whole = output.union(&rest)?;
-        add(&mut flow, whole)?;
+        add(alloc, &mut flow, &whole)?;
     }
-    Ok(flow)
+    Ok(flow.into_seq())
 }
 
 /// The set of the labels.

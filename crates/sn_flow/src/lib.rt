@@ -5,6 +5,7 @@ mod chosen;
 mod claims;
 mod fault;
 mod flows;
+mod indexed;
 mod laws;
 mod order;
 mod sets;

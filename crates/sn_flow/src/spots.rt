@@ -8,6 +8,7 @@ ghost use Rattle.sn_flow.specs.Spots.{bad_spots, flow_spots, is_routed, least, p
 
 use crate::chosen::has_face;
 use crate::flows::set_of;
+use crate::indexed::Indexed;
 use crate::order::compare;
 use crate::sets::{has_subset, is_subset};
 use crate::table::{Row, Table, flow_of, take_part};
@@ -181,7 +182,7 @@ pub fn bad_spot(
     alloc: Global,
     place: u32,
     output: &[LabelSet],
-    rows: &[Row],
+    rows: &Indexed<Row>,
     input: &[LabelSet],
 ) -> Result<Option<Spot>, Memory>
     ensures { IfOk result (λ found. found ≡ least None (bad_spots place output.now rows.now input.now)) }

@@ -1,10 +1,11 @@
-ghost use Rattle.std.specs.Prelude.{◌≡◌, ◌++◌, ◌∷◌, [], ◌<◌, ℕ, IfOk, length};
+ghost use Rattle.std.specs.Prelude.{◌≡◌, ◌++◌, ◌∷◌, [], ◌<◌, ℕ, false, IfOk, length};
 ghost use Rattle.std.specs.List.{list_any};
 ghost use Rattle.sn_types.specs.RecordType.{is_same};
 ghost use Rattle.sn_flow.specs.Tables.{no_table, part_at, parts_of, rows_of};
 ghost use Rattle.sn_flow.specs.Visits.{SameElsewhere, flow_in, row_of};
 
-use crate::sets::{append, is_same};
+use crate::indexed::{Indexed, OfVariant};
+use crate::sets::append;
 use sn_list::{Memory, Seq};
 use sn_net::copy_sets;
 use sn_record::LabelSet;
@@ -18,10 +19,18 @@ pub struct Row {
     pub flow: Seq<LabelSet>,
 }
 
+impl OfVariant for Row {
+    ghost variant_of = { λ row. row.variant };
+
+    fn variant(&self) -> &LabelSet {
+        &self.variant
+    }
+}
+
 /// The rows of the variants that reached a part, and the tables of the parts within it, as far as these were reached.
 #[derive(Drop)]
 pub struct Table {
-    pub rows: Seq<Row>,
+    pub rows: Indexed<Row>,
     pub parts: Seq<Table>,
 }
 
@@ -30,49 +39,47 @@ pub fn no_table(alloc: Global) -> Table
     ensures { result ≡ no_table }
 {
     Table {
-        rows: Seq::new(alloc),
+        rows: Indexed::new(alloc),
         parts: Seq::new(alloc),
     }
 }
 
 /// Whether some row is of the variant.
-pub fn has_row(rows: &[Row], variant: &LabelSet) -> bool
-    ensures { result ≡ list_any (λ row. is_same row.variant variant.now) rows.now }
+pub fn has_row(alloc: Global, rows: &Indexed<Row>, variant: &LabelSet) -> Result<bool, Memory>
+    ensures { IfOk result (λ known. known ≡ list_any (λ row. is_same row.variant variant.now) rows.now) }
 {
-    for row in rows {
-        if is_same(&row.variant, variant) {
-            return true;
-        }
-    }
-    false
+    rows.has(alloc, variant)
 }
 
 /// A copy of the flow of the variant.
-pub fn flow_of(alloc: Global, rows: &[Row], variant: &LabelSet) -> Result<Seq<LabelSet>, Memory>
+pub fn flow_of(
+    alloc: Global,
+    rows: &Indexed<Row>,
+    variant: &LabelSet,
+) -> Result<Seq<LabelSet>, Memory>
     ensures { IfOk result (λ flow. flow ≡ flow_in rows.now variant.now) }
 {
-    for row in rows {
-        if is_same(&row.variant, variant) {
-            return copy_sets(alloc, row.flow.as_slice());
-        }
+    match rows.find(alloc, variant)? {
+        Some(row) => copy_sets(alloc, row.flow.as_slice()),
+        None => Ok(Seq::new(alloc)),
     }
-    Ok(Seq::new(alloc))
 }
 
-/// The table with a row more, and with these tables of its parts.
+/// The table with a row more, of a new variant, and with these tables of its parts.
 pub fn with_row(
     alloc: Global,
-    rows: Seq<Row>,
+    rows: Indexed<Row>,
     parts: Seq<Table>,
     variant: &LabelSet,
     flow: Seq<LabelSet>,
 ) -> Result<Table, Memory>
+    requires { list_any (λ row. is_same row.variant variant.now) rows ≡ false }
     ensures rows { IfOk result (λ t. rows_of t ≡ rows ++ row_of variant.now flow ∷ []) }
     ensures parts { IfOk result (λ t. parts_of t ≡ parts) }
 {
     let variant = variant.copy()?;
     let mut rows = rows;
-    append(&mut rows, Row { variant, flow })?;
+    rows.push(alloc, Row { variant, flow })?;
     Ok(Table { rows, parts })
 }
 

@@ -7,6 +7,7 @@ ghost use Rattle.sn_flow.specs.Visits.{AllVisited, Closed, FormVisited, Visited,
 
 use crate::chosen::{chosen, has_face};
 use crate::flows::{box_flow, cell_flow, filter_flow};
+use crate::indexed::Indexed;
 use crate::sets::{MOST_VARIANTS, add, add_all, is_subset};
 use crate::stop::Stop;
 use crate::table::{Table, flow_of, has_row, put_part, take_part, with_row};
@@ -27,7 +28,8 @@ pub fn visit(
     requires { IsWellFormed boxes.now net.now }
     ensures { Visited (outline boxes.now net.now) variant.now table result }
 {
-    if has_row(table.rows.as_slice(), variant) {
+    let known = has_row(alloc, &table.rows, variant)?;
+    if known {
         return Ok(table);
     }
     if table.rows.len() >= MOST_VARIANTS {
@@ -67,7 +69,7 @@ fn visit_form(
         Net::Serial { left, right } => {
             let (first, parts) = take_part(alloc, parts, 0);
             let first = visit(alloc, left.get(), boxes, first, variant)?;
-            let middle = flow_of(alloc, first.rows.as_slice(), variant)?;
+            let middle = flow_of(alloc, &first.rows, variant)?;
             let parts = put_part(alloc, parts, 0, first)?;
             let (second, parts) = take_part(alloc, parts, 1);
             let (second, flow) = visit_all(alloc, right.get(), boxes, second, middle.as_slice())?;
@@ -83,7 +85,7 @@ fn visit_form(
                 return Ok((parts, Seq::new(alloc)));
             }
             let mut parts = parts;
-            let mut flow = Seq::new(alloc);
+            let mut flow = Indexed::new(alloc);
             for i in 0..branches.len() {
                 let sent = chosen(alloc, faces.as_slice(), i, variant, faces.at(i).as_slice())?;
                 let (part, others) = take_part(alloc, parts, i);
@@ -91,7 +93,7 @@ fn visit_form(
                 add_all(alloc, &mut flow, more.as_slice())?;
                 parts = put_part(alloc, others, i, part)?;
             }
-            Ok((parts, flow))
+            Ok((parts, flow.into_seq()))
         }
         Net::Star {
             body,
@@ -123,7 +125,7 @@ fn visit_form(
             }
             let (inner, parts) = take_part(alloc, parts, 0);
             let inner = visit(alloc, body.get(), boxes, inner, variant)?;
-            let flow = flow_of(alloc, inner.rows.as_slice(), variant)?;
+            let flow = flow_of(alloc, &inner.rows, variant)?;
             let parts = put_part(alloc, parts, 0, inner)?;
             Ok((parts, flow))
         }
@@ -143,13 +145,13 @@ fn visit_all(
     ensures { AllVisited (outline boxes.now net.now) variants.now table result }
 {
     let mut table = table;
-    let mut flow = Seq::new(alloc);
+    let mut flow = Indexed::new(alloc);
     for variant in variants {
         table = visit(alloc, net, boxes, table, variant)?;
-        let more = flow_of(alloc, table.rows.as_slice(), variant)?;
+        let more = flow_of(alloc, &table.rows, variant)?;
         add_all(alloc, &mut flow, more.as_slice())?;
     }
-    Ok((table, flow))
+    Ok((table, flow.into_seq()))
 }
 
 /// Whether records of the variant surely leave.
@@ -174,31 +176,30 @@ fn close(
     ensures { Closed exit.now guarded (outline boxes.now net.now) variant.now table result }
 {
     let mut table = table;
-    let mut members = Seq::new(alloc);
-    let copy = variant.copy()?;
-    add(&mut members, copy)?;
+    let mut members = Indexed::new(alloc);
+    add(alloc, &mut members, variant)?;
     for i in 0..MOST_VARIANTS {
         if i >= members.len() {
-            return Ok((table, members));
+            return Ok((table, members.into_seq()));
         }
         let member = members.at(i).copy()?;
         if !leaves(exit, guarded, &member) {
             table = visit(alloc, net, boxes, table, &member)?;
-            let more = flow_of(alloc, table.rows.as_slice(), &member)?;
+            let more = flow_of(alloc, &table.rows, &member)?;
             add_all(alloc, &mut members, more.as_slice())?;
         }
     }
-    Ok((table, members))
+    Ok((table, members.into_seq()))
 }
 
 /// Each of the variants with the exit.
 fn with_exit(alloc: Global, members: &[LabelSet], exit: &LabelSet) -> Result<Seq<LabelSet>, Stop>
     ensures { WithExit members.now exit.now result }
 {
-    let mut flow = Seq::new(alloc);
+    let mut flow = Indexed::new(alloc);
     for member in members {
         let whole = member.union(exit)?;
-        add(&mut flow, whole)?;
+        add(alloc, &mut flow, &whole)?;
     }
-    Ok(flow)
+    Ok(flow.into_seq())
 }

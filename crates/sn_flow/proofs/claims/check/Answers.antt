@@ -15,8 +15,8 @@ returns-in-Some c =
 
 pub returns-in-Some-bad : goal.returns-in-Some-bad
 returns-in-Some-bad c =
-    let same : bad_spots c.args.claim.now.place c.as_slice-in-Ok.result.now c.as_slice-in-Ok-2.result.now c.as_slice-in-Ok-3.result.now ≡ bad_spots c.args.claim.now.place c.args.claim.now.output (rows_of c.in-Ok.table) c.args.claim.now.input
-    = λ k. bad_spots c.args.claim.now.place (c.as_slice-in-Ok.ensures k) (c.as_slice-in-Ok-2.ensures k) (c.as_slice-in-Ok-3.ensures k) in
+    let same : bad_spots c.args.claim.now.place c.as_slice-in-Ok.result.now (rows_of c.in-Ok.table) c.as_slice-in-Ok-2.result.now ≡ bad_spots c.args.claim.now.place c.args.claim.now.output (rows_of c.in-Ok.table) c.args.claim.now.input
+    = λ k. bad_spots c.args.claim.now.place (c.as_slice-in-Ok.ensures k) (rows_of c.in-Ok.table) (c.as_slice-in-Ok-2.ensures k) in
     bad_output (outline c.args.boxes.now c.args.claim.now.net) c.args.claim.now.input c.in-Ok.table
     (subst (λ (vs : List Labels). IsWhole (outline c.args.boxes.now c.args.claim.now.net) vs c.in-Ok.table) c.as_slice.ensures c.in-Ok.ensures)
     c.args.claim.now.place c.args.claim.now.output (sym c.in_ok-spot-in-Ok.ensures ∙ c.in-None.is) c.in-Some-bad.spot
@@ -24,8 +24,8 @@ returns-in-Some-bad c =
 
 pub returns-in-None-bad : goal.returns-in-None-bad
 returns-in-None-bad c =
-    let same : bad_spots c.args.claim.now.place c.as_slice-in-Ok.result.now c.as_slice-in-Ok-2.result.now c.as_slice-in-Ok-3.result.now ≡ bad_spots c.args.claim.now.place c.args.claim.now.output (rows_of c.in-Ok.table) c.args.claim.now.input
-    = λ k. bad_spots c.args.claim.now.place (c.as_slice-in-Ok.ensures k) (c.as_slice-in-Ok-2.ensures k) (c.as_slice-in-Ok-3.ensures k) in
+    let same : bad_spots c.args.claim.now.place c.as_slice-in-Ok.result.now (rows_of c.in-Ok.table) c.as_slice-in-Ok-2.result.now ≡ bad_spots c.args.claim.now.place c.args.claim.now.output (rows_of c.in-Ok.table) c.args.claim.now.input
+    = λ k. bad_spots c.args.claim.now.place (c.as_slice-in-Ok.ensures k) (rows_of c.in-Ok.table) (c.as_slice-in-Ok-2.ensures k) in
     let told = accepted (outline c.args.boxes.now c.args.claim.now.net) c.args.claim.now.input c.in-Ok.table
     (subst (λ (vs : List Labels). IsWhole (outline c.args.boxes.now c.args.claim.now.net) vs c.in-Ok.table) c.as_slice.ensures c.in-Ok.ensures)
     c.args.claim.now.place c.args.claim.now.output (sym c.in_ok-spot-in-Ok.ensures ∙ c.in-None.is)

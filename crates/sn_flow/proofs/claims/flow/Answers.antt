@@ -2,7 +2,6 @@ use Rattle.std.proofs.Common.{◌≡◌, List, [], ◌∷◌, sym, ap, ◌∙◌
 use Rattle.sn_record.specs.LabelSet.{Labels}
 use Rattle.sn_net.specs.Face.{ascending}
 use Rattle.sn_typing.specs.Outline.{outline}
-use Rattle.sn_flow.specs.declared.table.Row.{Row}
 use Rattle.sn_flow.specs.Tables.{rows_of}
 use Rattle.sn_flow.specs.Visits.{flow_in}
 use Rattle.sn_flow.specs.Whole.{IsWhole}
@@ -19,7 +18,7 @@ returns-in-Some c =
 pub returns : goal.returns
 returns c =
     let is : c.ascending.result ≡ ascending (flow_in (rows_of c.in-Ok.table) c.args.variant.now) =
-    c.ascending.ensures ∙ ap ascending (c.in_ok-flow-in-Ok.ensures ∙ ap (λ (rows : List Row). flow_in rows c.args.variant.now) c.as_slice-in-Ok.ensures) in
+    c.ascending.ensures ∙ ap ascending c.in_ok-flow-in-Ok.ensures in
     subst (λ (us : List Labels). IsSafe (outline c.args.boxes.now c.args.net.now) (c.args.variant.now ∷ []) × IsFlowOf (outline c.args.boxes.now c.args.net.now) c.args.variant.now us) (sym is)
     (flow_found (outline c.args.boxes.now c.args.net.now) c.args.variant.now c.in-Ok.table
     (subst (λ (vs : List Labels). IsWhole (outline c.args.boxes.now c.args.net.now) vs c.in-Ok.table) (c.as_slice.ensures ∙ c.in_ok-input.ensures) c.in-Ok.ensures)

@@ -7,10 +7,10 @@ use Rattle.sn_record.specs.LabelSet.{Labels}
 use Rattle.sn_net.specs.declared.net.Net.TheViews.{the_lemmas}
 use Rattle.sn_net.specs.Face.{variant_of}
 use Rattle.sn_typing.specs.Outline.{Component, Star, Outline, branch_of, template_variant}
-use Rattle.sn_flow.specs.declared.table.Row.{Row}
 use Rattle.sn_flow.specs.Chosen.{chosen_of}
 use Rattle.std.proofs.lemmas.Option.{get_or_from_slice_get, slice_get_within}
-use Rattle.sn_flow.specs.Visits.{Added, Adds, AllVisited, WithExit, flow_in}
+use Rattle.sn_flow.specs.Tables.{rows_of}
+use Rattle.sn_flow.specs.Visits.{Added, Adds, AllVisited, Closes, FormVisited, WithExit}
 use Rattle.sn_flow.proofs.Choosing.{true_false}
 use Rattle.sn_flow.proofs.Formed.{as_many, guard_some, box_is, box_room, branch_formed, branch_got, choice_is, filter_is, left_formed, right_formed, serial_is, sound_choice, split_formed, split_is, star_formed, star_is, sync_is}
 use Rattle.sn_flow.proofs.Goings.{face_found, going_ends, going_goes, going_none, going_overflows, going_stops, no_face}
@@ -20,22 +20,25 @@ use Rattle.sn_flow.proofs.Visiting.{along_goes, along_overflows, along_stops, cl
 use Rattle.sn_flow.proofs.visit.+visits.Goals as goal
 use Rattle.sn_flow.proofs.visit.+visits.Goals.{close-then-not-leaves+in_ok-table+in_ok-more+in_ok-add_all, close-else-not-leaves}
 
-pub visit-returns-then-has_row : goal.visit-returns-then-has_row
-visit-returns-then-has_row t c = visit_known (outline c.args.boxes.now c.args.net.now) c.args.variant.now c.args.table c.as_slice.result.now c.has_row.result c.as_slice.ensures c.has_row.ensures c.if-has_row.true
+pub visit-returns-then-known : goal.visit-returns-then-known
+visit-returns-then-known t c = visit_known (outline c.args.boxes.now c.args.net.now) c.args.variant.now c.args.table (rows_of c.args.table) c.in_ok-known.known refl c.in_ok-known.ensures c.if-known.true
 
 pub visit-returns-then-len-ge-MOST_VARIANTS : goal.visit-returns-then-len-ge-MOST_VARIANTS
 visit-returns-then-len-ge-MOST_VARIANTS t c =
-    visit_full (outline c.args.boxes.now c.args.net.now) c.args.variant.now c.args.table c.as_slice.result.now c.has_row.result c.as_slice.ensures c.has_row.ensures c.len.result c.if-has_row.false c.len.ensures c.if-len-ge-MOST_VARIANTS.true
+    visit_full (outline c.args.boxes.now c.args.net.now) c.args.variant.now c.args.table (rows_of c.args.table) c.in_ok-known.known refl c.in_ok-known.ensures c.len.result c.if-known.false c.len.ensures c.if-len-ge-MOST_VARIANTS.true
 
 pub visit-returns-in_err-parts : goal.visit-returns-in_err-parts
 visit-returns-in_err-parts t c =
-    let p = err_from_is_err_and c.from_residual.result c.from_residual.ensures.1 in
-    rw (p.1, p.2) (visit_stops (outline c.args.boxes.now c.args.net.now) c.args.variant.now c.args.table c.as_slice.result.now c.has_row.result c.as_slice.ensures c.has_row.ensures _ c.in_err-parts.field-0.0 refl c.in_err-parts.ensures)
+    let p = err_from_is_err_and c.from_residual-in_err-parts.result c.from_residual-in_err-parts.ensures.1 in
+    rw (p.1, p.2) (visit_stops (outline c.args.boxes.now c.args.net.now) c.args.variant.now c.args.table (rows_of c.args.table) c.in_ok-known.known refl c.in_ok-known.ensures _ c.in_err-parts.field-0.0 refl c.in_err-parts.ensures)
+
+pub visit-with_row-requires : goal.visit-with_row-requires
+visit-with_row-requires t c = sym c.in_ok-known.ensures ∙ c.if-known.false
 
 pub visit-returns : goal.visit-returns
 visit-returns t c =
-    visit_done (outline c.args.boxes.now c.args.net.now) c.args.variant.now c.args.table c.as_slice.result.now c.has_row.result c.as_slice.ensures c.has_row.ensures c.len.result _ c.in_ok-parts.parts c.in_ok-parts.flow _ c.in_ok-whole.whole
-    c.if-has_row.false c.len.ensures c.if-len-ge-MOST_VARIANTS.false refl refl c.in_ok-parts.ensures c.in_ok-whole.ensures.rows c.in_ok-whole.ensures.parts
+    visit_done (outline c.args.boxes.now c.args.net.now) c.args.variant.now c.args.table (rows_of c.args.table) c.in_ok-known.known refl c.in_ok-known.ensures c.len.result _ c.in_ok-parts.parts c.in_ok-parts.flow _ c.in_ok-whole.whole
+    c.if-known.false c.len.ensures c.if-len-ge-MOST_VARIANTS.false refl refl c.in_ok-parts.ensures c.in_ok-whole.ensures.rows c.in_ok-whole.ensures.parts
 
 pub visit_all-returns-in_err-table : goal.visit_all-returns-in_err-table
 visit_all-returns-in_err-table t c =
@@ -47,27 +50,31 @@ pub visit_all-returns-in_err-add_all : goal.visit_all-returns-in_err-add_all
 visit_all-returns-in_err-add_all t c =
     let p = err_from_is_err_and c.from_residual-in_err-add_all.result c.from_residual-in_err-add_all.ensures.1 in
     rw (p.1, p.2)
-    (along_overflows (outline c.args.boxes.now c.args.net.now) c.args.variants.now c.args.table c.loop-variant.table c.in_ok-table.table c.loop-variant.flow c.as_slice-in-loop-variant.result.now c.add_all.new.sets c.loop-variant.variant-index c.variant-item.result c.in_err-add_all.field-0.0
-    c.loop-variant-test.true (sym c.variant-item.is) c.loop-variant.invariant c.in_ok-table.ensures (c.as_slice-in-loop-variant.ensures ∙ c.in_ok-more.ensures ∙ ap (λ (rows : List Row). flow_in rows c.variant-item.result) c.as_slice.ensures) c.in_err-add_all.ensures)
+    (along_overflows (outline c.args.boxes.now c.args.net.now) c.args.variants.now c.args.table c.loop-variant.table c.in_ok-table.table c.loop-variant.flow c.as_slice.result.now c.add_all.new.sets c.loop-variant.variant-index c.variant-item.result c.in_err-add_all.field-0.0
+    c.loop-variant-test.true (sym c.variant-item.is) c.loop-variant.invariant c.in_ok-table.ensures (c.as_slice.ensures ∙ c.in_ok-more.ensures) c.in_err-add_all.ensures)
 
 pub visit_all-loop-variant-preserved : goal.visit_all-loop-variant-preserved
 visit_all-loop-variant-preserved t c =
-    along_goes (outline c.args.boxes.now c.args.net.now) c.args.variants.now c.args.table c.loop-variant.table c.in_ok-table.table c.loop-variant.flow c.as_slice-in-loop-variant.result.now c.add_all.new.sets c.loop-variant.variant-index c.variant-item.result
-    c.loop-variant-test.true (sym c.variant-item.is) c.loop-variant.invariant c.in_ok-table.ensures (c.as_slice-in-loop-variant.ensures ∙ c.in_ok-more.ensures ∙ ap (λ (rows : List Row). flow_in rows c.variant-item.result) c.as_slice.ensures) c.in_ok-add_all.ensures
+    along_goes (outline c.args.boxes.now c.args.net.now) c.args.variants.now c.args.table c.loop-variant.table c.in_ok-table.table c.loop-variant.flow c.as_slice.result.now c.add_all.new.sets c.loop-variant.variant-index c.variant-item.result
+    c.loop-variant-test.true (sym c.variant-item.is) c.loop-variant.invariant c.in_ok-table.ensures (c.as_slice.ensures ∙ c.in_ok-more.ensures) c.in_ok-add_all.ensures
 
 pub close-loop-i-init : goal.close-loop-i-init
-close-loop-i-init t c = close_begins c.args.exit.now c.args.guarded (outline c.args.boxes.now c.args.net.now) c.args.variant.now c.args.table c.new-members.result c.add.new.sets c.in_ok-copy.copy c.new-members.ensures c.in_ok-copy.ensures c.in_ok-add.ensures
+close-loop-i-init t c = close_begins c.args.exit.now c.args.guarded (outline c.args.boxes.now c.args.net.now) c.args.variant.now c.args.table c.new-members.result c.add.new.sets c.args.variant.now c.new-members.ensures refl c.in_ok-add.ensures
 
 pub close-returns-in_err-add : goal.close-returns-in_err-add
 close-returns-in_err-add t c =
-    let p = err_from_is_err_and c.from_residual-in_err-add.result c.from_residual-in_err-add.ensures.1 in
-    rw (p.1, p.2) (close_add_stops c.args.exit.now c.args.guarded (outline c.args.boxes.now c.args.net.now) c.args.variant.now c.args.table c.new-members.result c.add.new.sets c.in_ok-copy.copy c.in_err-add.field-0.0 c.new-members.ensures c.in_err-add.ensures)
+    let p = err_from_is_err_and c.from_residual.result c.from_residual.ensures.1 in
+    rw (p.1, p.2) (close_add_stops c.args.exit.now c.args.guarded (outline c.args.boxes.now c.args.net.now) c.args.variant.now c.args.table c.new-members.result c.add.new.sets c.args.variant.now c.in_err-add.field-0.0 c.new-members.ensures c.in_err-add.ensures)
 
 pub close-returns-then-i-len : goal.close-returns-then-i-len
-close-returns-then-i-len t c = close_ends c.args.exit.now c.args.guarded (outline c.args.boxes.now c.args.net.now) c.args.variant.now c.args.table c.loop-i.table c.loop-i.members c.loop-i.i c.len.result c.len.ensures c.if-i-len.true c.loop-i.invariant
+close-returns-then-i-len t c =
+    subst (λ (members : List Labels). Closes c.args.exit.now c.args.guarded (outline c.args.boxes.now c.args.net.now) c.args.variant.now c.args.table c.loop-i.table members) (sym c.into_seq.ensures)
+    (close_ends c.args.exit.now c.args.guarded (outline c.args.boxes.now c.args.net.now) c.args.variant.now c.args.table c.loop-i.table c.loop-i.members c.loop-i.i c.len.result c.len.ensures c.if-i-len.true c.loop-i.invariant)
 
 pub close-returns : goal.close-returns
-close-returns t c = close_ends_full c.args.exit.now c.args.guarded (outline c.args.boxes.now c.args.net.now) c.args.variant.now c.args.table c.loop-i.table c.loop-i.members c.loop-i.i c.loop-i-test.false c.loop-i.invariant
+close-returns t c =
+    subst (λ (members : List Labels). Closes c.args.exit.now c.args.guarded (outline c.args.boxes.now c.args.net.now) c.args.variant.now c.args.table c.loop-i.table members) (sym c.into_seq-2.ensures)
+    (close_ends_full c.args.exit.now c.args.guarded (outline c.args.boxes.now c.args.net.now) c.args.variant.now c.args.table c.loop-i.table c.loop-i.members c.loop-i.i c.loop-i-test.false c.loop-i.invariant)
 
 pub close-returns-in_err-table : goal.close-returns-in_err-table
 close-returns-in_err-table t c =
@@ -80,13 +87,13 @@ close-returns-in_err-add_all t c =
     let p = err_from_is_err_and c.from_residual-in_err-add_all.result c.from_residual-in_err-add_all.ensures.1 in
     rw (p.1, p.2)
     (close_overflows c.args.exit.now c.args.guarded (outline c.args.boxes.now c.args.net.now) c.args.variant.now c.args.table c.loop-i.table c.loop-i.members c.loop-i.i c.in_ok-member.member (c.at.ensures ∙ ap (λ (m : Labels). Some m) (sym c.in_ok-member.ensures)) c.loop-i.invariant c.leaves.result c.leaves.ensures
-    c.in_ok-table.table c.as_slice-then-not-leaves.result.now c.if-not-leaves.true c.in_ok-table.ensures (c.as_slice-then-not-leaves.ensures ∙ c.in_ok-more.ensures ∙ ap (λ (rows : List Row). flow_in rows c.in_ok-member.member) c.as_slice.ensures) c.add_all.new.sets c.in_err-add_all.field-0.0 c.in_err-add_all.ensures)
+    c.in_ok-table.table c.as_slice.result.now c.if-not-leaves.true c.in_ok-table.ensures (c.as_slice.ensures ∙ c.in_ok-more.ensures) c.add_all.new.sets c.in_err-add_all.field-0.0 c.in_err-add_all.ensures)
 
 pub close-loop-i-preserved : goal.close-loop-i-preserved
 close-loop-i-preserved t c = elim c.if-not-leaves.branch [
   | close-then-not-leaves+in_ok-table+in_ok-more+in_ok-add_all w ↦ rw (w.table-is, w.members-is)
       (close_goes c.args.exit.now c.args.guarded (outline c.args.boxes.now c.args.net.now) c.args.variant.now c.args.table c.loop-i.table c.loop-i.members c.loop-i.i c.in_ok-member.member (c.at.ensures ∙ ap (λ (m : Labels). Some m) (sym c.in_ok-member.ensures)) c.loop-i.invariant c.leaves.result c.leaves.ensures
-      w.in_ok-table.table w.as_slice-then-not-leaves.result.now w.if-not-leaves.true w.in_ok-table.ensures (w.as_slice-then-not-leaves.ensures ∙ w.in_ok-more.ensures ∙ ap (λ (rows : List Row). flow_in rows c.in_ok-member.member) w.as_slice.ensures) w.add_all.new.sets w.in_ok-add_all.ensures)
+      w.in_ok-table.table w.as_slice.result.now w.if-not-leaves.true w.in_ok-table.ensures (w.as_slice.ensures ∙ w.in_ok-more.ensures) w.add_all.new.sets w.in_ok-add_all.ensures)
   | close-else-not-leaves w ↦ rw (w.table-is, w.members-is)
       (close_passes c.args.exit.now c.args.guarded (outline c.args.boxes.now c.args.net.now) c.args.variant.now c.args.table c.loop-i.table c.loop-i.members c.loop-i.i c.in_ok-member.member (c.at.ensures ∙ ap (λ (m : Labels). Some m) (sym c.in_ok-member.ensures)) c.loop-i.invariant c.leaves.result c.leaves.ensures w.if-not-leaves.false)
 ]
@@ -144,13 +151,13 @@ visit_form-returns-in_err-second-in-Serial t c =
     let p = err_from_is_err_and c.from_residual-in_err-second-in-Serial.result c.from_residual-in_err-second-in-Serial.ensures.1 in
     rw (p.1, p.2)
     (series_right_stops (outline c.args.boxes.now c.args.net.now) (outline c.args.boxes.now c.get.result.now) (outline c.args.boxes.now c.get-in-Serial.result.now) c.args.variant.now c.args.parts (serial_is c.args.boxes.now c.args.net.now c.in-Serial.left c.in-Serial.right c.get.result.now c.get-in-Serial.result.now c.in-Serial.is c.get.ensures c.get-in-Serial.ensures) c.take_part-first.result.0 c.take_part-first.result.1 c.take_part-first.ensures.part c.take_part-first.ensures.others
-    c.in_ok-first-in-Serial.first c.in_ok-first-in-Serial.ensures c.as_slice-in-Serial-2.result.now (c.as_slice-in-Serial-2.ensures ∙ c.in_ok-middle-in-Serial.ensures ∙ ap (λ (rows : List Row). flow_in rows c.args.variant.now) c.as_slice-in-Serial.ensures) c.in_ok-parts-in-Serial.parts c.in_ok-parts-in-Serial.ensures.part c.in_ok-parts-in-Serial.ensures.others
+    c.in_ok-first-in-Serial.first c.in_ok-first-in-Serial.ensures c.as_slice-in-Serial.result.now (c.as_slice-in-Serial.ensures ∙ c.in_ok-middle-in-Serial.ensures) c.in_ok-parts-in-Serial.parts c.in_ok-parts-in-Serial.ensures.part c.in_ok-parts-in-Serial.ensures.others
     c.take_part-second.result.0 c.take_part-second.result.1 c.take_part-second.ensures.part c.take_part-second.ensures.others c.in_err-second-in-Serial.field-0.0 c.in_err-second-in-Serial.ensures)
 
 pub visit_form-returns-in_ok-parts-in-Serial-2 : goal.visit_form-returns-in_ok-parts-in-Serial-2
 visit_form-returns-in_ok-parts-in-Serial-2 t c =
     series_form (outline c.args.boxes.now c.args.net.now) (outline c.args.boxes.now c.get.result.now) (outline c.args.boxes.now c.get-in-Serial.result.now) c.args.variant.now c.args.parts (serial_is c.args.boxes.now c.args.net.now c.in-Serial.left c.in-Serial.right c.get.result.now c.get-in-Serial.result.now c.in-Serial.is c.get.ensures c.get-in-Serial.ensures) c.take_part-first.result.0 c.take_part-first.result.1 c.take_part-first.ensures.part c.take_part-first.ensures.others
-    c.in_ok-first-in-Serial.first c.in_ok-first-in-Serial.ensures c.as_slice-in-Serial-2.result.now (c.as_slice-in-Serial-2.ensures ∙ c.in_ok-middle-in-Serial.ensures ∙ ap (λ (rows : List Row). flow_in rows c.args.variant.now) c.as_slice-in-Serial.ensures) c.in_ok-parts-in-Serial.parts c.in_ok-parts-in-Serial.ensures.part c.in_ok-parts-in-Serial.ensures.others
+    c.in_ok-first-in-Serial.first c.in_ok-first-in-Serial.ensures c.as_slice-in-Serial.result.now (c.as_slice-in-Serial.ensures ∙ c.in_ok-middle-in-Serial.ensures) c.in_ok-parts-in-Serial.parts c.in_ok-parts-in-Serial.ensures.part c.in_ok-parts-in-Serial.ensures.others
     c.take_part-second.result.0 c.take_part-second.result.1 c.take_part-second.ensures.part c.take_part-second.ensures.others c.in_ok-second-in-Serial.second c.in_ok-second-in-Serial.flow c.in_ok-second-in-Serial.ensures c.in_ok-parts-in-Serial-2.parts c.in_ok-parts-in-Serial-2.ensures.part c.in_ok-parts-in-Serial-2.ensures.others
 
 pub visit_form-returns-then-not-has_face : goal.visit_form-returns-then-not-has_face
@@ -190,7 +197,8 @@ visit_form-loop-i-preserved t c =
 pub visit_form-returns-after-loop-i : goal.visit_form-returns-after-loop-i
 visit_form-returns-after-loop-i t c =
     let many = as_many c.args.boxes.now c.in-Choice.branches c.in-Choice.faces (sound_choice c.args.boxes.now c.args.net.now c.requires c.in-Choice.place c.in-Choice.merge c.in-Choice.branches c.in-Choice.faces c.in-Choice.is) in
-    going_ends (branch_of (map (outline c.args.boxes.now) c.in-Choice.branches)) c.in-Choice.faces c.args.variant.now c.args.parts (outline c.args.boxes.now c.args.net.now) c.in-Choice.place c.loop-i.i c.loop-i.parts c.loop-i.flow (choice_is c.args.boxes.now c.args.net.now c.in-Choice.place c.in-Choice.merge c.in-Choice.branches c.in-Choice.faces c.in-Choice.is) (face_found c.in-Choice.faces c.args.variant.now c.has_face.result (c.has_face.ensures ∙ ap (λ (fs : List (List Labels)). list_any (λ face. has_subset face c.args.variant.now) fs) c.as_slice-in-Choice.ensures) c.if-not-has_face.false) (omega (arith, many, c.loop-i-test.false, c.len-i-end.ensures)) c.loop-i.invariant
+    subst (λ (flow : List Labels). FormVisited (outline c.args.boxes.now c.args.net.now) c.args.variant.now c.args.parts (Ok (c.loop-i.parts, flow))) (sym c.into_seq.ensures)
+    (going_ends (branch_of (map (outline c.args.boxes.now) c.in-Choice.branches)) c.in-Choice.faces c.args.variant.now c.args.parts (outline c.args.boxes.now c.args.net.now) c.in-Choice.place c.loop-i.i c.loop-i.parts c.loop-i.flow (choice_is c.args.boxes.now c.args.net.now c.in-Choice.place c.in-Choice.merge c.in-Choice.branches c.in-Choice.faces c.in-Choice.is) (face_found c.in-Choice.faces c.args.variant.now c.has_face.result (c.has_face.ensures ∙ ap (λ (fs : List (List Labels)). list_any (λ face. has_subset face c.args.variant.now) fs) c.as_slice-in-Choice.ensures) c.if-not-has_face.false) (omega (arith, many, c.loop-i-test.false, c.len-i-end.ensures)) c.loop-i.invariant)
 
 pub visit_form-close-requires : goal.visit_form-close-requires
 visit_form-close-requires t c =
@@ -228,4 +236,4 @@ visit_form-returns-in_err-inner-in-Split t c =
 
 pub visit_form-returns-in_ok-parts-in-Split : goal.visit_form-returns-in_ok-parts-in-Split
 visit_form-returns-in_ok-parts-in-Split t c =
-    split_form (outline c.args.boxes.now c.args.net.now) c.in-Split.place c.in-Split.tag (outline c.args.boxes.now c.get-in-Split.result.now) c.args.variant.now c.args.parts (split_is c.args.boxes.now c.args.net.now c.in-Split.place c.in-Split.merge c.in-Split.body c.in-Split.tag c.get-in-Split.result.now c.in-Split.is c.get-in-Split.ensures) c.take_part-inner-in-Split.result.0 c.take_part-inner-in-Split.ensures.part (sym c.contains.ensures ∙ c.if-not-contains.false) c.in_ok-inner-in-Split.inner c.in_ok-flow-in-Split.flow c.in_ok-parts-in-Split.parts c.in_ok-inner-in-Split.ensures (c.in_ok-flow-in-Split.ensures ∙ ap (λ (rows : List Row). flow_in rows c.args.variant.now) c.as_slice-in-Split.ensures) c.in_ok-parts-in-Split.ensures.part
+    split_form (outline c.args.boxes.now c.args.net.now) c.in-Split.place c.in-Split.tag (outline c.args.boxes.now c.get-in-Split.result.now) c.args.variant.now c.args.parts (split_is c.args.boxes.now c.args.net.now c.in-Split.place c.in-Split.merge c.in-Split.body c.in-Split.tag c.get-in-Split.result.now c.in-Split.is c.get-in-Split.ensures) c.take_part-inner-in-Split.result.0 c.take_part-inner-in-Split.ensures.part (sym c.contains.ensures ∙ c.if-not-contains.false) c.in_ok-inner-in-Split.inner c.in_ok-flow-in-Split.flow c.in_ok-parts-in-Split.parts c.in_ok-inner-in-Split.ensures c.in_ok-flow-in-Split.ensures c.in_ok-parts-in-Split.ensures.part
