@@ -1,4 +1,4 @@
-use Rattle.std.proofs.Common.{◌≡◌, ◌∙◌, Some, None, map, sym, ap, rules, arith}
+use Rattle.std.proofs.Common.{◌≡◌, ◌∙◌, Some, None, map, sym, ap, arith}
 use Rattle.std.specs.FinMap as labels
 use Rattle.sn_flow.specs.Places.{first_of, place_in}
 use Rattle.sn_flow.proofs.Indexing.{missing, placed}
