@@ -14,6 +14,8 @@ mod files;
 #[cfg(test)]
 mod filter;
 #[cfg(test)]
+mod flow;
+#[cfg(test)]
 mod input;
 #[cfg(test)]
 mod lexer;
@@ -51,5 +53,7 @@ mod text;
 mod top;
 #[cfg(test)]
 mod type_parser;
+#[cfg(test)]
+mod types;
 #[cfg(test)]
 mod words;

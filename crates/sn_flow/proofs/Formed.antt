@@ -1,0 +1,95 @@
+-- The parts and the outline of a well-formed network, as a match on it shows them.
+use Rattle.std.proofs.Common.{◌≡◌, ℕ, ◌<◌, List, [], ◌∷◌, length, map, refl, sym, ap, ◌∙◌, subst}
+use Rattle.std.specs.Prelude.{Option, Some, None, is_some, slice_get, unwrap_or}
+use Rattle.std.specs.Option.{option_map}
+use Rattle.std.proofs.Math.ListN.{length-map}
+use Rattle.std.specs.List.{All}
+use Rattle.std.specs.FinMap as finite
+use Rattle.std.proofs.lemmas.List.Elements.{All-head, All-tail}
+use Rattle.std.proofs.lemmas.Option.{slice_get_within, get_or_from_slice_get, slice_get-map}
+use Rattle.sn_record.specs.LabelSet.{Labels}
+use Rattle.sn_tagexpr.specs.declared.expr.TagExpr.{TagExpr}
+use Rattle.sn_net.specs.declared.expr.BoxProgram.{BoxProgram}
+use Rattle.sn_net.specs.declared.filter.Filter.{Filter}
+use Rattle.sn_net.specs.declared.net.Merge.{Merge}
+use Rattle.sn_net.specs.declared.net.Net.{Net}
+use Rattle.sn_net.specs.declared.net.Net.TheOpen.{Net-F}
+use Rattle.sn_net.specs.declared.net.Net.TheViews.{roll-Net}
+use Rattle.sn_net.specs.declared.net.Net.TheVariants as form
+use Rattle.sn_net.specs.Face.{face, variant_of}
+use Rattle.sn_net.specs.WellFormed.{IsSoundChoice, IsWellFormed}
+use Rattle.sn_net.proofs.Sound.{level_sound, parts_formed}
+use Rattle.sn_typing.specs.Outline.{Outline, Component, Series, Choice, Star, Split, box_outline, branch_of, is_guarded, nowhere, outline, template_variant}
+use Rattle.sn_typing.proofs.Forms.{outline-Box, outline-Filter, outline-Sync, outline-Serial, outline-Choice, outline-Star, outline-Split}
+
+module _ (boxes : List BoxProgram) (net : Net) (formed : IsWellFormed boxes net) where
+  pub box_room : (place number : ℕ) → net ≡ form.Box place number → number < length boxes
+  box_room place number is = level_sound boxes (Net-F.Box place number) (subst (IsWellFormed boxes) (is ∙ sym (form.rolls-Box place number)) formed)
+
+  both_formed : (l r : Net) → net ≡ form.Serial l r → All (IsWellFormed boxes) (l ∷ r ∷ [])
+  both_formed l r is = parts_formed boxes (Net-F.Serial l r) (subst (IsWellFormed boxes) (is ∙ sym (form.rolls-Serial l r)) formed)
+
+  pub left_formed : (l r got : Net) → net ≡ form.Serial l r → got ≡ l → IsWellFormed boxes got
+  left_formed l r got is same = subst (IsWellFormed boxes) (sym same) (All-head (IsWellFormed boxes) l (r ∷ []) (both_formed l r is))
+
+  pub right_formed : (l r got : Net) → net ≡ form.Serial l r → got ≡ r → IsWellFormed boxes got
+  right_formed l r got is same = subst (IsWellFormed boxes) (sym same) (All-head (IsWellFormed boxes) r [] (All-tail (IsWellFormed boxes) l (r ∷ []) (both_formed l r is)))
+
+  pub star_formed : (place : ℕ) (merge : Merge) (body : Net) (exit : Labels) (guard : Option TagExpr) (got : Net) → net ≡ form.Star place merge body exit guard → got ≡ body → IsWellFormed boxes got
+  star_formed place merge body exit guard got is same =
+      subst (IsWellFormed boxes) (sym same) (All-head (IsWellFormed boxes) body [] (parts_formed boxes (Net-F.Star place merge body exit guard) (subst (IsWellFormed boxes) (is ∙ sym (form.rolls-Star place merge body exit guard)) formed)))
+
+  pub split_formed : (place : ℕ) (merge : Merge) (body : Net) (id : ℕ) (got : Net) → net ≡ form.Split place merge body id → got ≡ body → IsWellFormed boxes got
+  split_formed place merge body id got is same =
+      subst (IsWellFormed boxes) (sym same) (All-head (IsWellFormed boxes) body [] (parts_formed boxes (Net-F.Split place merge body id) (subst (IsWellFormed boxes) (is ∙ sym (form.rolls-Split place merge body id)) formed)))
+
+  module _ (place : ℕ) (merge : Merge) (branches : List Net) (faces : List (List Labels)) (is : net ≡ form.Choice place merge branches faces) where
+    rolled : IsWellFormed boxes (roll-Net (Net-F.Choice place merge branches faces))
+    rolled = subst (IsWellFormed boxes) (is ∙ sym (form.rolls-Choice place merge branches faces)) formed
+
+    pub branch_formed : (i : ℕ) (got : Net) → slice_get branches i ≡ Some got → IsWellFormed boxes got
+    branch_formed i got here =
+        subst (IsWellFormed boxes) (get_or_from_slice_get branches i got got here)
+        (parts_formed boxes (Net-F.Choice place merge branches faces) rolled i got (slice_get_within branches i got here))
+
+    pub sound_choice : IsSoundChoice boxes branches faces
+    sound_choice = level_sound boxes (Net-F.Choice place merge branches faces) rolled
+
+module _ (boxes : List BoxProgram) (net : Net) where
+  pub box_is : (place number : ℕ) (program : BoxProgram) → net ≡ form.Box place number → slice_get boxes number ≡ Some program
+      → outline boxes net ≡ Component place (variant_of program.input ∷ []) (variant_of program.input) (map variant_of program.outputs)
+  box_is place number program is here = ap (outline boxes) is ∙ outline-Box boxes place number ∙ ap (box_outline place) here
+
+  pub filter_is : (filter : Filter) → net ≡ form.Filter filter → outline boxes net ≡ Component filter.place (filter.pattern ∷ []) filter.pattern (map template_variant filter.templates)
+  filter_is filter is = ap (outline boxes) is ∙ outline-Filter boxes filter
+
+  pub sync_is : (place : ℕ) (patterns : List Labels) → net ≡ form.Sync place patterns → outline boxes net ≡ Component place patterns finite.empty (finite.empty ∷ [])
+  sync_is place patterns is = ap (outline boxes) is ∙ outline-Sync boxes place patterns
+
+  pub serial_is : (l r gl gr : Net) → net ≡ form.Serial l r → gl ≡ l → gr ≡ r → outline boxes net ≡ Series (outline boxes gl) (outline boxes gr)
+  serial_is l r gl gr is left right =
+      ap (outline boxes) is ∙ outline-Serial boxes l r ∙ ap (λ (n : Net). Series (outline boxes n) (outline boxes r)) (sym left) ∙ ap (λ (n : Net). Series (outline boxes gl) (outline boxes n)) (sym right)
+
+  pub choice_is : (place : ℕ) (merge : Merge) (branches : List Net) (faces : List (List Labels)) → net ≡ form.Choice place merge branches faces
+      → outline boxes net ≡ Choice place faces (branch_of (map (outline boxes) branches))
+  choice_is place merge branches faces is = ap (outline boxes) is ∙ outline-Choice boxes place merge branches faces
+
+  pub star_is : (place : ℕ) (merge : Merge) (body : Net) (exit : Labels) (guard : Option TagExpr) (got : Net) → net ≡ form.Star place merge body exit guard → got ≡ body
+      → outline boxes net ≡ Star exit (is_guarded guard) (outline boxes got)
+  star_is place merge body exit guard got is same = ap (outline boxes) is ∙ outline-Star boxes place merge body exit guard ∙ ap (λ (n : Net). Star exit (is_guarded guard) (outline boxes n)) (sym same)
+
+  pub split_is : (place : ℕ) (merge : Merge) (body : Net) (id : ℕ) (got : Net) → net ≡ form.Split place merge body id → got ≡ body → outline boxes net ≡ Split place id (outline boxes got)
+  split_is place merge body id got is same = ap (outline boxes) is ∙ outline-Split boxes place merge body id ∙ ap (λ (n : Net). Split place id (outline boxes n)) (sym same)
+
+-- a branch as it was read
+pub branch_got : (boxes : List BoxProgram) (branches : List Net) (i : ℕ) (got : Net) → slice_get branches i ≡ Some got → branch_of (map (outline boxes) branches) i ≡ outline boxes got
+branch_got boxes branches i got here =
+    ap (λ (b : Option Outline). unwrap_or b (nowhere 0)) (slice_get-map (outline boxes) branches i ∙ ap (option_map (outline boxes)) here)
+
+-- there are as many faces as branches
+pub as_many : (boxes : List BoxProgram) (branches : List Net) (faces : List (List Labels)) → IsSoundChoice boxes branches faces → length faces ≡ length branches
+as_many boxes branches faces sound = ap length sound.paired ∙ length-map branches (face boxes)
+
+pub guard_some : (guard : Option TagExpr) → is_some guard ≡ is_guarded guard
+guard_some None = refl
+guard_some (Some test) = refl

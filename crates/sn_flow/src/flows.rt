@@ -1,0 +1,139 @@
+//! What components answer to a variant.
+ghost use Rattle.std.specs.Prelude.{◌≡◌, ◌∷◌, [], IfOk, map};
+ghost use Rattle.std.specs.FinMap.{empty};
+ghost use Rattle.sn_net.specs.Face.{variant_of};
+ghost use Rattle.sn_typing.specs.Outline.{template_variant};
+ghost use Rattle.sn_flow.specs.Visits.{ComponentFlows};
+
+use crate::indexed::Indexed;
+use crate::sets::{add, append, has_subset};
+use crate::stop::Stop;
+use sn_list::{Memory, Seq};
+use sn_net::{BoxProgram, Filter, Template};
+use sn_record::{Label, LabelSet};
+use std::alloc::Global;
+
+/// What a component answers to a variant: each output with what of the variant is not named, if one of those that it takes is a
+/// subset.
+fn component_flow(
+    alloc: Global,
+    takes: &[LabelSet],
+    named: &LabelSet,
+    outputs: &[LabelSet],
+    variant: &LabelSet,
+) -> Result<Seq<LabelSet>, Stop>
+    ensures { ComponentFlows takes.now named.now outputs.now variant.now result }
+{
+    if !has_subset(takes, variant) {
+        return Ok(Seq::new(alloc));
+    }
+    let rest = variant.minus(named)?;
+    let mut flow = Indexed::new(alloc);
+    for output in outputs {
+        let whole = output.union(&rest)?;
+        add(alloc, &mut flow, &whole)?;
+    }
+    Ok(flow.into_seq())
+}
+
+/// The set of the labels.
+pub fn set_of(alloc: Global, labels: &[Label]) -> Result<LabelSet, Memory>
+    ensures { IfOk result (λ set. set ≡ variant_of labels.now) }
+{
+    let mut set = LabelSet::new(alloc);
+    for label in labels {
+        set.insert(*label)?;
+    }
+    Ok(set)
+}
+
+/// The set of each tuple.
+fn sets_of(alloc: Global, tuples: &[Seq<Label>]) -> Result<Seq<LabelSet>, Memory>
+    ensures { IfOk result (λ sets. sets ≡ map variant_of tuples.now) }
+{
+    let mut sets = Seq::new(alloc);
+    for tuple in tuples {
+        let set = set_of(alloc, tuple.as_slice())?;
+        append(&mut sets, set)?;
+    }
+    Ok(sets)
+}
+
+/// The labels that the template sets.
+fn template_set(alloc: Global, template: &Template) -> Result<LabelSet, Memory>
+    ensures { IfOk result (λ set. set ≡ template_variant template.now) }
+{
+    let mut set = LabelSet::new(alloc);
+    for part in template.parts.as_slice() {
+        set.insert(part.target())?;
+    }
+    Ok(set)
+}
+
+/// The labels that each template sets.
+fn template_sets(alloc: Global, templates: &[Template]) -> Result<Seq<LabelSet>, Memory>
+    ensures { IfOk result (λ sets. sets ≡ map template_variant templates.now) }
+{
+    let mut sets = Seq::new(alloc);
+    for template in templates {
+        let set = template_set(alloc, template)?;
+        append(&mut sets, set)?;
+    }
+    Ok(sets)
+}
+
+/// A list of the one set.
+pub fn one_set(alloc: Global, set: &LabelSet) -> Result<Seq<LabelSet>, Memory>
+    ensures { IfOk result (λ sets. sets ≡ set.now ∷ []) }
+{
+    let mut sets = Seq::new(alloc);
+    let copy = set.copy()?;
+    append(&mut sets, copy)?;
+    Ok(sets)
+}
+
+/// What a box answers.
+pub fn box_flow(
+    alloc: Global,
+    program: &BoxProgram,
+    variant: &LabelSet,
+) -> Result<Seq<LabelSet>, Stop>
+    ensures { ComponentFlows (variant_of program.now.input ∷ []) (variant_of program.now.input) (map variant_of program.now.outputs) variant.now result }
+{
+    let named = set_of(alloc, program.input.as_slice())?;
+    let takes = one_set(alloc, &named)?;
+    let outputs = sets_of(alloc, program.outputs.as_slice())?;
+    component_flow(alloc, takes.as_slice(), &named, outputs.as_slice(), variant)
+}
+
+/// What a filter answers.
+pub fn filter_flow(
+    alloc: Global,
+    filter: &Filter,
+    variant: &LabelSet,
+) -> Result<Seq<LabelSet>, Stop>
+    ensures { ComponentFlows (filter.now.pattern ∷ []) filter.now.pattern (map template_variant filter.now.templates) variant.now result }
+{
+    let takes = one_set(alloc, &filter.pattern)?;
+    let outputs = template_sets(alloc, filter.templates.as_slice())?;
+    component_flow(
+        alloc,
+        takes.as_slice(),
+        &filter.pattern,
+        outputs.as_slice(),
+        variant,
+    )
+}
+
+/// What a synchrocell answers.
+pub fn cell_flow(
+    alloc: Global,
+    patterns: &[LabelSet],
+    variant: &LabelSet,
+) -> Result<Seq<LabelSet>, Stop>
+    ensures { ComponentFlows patterns.now empty (empty ∷ []) variant.now result }
+{
+    let named = LabelSet::new(alloc);
+    let outputs = one_set(alloc, &named)?;
+    component_flow(alloc, patterns, &named, outputs.as_slice(), variant)
+}

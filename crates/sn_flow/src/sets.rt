@@ -1,0 +1,77 @@
+//! Sets of variants, as lists in which none stands twice.
+ghost use Rattle.std.specs.Prelude.{◌≡◌, ◌∷◌, ◌++◌, [], ◌&&◌, OnOk};
+ghost use Rattle.std.specs.List.{list_any};
+ghost use Rattle.sn_types.specs.RecordType.{has_subset, is_same, is_subset};
+ghost use Rattle.sn_flow.specs.Visits.{Added};
+
+use crate::indexed::Indexed;
+use crate::stop::Stop;
+use sn_list::{Memory, Seq};
+use sn_record::LabelSet;
+use std::alloc::Global;
+
+/// How many variants a set has at most.
+pub const MOST_VARIANTS: usize = 1024;
+
+/// Whether `small` is a subset of `large`.
+pub fn is_subset(small: &LabelSet, large: &LabelSet) -> bool
+    ensures { result ≡ is_subset small.now large.now }
+{
+    small.is_subset(large)
+}
+
+/// Whether some variant of the list is a subset of `set`.
+pub fn has_subset(variants: &[LabelSet], set: &LabelSet) -> bool
+    ensures { result ≡ has_subset variants.now set.now }
+{
+    for variant in variants {
+        if is_subset(variant, set) {
+            return true;
+        }
+    }
+    false
+}
+
+/// Appends `x`. For want of memory `x` is dropped.
+pub fn append<T: Drop>(list: &mut Seq<T>, x: T) -> Result<(), Memory>
+    ensures { OnOk result (list.new ≡ list.old ++ x ∷ []) }
+{
+    match list.push(x) {
+        Ok(()) => Ok(()),
+        Err(_) => Err(Memory),
+    }
+}
+
+/// Adds a copy of a variant, unless it is there.
+pub fn add(
+    alloc: Global,
+    sets: &mut Indexed<LabelSet>,
+    variant: &LabelSet,
+) -> Result<(), Stop>
+    ensures { Added sets.old (variant.now ∷ []) sets.new result }
+{
+    let known = sets.has(alloc, variant)?;
+    if known {
+        return Ok(());
+    }
+    if sets.len() >= MOST_VARIANTS {
+        return Err(Stop::TooMany);
+    }
+    let copy = variant.copy()?;
+    sets.push(alloc, copy)?;
+    Ok(())
+}
+
+/// Adds a copy of each variant that is not there.
+pub fn add_all(
+    alloc: Global,
+    sets: &mut Indexed<LabelSet>,
+    more: &[LabelSet],
+) -> Result<(), Stop>
+    ensures { Added sets.old more.now sets.new result }
+{
+    for variant in more {
+        add(alloc, sets, variant)?;
+    }
+    Ok(())
+}

@@ -1,0 +1,127 @@
+ghost use Rattle.std.specs.Prelude.{◌≡◌, ◌++◌, ◌∷◌, [], ◌<◌, ℕ, false, IfOk, length};
+ghost use Rattle.std.specs.List.{list_any};
+ghost use Rattle.sn_types.specs.RecordType.{is_same};
+ghost use Rattle.sn_flow.specs.Tables.{no_table, part_at, parts_of, rows_of};
+ghost use Rattle.sn_flow.specs.Visits.{SameElsewhere, flow_in, row_of};
+
+use crate::indexed::{Indexed, OfVariant};
+use crate::sets::append;
+use sn_list::{Memory, Seq};
+use sn_net::copy_sets;
+use sn_record::LabelSet;
+use std::alloc::Global;
+use std::mem;
+
+/// What a part of a network answers to a variant that reached it.
+#[derive(Drop)]
+pub struct Row {
+    pub variant: LabelSet,
+    pub flow: Seq<LabelSet>,
+}
+
+impl OfVariant for Row {
+    ghost variant_of = { λ row. row.variant };
+
+    fn variant(&self) -> &LabelSet {
+        &self.variant
+    }
+}
+
+/// The rows of the variants that reached a part, and the tables of the parts within it, as far as these were reached.
+#[derive(Drop)]
+pub struct Table {
+    pub rows: Indexed<Row>,
+    pub parts: Seq<Table>,
+}
+
+/// A table of nothing, which takes no memory.
+pub fn no_table(alloc: Global) -> Table
+    ensures { result ≡ no_table }
+{
+    Table {
+        rows: Indexed::new(alloc),
+        parts: Seq::new(alloc),
+    }
+}
+
+/// Whether some row is of the variant.
+pub fn has_row(alloc: Global, rows: &Indexed<Row>, variant: &LabelSet) -> Result<bool, Memory>
+    ensures { IfOk result (λ known. known ≡ list_any (λ row. is_same row.variant variant.now) rows.now) }
+{
+    rows.has(alloc, variant)
+}
+
+/// A copy of the flow of the variant.
+pub fn flow_of(
+    alloc: Global,
+    rows: &Indexed<Row>,
+    variant: &LabelSet,
+) -> Result<Seq<LabelSet>, Memory>
+    ensures { IfOk result (λ flow. flow ≡ flow_in rows.now variant.now) }
+{
+    match rows.find(alloc, variant)? {
+        Some(row) => copy_sets(alloc, row.flow.as_slice()),
+        None => Ok(Seq::new(alloc)),
+    }
+}
+
+/// The table with a row more, of a new variant, and with these tables of its parts.
+pub fn with_row(
+    alloc: Global,
+    rows: Indexed<Row>,
+    parts: Seq<Table>,
+    variant: &LabelSet,
+    flow: Seq<LabelSet>,
+) -> Result<Table, Memory>
+    requires { list_any (λ row. is_same row.variant variant.now) rows ≡ false }
+    ensures rows { IfOk result (λ t. rows_of t ≡ rows ++ row_of variant.now flow ∷ []) }
+    ensures parts { IfOk result (λ t. parts_of t ≡ parts) }
+{
+    let variant = variant.copy()?;
+    let mut rows = rows;
+    rows.push(alloc, Row { variant, flow })?;
+    Ok(Table { rows, parts })
+}
+
+/// The i-th table, and the others.
+pub fn take_part(alloc: Global, parts: Seq<Table>, i: usize) -> (Table, Seq<Table>)
+    ensures part { result.0 ≡ part_at parts i }
+    ensures others { SameElsewhere i parts result.1 }
+{
+    let mut parts = parts.into_vec();
+    if i < parts.len() {
+        let part = mem::replace(&mut parts[i], no_table(alloc));
+        return (part, Seq::from_vec(parts));
+    }
+    (no_table(alloc), Seq::from_vec(parts))
+}
+
+/// The tables, with tables of nothing behind them up to the i-th.
+fn padded(alloc: Global, parts: Seq<Table>, i: usize) -> Result<Seq<Table>, Memory>
+    requires { i < 64 }
+    ensures same { IfOk result (λ all. (j : ℕ) → part_at all j ≡ part_at parts j) }
+    ensures long { IfOk result (λ all. i < length all) }
+{
+    let mut all = parts;
+    for _ in all.len()..i + 1 {
+        append(&mut all, no_table(alloc))?;
+    }
+    Ok(all)
+}
+
+/// The tables with another one at i.
+pub fn put_part(
+    alloc: Global,
+    parts: Seq<Table>,
+    i: usize,
+    part: Table,
+) -> Result<Seq<Table>, Memory>
+    requires { i < 64 }
+    ensures part { IfOk result (λ all. part_at all i ≡ part) }
+    ensures others { IfOk result (λ all. SameElsewhere i parts all) }
+{
+    let all = padded(alloc, parts, i)?;
+    let mut all = all.into_vec();
+    all[i] = part;
+    Ok(Seq::from_vec(all))
+}

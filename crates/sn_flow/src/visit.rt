@@ -1,0 +1,205 @@
+//! Visits: what is reached from a variant, with each part's table.
+ghost use Rattle.std.specs.Prelude.{◌≡◌, ◌&&◌, not};
+ghost use Rattle.sn_types.specs.RecordType.{is_subset};
+ghost use Rattle.sn_net.specs.WellFormed.{IsWellFormed};
+ghost use Rattle.sn_typing.specs.Outline.{outline};
+ghost use Rattle.sn_flow.specs.Visits.{AllVisited, Closed, FormVisited, Visited, WithExit};
+
+use crate::chosen::{chosen, has_face};
+use crate::flows::{box_flow, cell_flow, filter_flow};
+use crate::indexed::Indexed;
+use crate::sets::{MOST_VARIANTS, add, add_all, is_subset};
+use crate::stop::Stop;
+use crate::table::{Table, flow_of, has_row, put_part, take_part, with_row};
+use sn_list::Seq;
+use sn_net::{Boxes, Net};
+use sn_record::{Kind, Label, LabelSet};
+use std::alloc::Global;
+
+/// The table after a visit of the network with the variant.
+#[cycle(visits)]
+pub fn visit(
+    alloc: Global,
+    net: &Net,
+    boxes: &Boxes,
+    table: Table,
+    variant: &LabelSet,
+) -> Result<Table, Stop>
+    requires { IsWellFormed boxes.now net.now }
+    ensures { Visited (outline boxes.now net.now) variant.now table result }
+{
+    let known = has_row(alloc, &table.rows, variant)?;
+    if known {
+        return Ok(table);
+    }
+    if table.rows.len() >= MOST_VARIANTS {
+        return Err(Stop::TooMany);
+    }
+    let Table { rows, parts } = table;
+    let (parts, flow) = visit_form(alloc, net, boxes, parts, variant)?;
+    let whole = with_row(alloc, rows, parts, variant, flow)?;
+    Ok(whole)
+}
+
+/// The tables of the parts after a visit of the network with the variant, and what flows out.
+#[cycle(visits)]
+fn visit_form(
+    alloc: Global,
+    net: &Net,
+    boxes: &Boxes,
+    parts: Seq<Table>,
+    variant: &LabelSet,
+) -> Result<(Seq<Table>, Seq<LabelSet>), Stop>
+    requires { IsWellFormed boxes.now net.now }
+    ensures { FormVisited (outline boxes.now net.now) variant.now parts result }
+{
+    match net {
+        Net::Box { number, .. } => {
+            let flow = box_flow(alloc, boxes.at(*number as usize), variant)?;
+            Ok((parts, flow))
+        }
+        Net::Filter(filter) => {
+            let flow = filter_flow(alloc, filter, variant)?;
+            Ok((parts, flow))
+        }
+        Net::Sync { patterns, .. } => {
+            let flow = cell_flow(alloc, patterns.as_slice(), variant)?;
+            Ok((parts, flow))
+        }
+        Net::Serial { left, right } => {
+            let (first, parts) = take_part(alloc, parts, 0);
+            let first = visit(alloc, left.get(), boxes, first, variant)?;
+            let middle = flow_of(alloc, &first.rows, variant)?;
+            let parts = put_part(alloc, parts, 0, first)?;
+            let (second, parts) = take_part(alloc, parts, 1);
+            let (second, flow) = visit_all(alloc, right.get(), boxes, second, middle.as_slice())?;
+            let parts = put_part(alloc, parts, 1, second)?;
+            Ok((parts, flow))
+        }
+        Net::Choice {
+            branches,
+            faces,
+            ..
+        } => {
+            if !has_face(faces.as_slice(), variant) {
+                return Ok((parts, Seq::new(alloc)));
+            }
+            let mut parts = parts;
+            let mut flow = Indexed::new(alloc);
+            for i in 0..branches.len() {
+                let sent = chosen(alloc, faces.as_slice(), i, variant, faces.at(i).as_slice())?;
+                let (part, others) = take_part(alloc, parts, i);
+                let (part, more) = visit_all(alloc, branches.at(i), boxes, part, sent.as_slice())?;
+                add_all(alloc, &mut flow, more.as_slice())?;
+                parts = put_part(alloc, others, i, part)?;
+            }
+            Ok((parts, flow.into_seq()))
+        }
+        Net::Star {
+            body,
+            exit,
+            guard,
+            ..
+        } => {
+            let (inner, parts) = take_part(alloc, parts, 0);
+            let (inner, members) = close(
+                alloc,
+                body.get(),
+                boxes,
+                inner,
+                exit,
+                guard.is_some(),
+                variant,
+            )?;
+            let flow = with_exit(alloc, members.as_slice(), exit)?;
+            let parts = put_part(alloc, parts, 0, inner)?;
+            Ok((parts, flow))
+        }
+        Net::Split { body, tag, .. } => {
+            let tag = Label {
+                kind: Kind::Tag,
+                id: *tag,
+            };
+            if !variant.contains(tag) {
+                return Ok((parts, Seq::new(alloc)));
+            }
+            let (inner, parts) = take_part(alloc, parts, 0);
+            let inner = visit(alloc, body.get(), boxes, inner, variant)?;
+            let flow = flow_of(alloc, &inner.rows, variant)?;
+            let parts = put_part(alloc, parts, 0, inner)?;
+            Ok((parts, flow))
+        }
+    }
+}
+
+/// The table after visits of the network with each of the variants, and what flows out for them together.
+#[cycle(visits)]
+fn visit_all(
+    alloc: Global,
+    net: &Net,
+    boxes: &Boxes,
+    table: Table,
+    variants: &[LabelSet],
+) -> Result<(Table, Seq<LabelSet>), Stop>
+    requires { IsWellFormed boxes.now net.now }
+    ensures { AllVisited (outline boxes.now net.now) variants.now table result }
+{
+    let mut table = table;
+    let mut flow = Indexed::new(alloc);
+    for variant in variants {
+        table = visit(alloc, net, boxes, table, variant)?;
+        let more = flow_of(alloc, &table.rows, variant)?;
+        add_all(alloc, &mut flow, more.as_slice())?;
+    }
+    Ok((table, flow.into_seq()))
+}
+
+/// Whether records of the variant surely leave.
+fn leaves(exit: &LabelSet, guarded: bool, variant: &LabelSet) -> bool
+    ensures { result ≡ (not guarded && is_subset exit.now variant.now) }
+{
+    !guarded && is_subset(exit, variant)
+}
+
+/// The table of a star's body after visits with all that comes from the variant and stays, and all that comes.
+#[cycle(visits)]
+fn close(
+    alloc: Global,
+    net: &Net,
+    boxes: &Boxes,
+    table: Table,
+    exit: &LabelSet,
+    guarded: bool,
+    variant: &LabelSet,
+) -> Result<(Table, Seq<LabelSet>), Stop>
+    requires { IsWellFormed boxes.now net.now }
+    ensures { Closed exit.now guarded (outline boxes.now net.now) variant.now table result }
+{
+    let mut table = table;
+    let mut members = Indexed::new(alloc);
+    add(alloc, &mut members, variant)?;
+    for i in 0..MOST_VARIANTS {
+        if i >= members.len() {
+            return Ok((table, members.into_seq()));
+        }
+        let member = members.at(i).copy()?;
+        if !leaves(exit, guarded, &member) {
+            table = visit(alloc, net, boxes, table, &member)?;
+            let more = flow_of(alloc, &table.rows, &member)?;
+            add_all(alloc, &mut members, more.as_slice())?;
+        }
+    }
+    Ok((table, members.into_seq()))
+}
+
+/// Each of the variants with the exit.
+fn with_exit(alloc: Global, members: &[LabelSet], exit: &LabelSet) -> Result<Seq<LabelSet>, Stop>
+    ensures { WithExit members.now exit.now result }
+{
+    let mut flow = Indexed::new(alloc);
+    for member in members {
+        let whole = member.union(exit)?;
+        add(alloc, &mut flow, &whole)?;
+    }
+    Ok(flow.into_seq())
+}

@@ -1,0 +1,9 @@
+pub mod Carried
+pub mod Scores
+pub mod Follows
+pub mod Emitted
+pub mod Cells
+pub mod Filters
+pub mod Evaluations
+pub mod Networks
+pub mod Items

@@ -1,0 +1,89 @@
+-- Label sets within one another, and the labels of records.
+use Rattle.std.proofs.Common.{◌≡◌, ◌&&◌, ◌||◌, Bool, true, false, not, IsTrue, List, [], ◌∷◌, refl, sym, ap, ◌∙◌}
+use Rattle.std.specs.List.{fold, list_any}
+use Rattle.std.specs.Ordering.{eq_by_cmp}
+use Rattle.std.specs.FinMap as map
+use Rattle.sn_record.specs.declared.label.Label.{Label}
+use Rattle.sn_record.specs.Label.{label_cmp}
+use Rattle.sn_record.specs.LabelSet.{Labels, contains, IsSubset, union, minus}
+use Rattle.sn_record.specs.Record.{Entries, Matches}
+use Rattle.sn_record.proofs.Sets.{contains-insert, contains-union, contains-minus}
+use Rattle.sn_net.specs.Face.{variant_of}
+use Rattle.sn_typing.specs.Typed.{labels_of}
+
+or_false : (b : Bool) → (b || false) ≡ b
+or_false true = refl
+or_false false = refl
+
+or_turned : (a b c : Bool) → ((a || b) || c) ≡ (b || (a || c))
+or_turned true true c = refl
+or_turned true false c = refl
+or_turned false b c = refl
+
+either_more : (a a' b b' : Bool) → (IsTrue a → IsTrue a') → (IsTrue b → IsTrue b') → IsTrue (a || b) → IsTrue (a' || b')
+either_more true true b b' f g h = refl
+either_more true false b b' f g h = absurd (differ (f refl))
+  where
+    differ : false ≡ true → ⊥
+    differ e = cc
+either_more false true b b' f g h = refl
+either_more false false b b' f g h = g h
+
+both_more : (a a' b : Bool) → (IsTrue a → IsTrue a') → IsTrue (a && b) → IsTrue (a' && b)
+both_more true true b f h = h
+both_more true false b f h = absurd (differ (f refl))
+  where
+    differ : false ≡ true → ⊥
+    differ e = cc
+both_more false true b f h = absurd (differ h)
+  where
+    differ : false ≡ true → ⊥
+    differ e = cc
+both_more false false b f h = h
+
+either_case : (a b c : Bool) → (IsTrue a → IsTrue c) → (IsTrue b → IsTrue c) → IsTrue (a || b) → IsTrue c
+either_case true b c f g h = f refl
+either_case false b c f g h = g h
+
+pub within_itself : (s : Labels) → IsSubset s s
+within_itself s l there = there
+
+pub within_within : (s t u : Labels) → IsSubset s t → IsSubset t u → IsSubset s u
+within_within s t u first second l there = second l (first l there)
+
+-- each part may become larger
+pub union_more : (s s' t t' : Labels) → IsSubset s s' → IsSubset t t' → IsSubset (union s t) (union s' t')
+union_more s s' t t' first second l there =
+    contains-union s' t' l ∙ either_more (contains s l) (contains s' l) (contains t l) (contains t' l) (first l) (second l) (sym (contains-union s t l) ∙ there)
+
+pub union_within : (s t u : Labels) → IsSubset s u → IsSubset t u → IsSubset (union s t) u
+union_within s t u first second l there =
+    either_case (contains s l) (contains t l) (contains u l) (first l) (second l) (sym (contains-union s t l) ∙ there)
+
+pub minus_more : (s s' t : Labels) → IsSubset s s' → IsSubset (minus s t) (minus s' t)
+minus_more s s' t more l there =
+    contains-minus s' t l ∙ both_more (contains s l) (contains s' l) (not (contains t l)) (more l) (sym (contains-minus s t l) ∙ there)
+
+-- the labels of a list, and those that were there
+contains-fold : (labels : List Label) (s : Labels) (l : Label)
+    → contains (fold (λ variant label. map.insert variant label tt) s labels) l ≡ (list_any (eq_by_cmp label_cmp l) labels || contains s l)
+contains-fold [] s l = refl
+contains-fold (k ∷ labels) s l =
+    contains-fold labels (map.insert s k tt) l
+    ∙ ap (λ b. list_any (eq_by_cmp label_cmp l) labels || b) (contains-insert s k l)
+    ∙ sym (or_turned (eq_by_cmp label_cmp l k) (list_any (eq_by_cmp label_cmp l) labels) (contains s l))
+
+pub contains-variant_of : (labels : List Label) (l : Label) → contains (variant_of labels) l ≡ list_any (eq_by_cmp label_cmp l) labels
+contains-variant_of labels l =
+    contains-fold labels map.empty l
+    ∙ rw (map.get-empty {X = Unit {0}} label_cmp l) (or_false (list_any (eq_by_cmp label_cmp l) labels))
+
+-- the labels of a record are those at which it has something
+pub contains-labels_of : (r : Entries) (l : Label) → contains (labels_of r) l ≡ map.contains_key r l
+contains-labels_of r l = contains-variant_of (map.keys r) l ∙ sym (map.contains_key-keys r l)
+
+pub matched_labels : (r : Entries) (v : Labels) → Matches r v → IsSubset v (labels_of r)
+matched_labels r v matches l there = contains-labels_of r l ∙ matches l there
+
+pub labels_matched : (r : Entries) (v : Labels) → IsSubset v (labels_of r) → Matches r v
+labels_matched r v within l there = sym (contains-labels_of r l) ∙ within l there
