@@ -22,12 +22,12 @@ set_or_found false x rest = refl
 inherit-insert : (r : Entries) (v : Labels) (l : Label) (x : Value) → inherit r v (insert empty l x) ≡ insert (inherit r v empty) l x
 inherit-insert r v l x =
     same_record _ _ (λ k.
-      let rest : Option Value = if contains v k then None else get r k in
-      get-inherit r v (insert empty l x) k
-      ∙ ap (λ y. option_or y rest) (get-insert label_cmp_total empty l x k ∙ ap (cond (eq_by_cmp label_cmp k l) (Some x)) (get-empty label_cmp k))
-      ∙ set_or_found (eq_by_cmp label_cmp k l) x rest
-      ∙ sym (get-insert label_cmp_total (inherit r v empty) l x k
-          ∙ ap (cond (eq_by_cmp label_cmp k l) (Some x)) (get-inherit r v empty k ∙ ap (λ y. option_or y rest) (get-empty label_cmp k))))
+    let rest : Option Value = if contains v k then None else get r k in
+    get-inherit r v (insert empty l x) k
+    ∙ ap (λ y. option_or y rest) (get-insert label_cmp_total empty l x k ∙ ap (cond (eq_by_cmp label_cmp k l) (Some x)) (get-empty label_cmp k))
+    ∙ set_or_found (eq_by_cmp label_cmp k l) x rest
+    ∙ sym (get-insert label_cmp_total (inherit r v empty) l x k
+    ∙ ap (cond (eq_by_cmp label_cmp k l) (Some x)) (get-inherit r v empty k ∙ ap (λ y. option_or y rest) (get-empty label_cmp k))))
 
 inherit-with_value : (r : Entries) (v : Labels) (l : Label) (x : Option Value) → inherit r v (with_value empty l x) ≡ with_value (inherit r v empty) l x
 inherit-with_value r v l None = refl

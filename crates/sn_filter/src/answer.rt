@@ -98,12 +98,7 @@ pub fn apply(alloc: Global, f: &Filter, r: &Record) -> Result<Items, Memory>
 
 /// As `apply`, of a record that is given up, and behind the items that are there: the last template's record takes what it
 /// inherits out of it, and those of the earlier ones copy it.
-pub fn apply_onto(
-    alloc: Global,
-    f: &Filter,
-    taken: Record,
-    items: &mut Items,
-) -> Result<(), Memory>
+pub fn apply_onto(alloc: Global, f: &Filter, taken: Record, items: &mut Items) -> Result<(), Memory>
     requires closed { IsClosed f.now }
     requires matches { Matches taken f.now.pattern }
     ensures { OnOk result (map modelled items.new ≡ map modelled items.old ++ filter_answer f.now taken) }

@@ -122,7 +122,7 @@ place_push [] v labels = refl
 place_push (w ∷ vs) v labels =
     ap (λ place. cond (is_eq (slice_cmp label_cmp labels (map.keys w))) (Some zero) (option_map suc place)) (place_push vs v labels)
     ∙ elim (is_eq (slice_cmp label_cmp labels (map.keys w))) as (λ b. cond b (Some zero) (option_map suc (option_or (place_in vs labels) (cond (is_eq (slice_cmp label_cmp labels (map.keys v))) (Some (length vs)) None)))
-        ≡ option_or (cond b (Some zero) (option_map suc (place_in vs labels))) (cond (is_eq (slice_cmp label_cmp labels (map.keys v))) (Some (suc (length vs))) None)) [
+    ≡ option_or (cond b (Some zero) (option_map suc (place_in vs labels))) (cond (is_eq (slice_cmp label_cmp labels (map.keys v))) (Some (suc (length vs))) None)) [
       | true ↦ refl
       | false ↦ next (place_in vs labels) (is_eq (slice_cmp label_cmp labels (map.keys v)))
     ]
@@ -143,7 +143,7 @@ tells_push old new vs v key place told is_key none last updates q =
         let same : q.items ≡ map.keys v = sym (tied_lists key.items q.items tied) ∙ is_key in
         ap (λ n. Some n) last
         ∙ sym (ap (λ b. option_or (place_in vs q.items) (cond b (Some (length vs)) None)) (ap (λ ks. is_eq (slice_cmp label_cmp ks (map.keys v))) same ∙ list_ties (map.keys v))
-            ∙ ap (λ o. option_or o (Some (length vs))) (ap (place_in vs) same ∙ none))
+        ∙ ap (λ o. option_or o (Some (length vs))) (ap (place_in vs) same ∙ none))
     at false apart =
         told q
         ∙ sym (ap (λ b. option_or (place_in vs q.items) (cond b (Some (length vs)) None)) (other (is_eq (slice_cmp label_cmp q.items (map.keys v))) refl) ∙ or_none (place_in vs q.items))

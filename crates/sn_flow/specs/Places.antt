@@ -7,7 +7,6 @@ use Rattle.std.specs.Option.{option_map}
 use Rattle.std.specs.Ordering.{is_eq}
 use Rattle.std.proofs.Common.{Global}
 use Rattle.std.specs.declared.cmp.Ordering.{Ordering}
-
 use Rattle.sn_record.specs.declared.label.Label.{Label}
 use Rattle.sn_record.specs.Label.{label_cmp}
 use Rattle.sn_record.specs.LabelSet.{Labels}

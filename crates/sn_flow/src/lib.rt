@@ -18,4 +18,3 @@ mod whole;
 pub use claims::{check, flow};
 pub use fault::FlowFault;
 pub use sn_list::Memory;
-

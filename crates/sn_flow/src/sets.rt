@@ -43,11 +43,7 @@ pub fn append<T: Drop>(list: &mut Seq<T>, x: T) -> Result<(), Memory>
 }
 
 /// Adds a copy of a variant, unless it is there.
-pub fn add(
-    alloc: Global,
-    sets: &mut Indexed<LabelSet>,
-    variant: &LabelSet,
-) -> Result<(), Stop>
+pub fn add(alloc: Global, sets: &mut Indexed<LabelSet>, variant: &LabelSet) -> Result<(), Stop>
     ensures { Added sets.old (variant.now ∷ []) sets.new result }
 {
     let known = sets.has(alloc, variant)?;
@@ -63,11 +59,7 @@ pub fn add(
 }
 
 /// Adds a copy of each variant that is not there.
-pub fn add_all(
-    alloc: Global,
-    sets: &mut Indexed<LabelSet>,
-    more: &[LabelSet],
-) -> Result<(), Stop>
+pub fn add_all(alloc: Global, sets: &mut Indexed<LabelSet>, more: &[LabelSet]) -> Result<(), Stop>
     ensures { Added sets.old more.now sets.new result }
 {
     for variant in more {

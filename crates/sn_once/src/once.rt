@@ -69,13 +69,7 @@ impl Once {
             inputs: inputs.as_slice(),
         };
         let before = output.begin(alloc);
-        pass(
-            &walk,
-            run.net(),
-            &mut kept,
-            Flowing::of(item),
-            &mut output,
-        )?;
+        pass(&walk, run.net(), &mut kept, Flowing::of(item), &mut output)?;
         let mut came = output.end(before).into_vec();
         let given = settled(alloc, &mut came)?;
         output.put_by(came)?;

@@ -73,7 +73,13 @@ pub fn pass(
             faces,
             ..
         } => {
-            let (number, taken) = match choose(net, *place, faces.as_slice(), item, &mut out.given)? {
+            let (number, taken) = match choose(
+                net,
+                *place,
+                faces.as_slice(),
+                item,
+                &mut out.given,
+            )? {
                 Some(picked) => picked,
                 None => return Ok(()),
             };
@@ -195,7 +201,15 @@ fn pass_star(
     waiting.push(Waiting { level: 0, item })?;
     while let Some(next) = waiting.pop() {
         let Waiting { level, item } = next;
-        let taken = match tap(star, place, exit, guard, depth - level, item, &mut out.given)? {
+        let taken = match tap(
+            star,
+            place,
+            exit,
+            guard,
+            depth - level,
+            item,
+            &mut out.given,
+        )? {
             Some(taken) => taken,
             None => continue,
         };

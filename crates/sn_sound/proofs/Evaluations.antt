@@ -233,7 +233,7 @@ module _ (program : BoxProgram) where
     node_good (Expr-F.Emit number parts) n variables progress closed well =
         let both = and_parts (has_size (each (λ labels. length labels) program.outputs) number (length (each (λ e m. is_closed_at program m e) parts))) (all_closed (each (λ e m. is_closed_at program m e) parts) n) closed in
         let sized : IsTrue (has_size (each (λ labels. length labels) program.outputs) number (length parts)) =
-            sym (ap (has_size (each (λ labels. length labels) program.outputs) number) (length-map parts (λ e m. is_closed_at program m e))) ∙ both.0 in
+        sym (ap (has_size (each (λ labels. length labels) program.outputs) number) (length-map parts (λ e m. is_closed_at program m e))) ∙ both.0 in
         followed_good (λ (made : List Value). length made ≡ length parts) Any (all_values evaluate parts variables [] progress) _
         (all_values_good parts variables [] progress n (length parts) both.1 (omega arith) well)
         (λ values now as_many good. emitting_good number values now (subst (λ size. IsTrue (has_size (each (λ labels. length labels) program.outputs) number size)) (sym as_many) sized) good)

@@ -308,8 +308,11 @@ pub follows_carries : (o : Outline) (t : Network) → Follows o t → (V W : Lab
 follows_carries o t (component place takes named outputs m s answers) V W safe flows = machine_carries m (λ q. Unit {0}) (IsOf V) (IsOf W) keeps s tt
   where
     keeps : (q : CellState) (x : ModelItem) → Unit {0} → IsOf V x → Unit {0} × Each (IsOf W) (m.emits q x)
-    keeps q (Rec r) here is = (tt, each_of_more (Flows (Component place takes named outputs) is.variant) W (λ u flow. flows is.variant u is.listed flow) (m.emits q (Rec r))
-        (answers.records q r is.variant (safe is.variant is.listed) is.matched))
+    keeps q (Rec r) here is = (
+      tt,
+      each_of_more (Flows (Component place takes named outputs) is.variant) W (λ u flow. flows is.variant u is.listed flow) (m.emits q (Rec r))
+          (answers.records q r is.variant (safe is.variant is.listed) is.matched),
+    )
     keeps q (Fault fault) here is = (tt, subst (Each (IsOf W)) (sym (answers.faults q fault)) (tt, tt))
     keeps q (Stuck at) here is = absurd is
 follows_carries o t (series a b t' u' left right) V W safe flows =

@@ -83,9 +83,9 @@ module _ (s : Setting) (claim : Claim) (formed : IsWellFormed s.boxes claim.net)
       → EachItem (IsItemOfType claim.output) yss × Each (λ ys. holds_stuck ys ≡ false) yss
   accepted_is_sound xss yss typed answers =
       let answered : EachItem (IsOf flowing) yss = flows_out s claim.net formed (Contains claim.input) (λ v listed. accepted.safe v listed) xss yss typed answers in (
-    segments_more (Each (IsOf flowing)) (Each (IsItemOfType claim.output)) (each_more (IsOf flowing) (IsItemOfType claim.output) declared) yss answered,
-    segments_more (Each (IsOf flowing)) (λ ys. holds_stuck ys ≡ false) (none_stuck flowing) yss answered,
-  )
+        segments_more (Each (IsOf flowing)) (Each (IsItemOfType claim.output)) (each_more (IsOf flowing) (IsItemOfType claim.output) declared) yss answered,
+        segments_more (Each (IsOf flowing)) (λ ys. holds_stuck ys ≡ false) (none_stuck flowing) yss answered,
+      )
 
   pub accepted_list_is_sound : (xs ys : List ModelItem) → All (IsItemOfType claim.input) xs → MayAnswerList s claim.net xs ys → All (IsItemOfType claim.output) ys × (holds_stuck ys ≡ false)
   accepted_list_is_sound xs ys typed answers =

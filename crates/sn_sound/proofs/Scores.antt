@@ -127,18 +127,19 @@ best_is_unbeaten faces r v i matches is =
     let best : IsBest faces r i = best_branch-Some faces r i is in
     let reached = score_reached best.face r best.size best.scored in
     let w : Labels = reached.0 in
-    let whole : Matches r (union v w) = union_matched r v w matches reached.2 in
-    (w,
-    record {
-      own = record { face = best.face; here = best.here; listed = reached.1 };
-      best = λ beaten.
-          let there : Matches r beaten.variant = λ l at. whole l (beaten.within l at) in
-          contradicts beaten.branch beaten.variant best.size (map.len w) i reached.3
-          (not_larger faces r i best beaten.branch beaten.variant beaten.other there)
-          (smaller_before faces r i best beaten.branch beaten.variant beaten.other there)
-          beaten.before;
-    },
-    whole)
+    let whole : Matches r (union v w) = union_matched r v w matches reached.2 in (
+      w,
+      record {
+        own = record { face = best.face; here = best.here; listed = reached.1 };
+        best = λ beaten.
+            let there : Matches r beaten.variant = λ l at. whole l (beaten.within l at) in
+            contradicts beaten.branch beaten.variant best.size (map.len w) i reached.3
+            (not_larger faces r i best beaten.branch beaten.variant beaten.other there)
+            (smaller_before faces r i best beaten.branch beaten.variant beaten.other there)
+            beaten.before;
+      },
+      whole,
+    )
   where
     union_matched : (r : Entries) (s t : Labels) → Matches r s → Matches r t → Matches r (union s t)
     union_matched r s t first second = labels_matched r (union s t) (union_within s t (labels_of r) (matched_labels r s first) (matched_labels r t second))

@@ -51,20 +51,24 @@ more_labels (Component place takes named outputs) v v' more safe = (
   },
 )
 more_labels (Series left right) v v' more safe = (
-  ((more_labels left v v' more safe.0).0,
-  λ u' flow.
-      let below = (more_labels left v v' more safe.0).1 u' flow in
-      (more_labels right below.variant u' below.within (safe.1 below.variant below.listed)).0),
+  (
+    (more_labels left v v' more safe.0).0,
+    λ u' flow.
+        let below = (more_labels left v v' more safe.0).1 u' flow in
+        (more_labels right below.variant u' below.within (safe.1 below.variant below.listed)).0,
+  ),
   λ u' (w', flow, further).
       let below = (more_labels left v v' more safe.0).1 w' flow in
       let last = (more_labels right below.variant w' below.within (safe.1 below.variant below.listed)).1 u' further in
       record { variant = last.variant; listed = (below.variant, below.listed, last.listed); within = last.within },
 )
 more_labels (Choice place faces branch) v v' more safe = (
-  (face_more faces v v' more safe.0,
-  λ i w unbeaten.
-      let larger = union_more v v' w w more (within_itself w) in
-      (more_labels (branch i) (union v w) (union v' w) larger (safe.1 i w (still_unbeaten faces i w (union v w) (union v' w) larger unbeaten))).0),
+  (
+    face_more faces v v' more safe.0,
+    λ i w unbeaten.
+        let larger = union_more v v' w w more (within_itself w) in
+        (more_labels (branch i) (union v w) (union v' w) larger (safe.1 i w (still_unbeaten faces i w (union v w) (union v' w) larger unbeaten))).0,
+  ),
   λ u' (has, (i, w, unbeaten, flow)).
       let larger = union_more v v' w w more (within_itself w) in
       let before = still_unbeaten faces i w (union v w) (union v' w) larger unbeaten in
@@ -73,18 +77,18 @@ more_labels (Choice place faces branch) v v' more safe = (
 )
 more_labels (Star exit guarded body) v v' more safe =
     let coming = comes_below exit guarded (Flows body) v v' more (λ u u' come stays larger w' flow. (more_labels body u u' larger (safe u come stays)).1 w' flow) in (
-  λ u' come stays.
-      let below = coming u' come in
-      let stays_below : SurelyLeaves exit guarded below.variant → ⊥ = λ leaves. stays (leaves_more exit guarded below.variant u' below.within leaves) in
-      (more_labels body below.variant u' below.within (safe below.variant below.listed stays_below)).0,
-  λ u' (w', come, is).
-      let below = coming w' come in
-      record {
-        variant = union below.variant exit;
-        listed = (below.variant, below.listed, refl);
-        within = subst (λ t. IsSubset (union below.variant exit) t) (sym is) (union_more below.variant w' exit exit below.within (within_itself exit));
-      },
-)
+      λ u' come stays.
+          let below = coming u' come in
+          let stays_below : SurelyLeaves exit guarded below.variant → ⊥ = λ leaves. stays (leaves_more exit guarded below.variant u' below.within leaves) in
+          (more_labels body below.variant u' below.within (safe below.variant below.listed stays_below)).0,
+      λ u' (w', come, is).
+          let below = coming w' come in
+          record {
+            variant = union below.variant exit;
+            listed = (below.variant, below.listed, refl);
+            within = subst (λ t. IsSubset (union below.variant exit) t) (sym is) (union_more below.variant w' exit exit below.within (within_itself exit));
+          },
+    )
 more_labels (Split place id body) v v' more safe = (
   (more (tag id) safe.0, (more_labels body v v' more safe.1).0),
   λ u' (there, flow).

@@ -31,17 +31,17 @@ routed_safe (Series a b) v routed = (
 )
 routed_safe (Choice place faces branches) v routed =
     let has = routed [] (Choice place faces branches) v (here (Choice place faces branches) v) in (
-  has,
-  λ i w unbeaten. routed_safe (branches i) (union v w)
-      (λ way part u reached. routed (Branch i ∷ way) part u (branch place faces branches v i w way part u has unbeaten reached)),
-)
+      has,
+      λ i w unbeaten. routed_safe (branches i) (union v w)
+          (λ way part u reached. routed (Branch i ∷ way) part u (branch place faces branches v i w way part u has unbeaten reached)),
+    )
 routed_safe (Star exit guarded body) v routed = λ w come stays.
     routed_safe body w (λ way part u reached. routed (Body ∷ way) part u (inside exit guarded body v w way part u come stays reached))
 routed_safe (Split place id body) v routed =
     let there = routed [] (Split place id body) v (here (Split place id body) v) in (
-  there,
-  routed_safe body v (λ way part u reached. routed (Body ∷ way) part u (replica place id body v way part u there reached)),
-)
+      there,
+      routed_safe body v (λ way part u reached. routed (Body ∷ way) part u (replica place id body v way part u there reached)),
+    )
 
 -- a closed set has all that comes
 comes_within : (exit : Labels) (guarded : Bool) (body : Outline) (v : Labels) (members : List Labels) → IsClosedSet exit guarded body v members
