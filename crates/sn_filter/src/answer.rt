@@ -96,6 +96,25 @@ pub fn apply(alloc: Global, f: &Filter, r: &Record) -> Result<Items, Memory>
     Ok(items)
 }
 
+/// What a filter of one template answers to a record that is given up: its record, or its fault. So no list is made.
+pub fn apply_single(
+    alloc: Global,
+    f: &Filter,
+    template: &Template,
+    taken: Record,
+) -> Result<Item, Memory>
+    requires single { f.now.templates ≡ template.now ∷ [] }
+    requires closed { IsClosed f.now }
+    requires matches { Matches taken f.now.pattern }
+    ensures { IfOk result (λ item. filter_answer f.now taken ≡ modelled item ∷ []) }
+{
+    match template_record_owned(alloc, template, &f.pattern, taken) {
+        Ok(made) => Ok(Item::Rec(made)),
+        Err(Stop::Faulted(fault)) => Ok(Item::Fault(fault_at(f.place, fault))),
+        Err(Stop::Memory) => Err(Memory),
+    }
+}
+
 /// As `apply`, of a record that is given up, and behind the items that are there: the last template's record takes what it
 /// inherits out of it, and those of the earlier ones copy it.
 pub fn apply_onto(alloc: Global, f: &Filter, taken: Record, items: &mut Items) -> Result<(), Memory>

@@ -5,4 +5,4 @@ mod answer;
 mod outcome;
 mod template;
 
-pub use answer::{apply, apply_onto};
+pub use answer::{apply, apply_onto, apply_single};

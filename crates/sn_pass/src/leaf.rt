@@ -18,7 +18,7 @@ use crate::kept::{Kept, into_holding};
 use crate::output::Output;
 use crate::walk::Walk;
 use sn_boxrun::call_owned;
-use sn_filter::apply_onto;
+use sn_filter::{apply_onto, apply_single};
 use sn_list::{Memory, Seq};
 use sn_net::Filter;
 use sn_record::{LabelSet, Record};
@@ -46,6 +46,10 @@ fn filter_record(
 {
     if !is_match(&taken, &filter.pattern) {
         return append(&mut out.given, Flowing::Stuck(filter.place));
+    }
+    if let [template] = filter.templates.as_slice() {
+        let item = apply_single(alloc, filter, template, taken)?;
+        return append(&mut out.given, Flowing::of(item));
     }
     let mut answers = out.take_answers(alloc);
     apply_onto(alloc, filter, taken, &mut answers)?;
