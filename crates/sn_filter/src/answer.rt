@@ -76,14 +76,6 @@ fn add_each(
     Ok(true)
 }
 
-/// No items yet, and room for one of each template.
-fn no_items(alloc: Global, f: &Filter) -> Result<Items, Memory>
-    ensures { IfOk result (λ items. items ≡ []) }
-{
-    let items = Vec::with_capacity(alloc, f.templates.len())?;
-    Ok(Items::from_vec(items))
-}
-
 /// What a filter answers to a record that matches its pattern: the record of each template, in order. The first part
 /// that faults ends the list with its fault, which stands at the filter's place.
 pub fn apply(alloc: Global, f: &Filter, r: &Record) -> Result<Items, Memory>
@@ -91,7 +83,7 @@ pub fn apply(alloc: Global, f: &Filter, r: &Record) -> Result<Items, Memory>
     requires matches { Matches r.now f.now.pattern }
     ensures { IfOk result (λ items. map modelled items ≡ filter_answer f.now r.now) }
 {
-    let mut items = no_items(alloc, f)?;
+    let mut items = Items::with_capacity(alloc, f.templates.len())?;
     add_each(alloc, &mut items, f, f.templates.as_slice(), r)?;
     Ok(items)
 }

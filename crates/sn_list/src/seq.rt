@@ -31,6 +31,14 @@ impl<T> Seq<T> {
         }
     }
 
+    /// An empty list, with room for `capacity` elements.
+    pub fn with_capacity(alloc: Global, capacity: usize) -> Result<Seq<T>, Memory>
+        ensures { IfOk result (λ s. s ≡ []) }
+    {
+        let elements = Vec::with_capacity(alloc, capacity)?;
+        Ok(Seq { elements })
+    }
+
     /// The list of a `Vec`'s elements. Takes no memory.
     pub fn from_vec(elements: Vec<T>) -> Seq<T>
         ensures { result ≡ elements.items }

@@ -11,21 +11,13 @@ use sn_record::{Item, Items};
 use sn_stack::append;
 use std::alloc::Global;
 
-/// No items yet, and room for so many.
-fn room_for(alloc: Global, count: usize) -> Result<Items, Memory>
-    ensures { IfOk result (λ items. items ≡ []) }
-{
-    let items = Vec::with_capacity(alloc, count)?;
-    Ok(Items::from_vec(items))
-}
-
 /// Takes out what came out of a network, as items, or answers the place of the first record that had no route.
 pub fn settled(alloc: Global, came: &mut Vec<Flowing>) -> Result<Items, FeedFault>
     ensures given { IfOk result (λ items. map modelled items ≡ map flows came.old.items) }
     ensures routed { OnOk result (first_stuck (map flows came.old.items) ≡ None) }
     ensures no_route { IfErr result (TellsFirst (map flows came.old.items)) }
 {
-    let mut items = room_for(alloc, came.len())?;
+    let mut items = Items::with_capacity(alloc, came.len())?;
     for flowing in came.drain(..) {
         match flowing {
             Flowing::Rec(record) => append(&mut items, Item::Rec(record))?,

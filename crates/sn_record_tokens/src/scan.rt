@@ -95,14 +95,6 @@ fn read_next<'a>(
 /// Room is made for so many tokens before the first, and for more as they come.
 const FEW_TOKENS: usize = 32;
 
-/// No tokens yet, and room for those that a line of so many bytes mostly has.
-fn no_tokens(alloc: Global, length: usize) -> Result<Seq<Token>, Memory>
-    ensures { IfOk result (λ tokens. tokens ≡ []) }
-{
-    let tokens = Vec::with_capacity(alloc, FEW_TOKENS.min(length / 2))?;
-    Ok(Seq::from_vec(tokens))
-}
-
 /// The tokens of a line: the marks `{ } [ ] , =`, names as `word`, tags as `<word>`, numbers as `-12` and texts as
 /// `"said"`. Spaces, tabs and carriage returns may stand between them.
 ///
@@ -113,7 +105,7 @@ pub fn tokens_of(alloc: Global, line: &str) -> Result<Seq<Token>, TokenFault>
     ensures once { (tokens : List Token) → Tokens (chars line.now) tokens → IfOk result (λ found. found ≡ tokens) }
     ensures wrong { result ≡ Err TokenFault.Wrong → (tokens : List Token) → ¬ Tokens (chars line.now) tokens }
 {
-    let mut tokens = no_tokens(alloc, line.len())?;
+    let mut tokens = Seq::with_capacity(alloc, FEW_TOKENS.min(line.len() / 2))?;
     let mut rest = line;
     while let Some(next) = read_next(alloc, rest, &mut tokens)? {
         rest = next;
