@@ -7,8 +7,8 @@ ghost use Rattle.sn_boxrun.specs.Call.{emitted_of, fault_of, fault_items, inheri
 use crate::machine::Machine;
 use sn_box_values::{Stop, inputs};
 use sn_list::{Memory, Seq};
-use sn_net::BoxProgram;
-use sn_record::{Fault, FaultKind, Item, Items, Label, LabelSet, Record};
+use sn_net::{BoxProgram, variant_of};
+use sn_record::{Fault, FaultKind, Item, Items, LabelSet, Record};
 use sn_stack::append;
 use std::alloc::Global;
 
@@ -29,17 +29,6 @@ fn evaluate(
         Err(Stop::Faulted(fault)) => Ok((machine.into_emitted(), Some(fault))),
         Err(Stop::Memory) => Err(Memory),
     }
-}
-
-/// The set of the labels.
-fn variant_of(alloc: Global, labels: &[Label]) -> Result<LabelSet, Memory>
-    ensures { IfOk result (λ variant. variant ≡ variant_of labels.now) }
-{
-    let mut variant = LabelSet::new(alloc);
-    for label in labels {
-        variant.insert(*label)?;
-    }
-    Ok(variant)
 }
 
 /// The records that were emitted, each with what it inherits from the record that a box with the input took.

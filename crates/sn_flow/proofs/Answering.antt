@@ -10,7 +10,7 @@ use Rattle.sn_record.specs.LabelSet.{Labels}
 use Rattle.sn_net.specs.Face.{variant_cmp}
 use Rattle.sn_net.specs.declared.expr.BoxProgram.{BoxProgram}
 use Rattle.sn_net.specs.declared.net.Claim.{Claim}
-use Rattle.sn_net.proofs.Ascending.{only_ascending, ascending-same}
+use Rattle.sn_net.proofs.SortedSets.{only_ascending, ascending-same}
 use Rattle.sn_net.proofs.Orders.{same_variant}
 use Rattle.sn_typing.specs.Outline.{Outline, outline}
 use Rattle.sn_typing.specs.Flow.{Safe}

@@ -5,7 +5,7 @@ use Rattle.std.specs.List.{Contains}
 use Rattle.std.proofs.lemmas.List.Elements.{Contains-append_left, Contains-append_right, Contains-append_cases}
 use Rattle.sn_record.specs.LabelSet.{Labels}
 use Rattle.sn_net.specs.Face.{ascending}
-use Rattle.sn_net.proofs.Ascending.{ascending-alike, ascending-ascends, same_from_alike}
+use Rattle.sn_net.proofs.SortedSets.{ascending-alike, ascending-ascends, same_from_alike}
 use Rattle.sn_types.specs.RecordType.{has_subset}
 use Rattle.sn_typing.specs.Outline.{Outline}
 use Rattle.sn_typing.specs.Accepted.{IsBounded, IsDeclared}

@@ -4,9 +4,10 @@ ghost use Rattle.std.specs.List.{list_any};
 ghost use Rattle.sn_types.specs.RecordType.{has_subset};
 ghost use Rattle.sn_flow.specs.Chosen.{chosen_of, is_beaten, is_before};
 
-use crate::sets::{append, has_subset, is_subset};
+use crate::sets::{has_subset, is_subset};
 use sn_list::{Memory, Seq};
 use sn_record::LabelSet;
+use sn_stack::append;
 use std::alloc::Global;
 
 /// Whether `other` of branch `j` is taken within `whole` in place of a variant of branch `i` with so many labels.

@@ -6,13 +6,12 @@ ghost use Rattle.sn_flow.specs.Verdicts.{Checked, FlowFound};
 
 use crate::fault::FlowFault;
 use crate::flows::one_set;
-use crate::order::ascending;
 use crate::spots::{bad_spot, unrouted_spot};
 use crate::stop::Stop;
 use crate::table::flow_of;
 use crate::whole::visit_each;
 use sn_list::Seq;
-use sn_net::{Boxes, Claim, Net};
+use sn_net::{Boxes, Claim, Net, ascending};
 use sn_record::LabelSet;
 use std::alloc::Global;
 

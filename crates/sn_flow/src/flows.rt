@@ -6,11 +6,12 @@ ghost use Rattle.sn_typing.specs.Outline.{template_variant};
 ghost use Rattle.sn_flow.specs.Visits.{ComponentFlows};
 
 use crate::indexed::Indexed;
-use crate::sets::{add, append, has_subset};
+use crate::sets::{add, has_subset};
 use crate::stop::Stop;
 use sn_list::{Memory, Seq};
-use sn_net::{BoxProgram, Filter, Template};
-use sn_record::{Label, LabelSet};
+use sn_net::{BoxProgram, Filter, Template, variant_of};
+use sn_record::LabelSet;
+use sn_stack::append;
 use std::alloc::Global;
 
 /// What a component answers to a variant: each output with what of the variant is not named, if one of those that it takes is a
@@ -36,24 +37,13 @@ fn component_flow(
     Ok(flow.into_seq())
 }
 
-/// The set of the labels.
-pub fn set_of(alloc: Global, labels: &[Label]) -> Result<LabelSet, Memory>
-    ensures { IfOk result (λ set. set ≡ variant_of labels.now) }
-{
-    let mut set = LabelSet::new(alloc);
-    for label in labels {
-        set.insert(*label)?;
-    }
-    Ok(set)
-}
-
 /// The set of each tuple.
 fn sets_of(alloc: Global, tuples: &[Seq<Label>]) -> Result<Seq<LabelSet>, Memory>
     ensures { IfOk result (λ sets. sets ≡ map variant_of tuples.now) }
 {
     let mut sets = Seq::new(alloc);
     for tuple in tuples {
-        let set = set_of(alloc, tuple.as_slice())?;
+        let set = variant_of(alloc, tuple.as_slice())?;
         append(&mut sets, set)?;
     }
     Ok(sets)
@@ -100,7 +90,7 @@ pub fn box_flow(
 ) -> Result<Seq<LabelSet>, Stop>
     ensures { ComponentFlows (variant_of program.now.input ∷ []) (variant_of program.now.input) (map variant_of program.now.outputs) variant.now result }
 {
-    let named = set_of(alloc, program.input.as_slice())?;
+    let named = variant_of(alloc, program.input.as_slice())?;
     let takes = one_set(alloc, &named)?;
     let outputs = sets_of(alloc, program.outputs.as_slice())?;
     component_flow(alloc, takes.as_slice(), &named, outputs.as_slice(), variant)

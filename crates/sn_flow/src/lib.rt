@@ -7,7 +7,6 @@ mod fault;
 mod flows;
 mod indexed;
 mod laws;
-mod order;
 mod sets;
 mod spots;
 mod stop;

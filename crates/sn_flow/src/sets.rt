@@ -1,12 +1,11 @@
 //! Sets of variants, as lists in which none stands twice.
-ghost use Rattle.std.specs.Prelude.{◌≡◌, ◌∷◌, ◌++◌, [], ◌&&◌, OnOk};
+ghost use Rattle.std.specs.Prelude.{◌≡◌, ◌∷◌, [], ◌&&◌};
 ghost use Rattle.std.specs.List.{list_any};
 ghost use Rattle.sn_types.specs.RecordType.{has_subset, is_same, is_subset};
 ghost use Rattle.sn_flow.specs.Visits.{Added};
 
 use crate::indexed::Indexed;
 use crate::stop::Stop;
-use sn_list::{Memory, Seq};
 use sn_record::LabelSet;
 use std::alloc::Global;
 
@@ -30,16 +29,6 @@ pub fn has_subset(variants: &[LabelSet], set: &LabelSet) -> bool
         }
     }
     false
-}
-
-/// Appends `x`. For want of memory `x` is dropped.
-pub fn append<T: Drop>(list: &mut Seq<T>, x: T) -> Result<(), Memory>
-    ensures { OnOk result (list.new ≡ list.old ++ x ∷ []) }
-{
-    match list.push(x) {
-        Ok(()) => Ok(()),
-        Err(_) => Err(Memory),
-    }
 }
 
 /// Adds a copy of a variant, unless it is there.

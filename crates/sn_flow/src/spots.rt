@@ -7,13 +7,11 @@ ghost use Rattle.sn_typing.specs.Outline.{outline};
 ghost use Rattle.sn_flow.specs.Spots.{bad_spots, flow_spots, is_routed, least, place_of, row_spots, sooner, spot, spot_cmp, spots};
 
 use crate::chosen::has_face;
-use crate::flows::set_of;
 use crate::indexed::Indexed;
-use crate::order::compare;
 use crate::sets::{has_subset, is_subset};
 use crate::table::{Row, Table, flow_of, take_part};
 use sn_list::Memory;
-use sn_net::{Boxes, Net};
+use sn_net::{Boxes, Net, compare, variant_of};
 use sn_record::{Kind, Label, LabelSet};
 use std::alloc::Global;
 
@@ -80,7 +78,7 @@ fn is_routed(alloc: Global, net: &Net, boxes: &Boxes, variant: &LabelSet) -> Res
 {
     match net {
         Net::Box { number, .. } => {
-            let takes = set_of(alloc, boxes.at(*number as usize).input.as_slice())?;
+            let takes = variant_of(alloc, boxes.at(*number as usize).input.as_slice())?;
             Ok(is_subset(&takes, variant))
         }
         Net::Filter(filter) => Ok(is_subset(&filter.pattern, variant)),

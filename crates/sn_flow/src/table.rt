@@ -5,10 +5,10 @@ ghost use Rattle.sn_flow.specs.Tables.{no_table, part_at, parts_of, rows_of};
 ghost use Rattle.sn_flow.specs.Visits.{SameElsewhere, flow_in, row_of};
 
 use crate::indexed::{Indexed, OfVariant};
-use crate::sets::append;
 use sn_list::{Memory, Seq};
 use sn_net::copy_sets;
 use sn_record::LabelSet;
+use sn_stack::append;
 use std::alloc::Global;
 use std::mem;
 

@@ -13,7 +13,7 @@ use Rattle.sn_net.specs.declared.net.Net.{Net}
 use Rattle.sn_net.specs.declared.net.Net.TheVariants.{Filter as FilterLeaf, Sync, Serial, Choice, Star, Split}
 use Rattle.sn_net.specs.Face.{variants, with_tag, ascending, face}
 use Rattle.sn_net.specs.Faced.{IsFaced, net_of, face_of}
-use Rattle.sn_net.proofs.Ascending.{HoldAlike, alike-append, alike-map, ascending-alike, ascending-settled, ascending-one}
+use Rattle.sn_net.proofs.SortedSets.{HoldAlike, alike-append, alike-map, ascending-alike, ascending-settled, ascending-one}
 use Rattle.sn_net.proofs.Variants.{variants-Filter, variants-Sync, variants-Serial, variants-Choice, variants-Star, variants-Split}
 
 pub face-Filter : (boxes : List BoxProgram) (filter : Filter) → face boxes (FilterLeaf filter) ≡ filter.pattern ∷ []

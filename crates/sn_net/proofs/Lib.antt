@@ -1,4 +1,4 @@
-pub mod Ascending
+pub mod SortedSets
 pub mod BestBranches
 pub mod Closed
 pub mod Deterministic

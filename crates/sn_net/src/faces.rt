@@ -28,15 +28,15 @@ pub(crate) fn push_copies(sets: &mut Seq<LabelSet>, more: &[LabelSet]) -> Result
     Ok(())
 }
 
-/// Appends the set of `labels`.
-fn push_input(alloc: Global, sets: &mut Seq<LabelSet>, labels: &[Label]) -> Result<(), Memory>
-    ensures { OnOk result (sets.new ≡ sets.old ++ variant_of labels.now ∷ []) }
+/// The set of the labels.
+pub fn variant_of(alloc: Global, labels: &[Label]) -> Result<LabelSet, Memory>
+    ensures { IfOk result (λ variant. variant ≡ variant_of labels.now) }
 {
-    let mut set = LabelSet::new(alloc);
+    let mut variant = LabelSet::new(alloc);
     for label in labels {
-        set.insert(*label)?;
+        variant.insert(*label)?;
     }
-    append(sets, set)
+    Ok(variant)
 }
 
 /// Appends a copy of each of `more` with the tag added.
@@ -68,7 +68,7 @@ fn push_variants(
     match net {
         Net::Box { number, .. } => {
             let program = boxes.at(*number as usize);
-            push_input(alloc, sets, program.input.as_slice())
+            append(sets, variant_of(alloc, program.input.as_slice())?)
         }
         Net::Filter(filter) => push_copy(sets, &filter.pattern),
         Net::Sync { patterns, .. } => push_copies(sets, patterns.as_slice()),
@@ -92,7 +92,7 @@ fn push_variants(
 }
 
 /// The order of the lists of their labels.
-fn compare(left: &LabelSet, right: &LabelSet) -> Ordering
+pub fn compare(left: &LabelSet, right: &LabelSet) -> Ordering
     ensures { result ≡ variant_cmp left.now right.now }
 {
     for i in 0..left.len() {
@@ -111,7 +111,7 @@ fn compare(left: &LabelSet, right: &LabelSet) -> Ordering
 }
 
 /// The sets in ascending order, each once.
-pub(crate) fn ascending(sets: Seq<LabelSet>) -> Seq<LabelSet>
+pub fn ascending(sets: Seq<LabelSet>) -> Seq<LabelSet>
     ensures { result ≡ ascending sets }
 {
     let mut sets = sets.into_vec();

@@ -13,7 +13,7 @@ mod tags;
 
 pub use expr::{BoxProgram, Boxes, BuiltinKind, Expr, Fun};
 pub use faced::Faced;
-pub use faces::{copy_sets, face};
+pub use faces::{ascending, compare, copy_sets, face, variant_of};
 pub use filter::{Filter, Part, Template, is_over};
 pub use net::{Claim, Merge, Net, all_det};
 pub use routing::{Key, route};

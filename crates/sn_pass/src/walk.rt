@@ -5,8 +5,8 @@ ghost use Rattle.sn_pass.specs.Inputs.{input_sets as sets_of};
 
 use sn_list::{Memory, Seq};
 use sn_model::Run;
-use sn_net::BoxProgram;
-use sn_record::{Label, LabelSet};
+use sn_net::{BoxProgram, variant_of};
+use sn_record::LabelSet;
 use sn_stack::append;
 use std::alloc::Global;
 
@@ -35,17 +35,6 @@ impl<'a> Walk<'a> {
         let inputs = self.inputs;
         (run.boxes().at(number as usize), &inputs[number as usize])
     }
-}
-
-/// The set of the labels.
-fn variant_of(alloc: Global, labels: &[Label]) -> Result<LabelSet, Memory>
-    ensures { IfOk result (λ variant. variant ≡ labels_of labels.now) }
-{
-    let mut variant = LabelSet::new(alloc);
-    for label in labels {
-        variant.insert(*label)?;
-    }
-    Ok(variant)
 }
 
 /// The set of each box's input labels, by the numbers of the boxes.

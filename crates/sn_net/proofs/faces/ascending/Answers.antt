@@ -9,7 +9,7 @@ use Rattle.std.proofs.lemmas.List.Sorted.{ranks_by}
 use Rattle.sn_record.specs.LabelSet.{Labels}
 use Rattle.sn_net.specs.Face.{variant_cmp}
 use Rattle.sn_net.proofs.Orders.{variant_cmp_total, ties_by_keys, once_each-ascending, once_each-same}
-use Rattle.sn_net.proofs.Ascending.{only_ascending}
+use Rattle.sn_net.proofs.SortedSets.{only_ascending}
 use Rattle.sn_net.proofs.faces.ascending.Goals as goal
 
 without_repeats : (c : goal.After-from_vec) → c.from_vec.result ≡ dedup (eq_by_cmp variant_cmp) c.sort_unstable_by.new.self.items

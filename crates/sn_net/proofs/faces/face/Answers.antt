@@ -1,6 +1,6 @@
 use Rattle.std.proofs.Common.{ap, ◌++◌, sym, ◌∙◌, subst}
 use Rattle.sn_net.specs.Face.{IsFace, ascending, variants}
-use Rattle.sn_net.proofs.Ascending.{face_is}
+use Rattle.sn_net.proofs.SortedSets.{face_is}
 use Rattle.sn_net.proofs.faces.face.Goals as goal
 
 pub returns-clause-exact : goal.returns-clause-exact

@@ -1,6 +1,6 @@
 use Rattle.std.proofs.Common.{◌≡◌, take}
 use Rattle.sn_net.specs.Face.{variant_of}
-use Rattle.sn_net.proofs.faces.push_input.Given as goal
+use Rattle.sn_net.proofs.faces.variant_of.Given as goal
 
 abbrev pub invariant-loop-label : goal.invariant-loop-label
-invariant-loop-label l = l.set ≡ variant_of (take l.label-index l.labels)
+invariant-loop-label l = l.variant ≡ variant_of (take l.label-index l.labels)
