@@ -2,3 +2,4 @@ pub mod Components
 pub mod Meaning
 pub mod Ranges
 pub mod Run
+pub mod Typed

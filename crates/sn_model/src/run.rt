@@ -1,4 +1,5 @@
 ghost use Rattle.sn_net.specs.WellFormed.{FitsBoxes};
+ghost use Rattle.sn_model.specs.Typed.{AreTyped};
 ghost use Rattle.sn_model.specs.Ranges.{IsWithin};
 ghost use Rattle.sn_model.specs.declared.run.TheConstants.{LONGEST_QUEUE, MOST_FUEL, MOST_REPLICAS};
 
@@ -14,7 +15,8 @@ pub const MOST_REPLICAS: u32 = 2_000;
 /// The most entries that a queue may hold.
 pub const LONGEST_QUEUE: u32 = 1_024;
 
-/// A network with all that it needs to run. Its numbers are in their ranges, and the network is well formed over the boxes.
+/// A network with all that it needs to run. Its numbers are in their ranges, the network is well formed over the boxes, and the
+/// items are typed for it.
 #[derive(Drop)]
 pub struct Run {
     net: Net,
@@ -27,6 +29,7 @@ pub struct Run {
     pub ghost some_replicas: { IsWithin depth MOST_REPLICAS },
     pub ghost some_room: { IsWithin queue LONGEST_QUEUE },
     pub ghost formed: { FitsBoxes boxes net },
+    pub ghost typed: { AreTyped boxes net items },
 }
 
 impl Run {
@@ -40,6 +43,7 @@ impl Run {
         requires depth { IsWithin depth MOST_REPLICAS }
         requires queue { IsWithin queue LONGEST_QUEUE }
         requires formed { FitsBoxes boxes net }
+        requires typed { AreTyped boxes net items }
         ensures net { net_of result ≡ net }
         ensures boxes { boxes_of result ≡ boxes }
         ensures fuel { fuel_of result ≡ fuel }
@@ -97,7 +101,8 @@ impl Run {
 
     /// What flows in, in order.
     pub fn items(&self) -> &Items
-        ensures { result.now ≡ items_of self.now }
+        ensures items { result.now ≡ items_of self.now }
+        ensures typed { AreTyped (boxes_of self.now) (net_of self.now) result.now }
     {
         &self.items
     }

@@ -1,12 +1,8 @@
 -- What an engine still gives.
 use Rattle.std.specs.Prelude.{◌≡◌, List}
-use Rattle.sn_streams.specs.Machines.{emitted}
 use Rattle.sn_net.specs.Item.{ModelItem}
 use Rattle.sn_model.specs.declared.run.Run.{Run}
-use Rattle.sn_model.specs.Meaning.{tree}
-use Rattle.sn_model.specs.Run.{net_of, setting_of}
-use Rattle.sn_pass.specs.Keeping.{keeping}
-use Rattle.sn_pass.specs.States.{held}
+use Rattle.sn_once.specs.Giving.{still_gives}
 use Rattle.sn_once.specs.declared.once.Once.{Once}
 
 -- the run that made the engine
@@ -15,7 +11,7 @@ run_of once = once.run.value
 
 -- what it gives on further items, from what it keeps of its network
 abbrev pub rest_of : Once → List ModelItem → List ModelItem
-rest_of once xs = emitted (keeping (tree (setting_of (run_of once)) (net_of (run_of once)))) (held once.kept) xs
+rest_of once xs = still_gives (run_of once) once.kept xs
 
 -- the engine is one of the run
 abbrev pub IsOf : Once → Run → Type 0

@@ -1,11 +1,11 @@
-ghost use Rattle.std.specs.Prelude.{◌≡◌, ◌++◌, ◌∷◌, [], None, IfErr, IfOk, List, OnOk, map};
+ghost use Rattle.std.specs.Prelude.{◌≡◌, ◌++◌, ◌∷◌, IfOk, List, OnOk, map};
 ghost use Rattle.sn_net.specs.Item.{ModelItem, modelled};
 ghost use Rattle.sn_model.specs.Meaning.{one_list};
 ghost use Rattle.sn_model.specs.Run.{boxes_of, given, net_of, setting_of};
+ghost use Rattle.sn_model.specs.Typed.{AreTyped, FitsNet};
 ghost use Rattle.sn_pass.specs.Inputs.{input_sets as sets_of};
-ghost use Rattle.sn_once.specs.Stuck.{TellsFirst, first_stuck};
+ghost use Rattle.sn_once.specs.Giving.{IsRouted};
 
-use crate::fault::FeedFault;
 use crate::settle::settled;
 use sn_list::{Memory, Seq};
 use sn_model::Run;
@@ -19,7 +19,7 @@ use sn_stack::append;
 use std::alloc::Global;
 use std::snapshot::Snapshot;
 
-/// An engine of a run, between two items.
+/// An engine of a run, between two items. Whatever typed items it is fed, no record lacks a route.
 #[derive(Drop)]
 pub struct Once {
     run: Snapshot<Run>,
@@ -29,6 +29,7 @@ pub struct Once {
     /// Lists for the next item.
     output: Output,
     pub ghost ready: { inputs ≡ sets_of (boxes_of run.value) },
+    pub ghost routed: { IsRouted run.value kept },
 }
 
 impl Once {
@@ -48,14 +49,13 @@ impl Once {
         })
     }
 
-    /// Runs an item through the network until all that it causes has come out. Where a record has no route, and for want of
-    /// memory, the engine is dropped with all that it gave for the item.
-    pub fn feed(self, alloc: Global, run: &Run, item: Item) -> Result<(Once, Items), FeedFault>
-        requires { IsOf self run.now }
+    /// Runs a typed item through the network until all that it causes has come out. For want of memory the engine is dropped
+    /// with all that it gave for the item.
+    pub fn feed(self, alloc: Global, run: &Run, item: Item) -> Result<(Once, Items), Memory>
+        requires made_by { IsOf self run.now }
+        requires typed { FitsNet (boxes_of run.now) (net_of run.now) item }
         ensures kept { IfOk result (λ fed. IsOf fed.0 run.now) }
         ensures given { IfOk result (λ fed. (xs : List ModelItem) → rest_of self (modelled item ∷ xs) ≡ map modelled fed.1 ++ rest_of fed.0 xs) }
-        ensures routed { OnOk result (first_stuck (rest_of self (modelled item ∷ [])) ≡ None) }
-        ensures no_route { IfErr result (TellsFirst (rest_of self (modelled item ∷ []))) }
     {
         let Once {
             run: made_by,
@@ -93,12 +93,10 @@ fn append_all(out: &mut Items, items: Items) -> Result<(), Memory>
     Ok(())
 }
 
-/// What the network of a run gives on one thread for these items, in place of the run's own. Where a record has no route, the
-/// whole answer is dropped.
-pub fn run_over(alloc: Global, run: &Run, items: Items) -> Result<Items, FeedFault>
-    ensures given { IfOk result (λ ys. map modelled ys ≡ one_list (setting_of run.now) (net_of run.now) (map modelled items)) }
-    ensures routed { OnOk result (first_stuck (one_list (setting_of run.now) (net_of run.now) (map modelled items)) ≡ None) }
-    ensures no_route { IfErr result (TellsFirst (one_list (setting_of run.now) (net_of run.now) (map modelled items))) }
+/// What the network of a run gives on one thread for these typed items, in place of the run's own.
+pub fn run_over(alloc: Global, run: &Run, items: Items) -> Result<Items, Memory>
+    requires { AreTyped (boxes_of run.now) (net_of run.now) items }
+    ensures { IfOk result (λ ys. map modelled ys ≡ one_list (setting_of run.now) (net_of run.now) (map modelled items)) }
 {
     let mut once = Once::new(alloc, run)?;
     let mut out = Items::new(alloc);
@@ -121,11 +119,9 @@ fn copied(alloc: Global, items: &[Item]) -> Result<Items, Memory>
     Ok(copies)
 }
 
-/// What a run gives on one thread. Where a record has no route, the whole answer is dropped.
-pub fn run_once(alloc: Global, run: &Run) -> Result<Items, FeedFault>
-    ensures given { IfOk result (λ ys. map modelled ys ≡ given run.now) }
-    ensures routed { OnOk result (first_stuck (given run.now) ≡ None) }
-    ensures no_route { IfErr result (TellsFirst (given run.now)) }
+/// What a run gives on one thread.
+pub fn run_once(alloc: Global, run: &Run) -> Result<Items, Memory>
+    ensures { IfOk result (λ ys. map modelled ys ≡ given run.now) }
 {
     let items = copied(alloc, run.items().as_slice())?;
     run_over(alloc, run, items)

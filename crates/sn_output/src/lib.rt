@@ -3,5 +3,7 @@
 
 pub mod laws;
 mod line;
+mod types;
 
 pub use line::{line_of, push_line};
+pub use types::{push_type, push_variant};
