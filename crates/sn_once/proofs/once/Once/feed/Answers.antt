@@ -10,7 +10,7 @@ pub settled-requires : goal.settled-requires
 settled-requires c =
     ap holds_stuck (ap (map flows) (c.into_vec-came.ensures ∙ c.end.ensures.since))
     ∙ routed_one c.args.self c.args.run.now c.net.result.now c.requires.made_by c.net.ensures.net (held c.pass.new.kept) c.args.item (modelled c.args.item) (flows c.of.result) (given c.begin-before.new.self) (given c.pass.new.out)
-      (ap (map flows) c.begin-before.ensures.anew) c.of.ensures c.in_ok-pass.ensures refl c.requires.typed
+    (ap (map flows) c.begin-before.ensures.anew) c.of.ensures c.in_ok-pass.ensures refl c.requires.typed
 
 pub invariant_of-next-clause-routed : goal.invariant_of-next-clause-routed
 invariant_of-next-clause-routed c =
