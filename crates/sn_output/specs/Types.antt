@@ -23,9 +23,9 @@ ordered_labels names variant = finite.keys (finite.from_entries {X = Unit {0}} {
 abbrev pub variant_text : List (List ℕ) → Labels → List ℕ
 variant_text names variant = codes "{" ++ (joined (codes ", ") (map (label_text names) (ordered_labels names variant)) ++ codes "}")
 
--- Behind what stood there, the texts of the variants in byte order, with a bar between any two.
-pub record IsTypeText (names : List (List ℕ)) (variants : List Labels) (before now : List ℕ) : Type 0 where
+-- the texts of the variants in byte order, with a bar between any two
+pub record IsTypeText (names : List (List ℕ)) (variants : List Labels) (text : List ℕ) : Type 0 where
   pub texts : List (List ℕ)
   pub permuted : IsPermutation (map (variant_text names) variants) texts
   pub sorted : IsSorted (slice_cmp nat_cmp) texts
-  pub text_is : now ≡ before ++ joined (codes " | ") texts
+  pub text_is : text ≡ joined (codes " | ") texts

@@ -1,6 +1,15 @@
--- From what was read, resolved, entered and built to what is loaded.
-use Rattle.std.proofs.Common.{◌≡◌, ℕ, List, map, refl, sym, ap, ◌∙◌, subst, inl, inr}
-use Rattle.std.specs.Prelude.{None, Ok, Err, ◌⊎◌}
+-- From what was read, resolved and checked to what is loaded, and from a record file to its records.
+use Rattle.std.proofs.Common.{◌≡◌, ℕ, ◌+◌, ◌<◌, ◌≤◌, Bool, true, false, cond, IsTrue, List, [], ◌∷◌, ◌++◌, length, map, take, get_or, ◌||◌, not, refl, sym, ap, ◌∙◌, subst, inl, inr, arith}
+use Rattle.std.specs.Prelude.{None, Some, Option, Ok, Err, Result, ◌⊎◌, slice_get, nat_lt}
+use Rattle.std.specs.List.{All, Contains, position, position_or_len, list_any}
+use Rattle.std.specs.Option.{option_and_then}
+use Rattle.std.specs.FinMap as finite
+use Rattle.std.proofs.lemmas.Bool.Decides.{nat_tests}
+use Rattle.std.proofs.lemmas.List.{length-map, length_push}
+use Rattle.std.proofs.lemmas.List.Elements.{All-get_or, All-map, All-more, All-from_get_or}
+use Rattle.std.proofs.lemmas.List.Quantifiers.{position-Some}
+use Rattle.std.proofs.lemmas.List.Sums.{fails_before_first}
+use Rattle.std.proofs.lemmas.Option.{get_or_from_slice_get, slice_get_within, slice_get-get_or}
 use Rattle.sn_ast.specs.declared.declaration.Program.{Program as Tree}
 use Rattle.sn_lexer.specs.Answer.{LexesAs, IsFault}
 use Rattle.sn_lexer.specs.declared.token.LexFault.{LexFault}
@@ -9,15 +18,15 @@ use Rattle.sn_lexer.specs.declared.token.Token.{Token}
 use Rattle.sn_parser.specs.Answer.{Faults}
 use Rattle.sn_parser.specs.declared.parsing.ParseFault.{ParseFault}
 use Rattle.sn_parser.specs.declared.parsing.ParseFault.TheVariants as parse_fault
-use Rattle.sn_record.specs.declared.item.Item.{Item}
-use Rattle.sn_net.specs.Item.{Rec, modelled}
-use Rattle.sn_model.specs.Meaning.{one_list}
-use Rattle.sn_model.specs.Run.{boxes_of, depth_of, fuel_of, net_of, setting_of}
-use Rattle.sn_model.specs.declared.run.Run.{Run}
-use Rattle.sn_once.specs.Stuck.{TellsFirst, first_stuck}
-use Rattle.sn_once.specs.declared.fault.FeedFault.{FeedFault}
-use Rattle.sn_once.specs.declared.fault.FeedFault.TheVariants as feed_fault
-use Rattle.sn_input.specs.Reading.{ReadsFile}
+use Rattle.sn_record.specs.LabelSet.{Labels}
+use Rattle.sn_record.specs.Record.{Entries, is_match}
+use Rattle.sn_net.specs.declared.net.Claim.{Claim}
+use Rattle.sn_net.specs.WellFormed.{FitsBoxes}
+use Rattle.sn_typing.specs.Accepted.{IsAccepted}
+use Rattle.sn_flow.specs.Verdicts.{Checked}
+use Rattle.sn_flow.specs.declared.fault.FlowFault.{FlowFault}
+use Rattle.sn_flow.specs.declared.fault.FlowFault.TheVariants as flow_fault
+use Rattle.sn_input.specs.Reading.{Reads, Reads.{end, blank, taken, refused}, ReadsFile, with_record}
 use Rattle.sn_input.specs.declared.input.Input.{Input}
 use Rattle.sn_input.specs.declared.input.InputFault.{InputFault}
 use Rattle.sn_input.specs.declared.input.InputFault.TheVariants as input_fault
@@ -26,11 +35,27 @@ use Rattle.sn_scope.specs.declared.resolved.Parts.{Parts}
 use Rattle.sn_scope.specs.declared.resolution.ScopeFault.{ScopeFault}
 use Rattle.sn_scope.specs.declared.resolution.ScopeFault.TheVariants as scope
 use Rattle.sn_top.specs.declared.load.Program.{Program}
+use Rattle.sn_top.specs.declared.status.Refusal.TheVariants.{TooLarge, Source as SourceAt, NoMain, TooDeep, LargeTree, TooManyNames, Type, Variants, Line}
+use Rattle.sn_top.specs.declared.status.TypeFault.TheVariants as type
+use Rattle.sn_top.specs.declared.status.LineFault.TheVariants as wrong
+use Rattle.sn_top.specs.declared.status.Stop.{Stop}
+use Rattle.sn_top.specs.declared.status.Stop.TheVariants.{Refused, Faulted, Unread, Memory, Write}
 use Rattle.sn_top.specs.Source.{IsSource, lex_stop, parse_stop}
-use Rattle.sn_top.specs.Scope.{scope_stop, WhyUnloaded}
-use Rattle.sn_top.specs.declared.transcript.Transcript.{Transcript}
-use Rattle.sn_top.specs.Shown.{Shows}
-use Rattle.sn_top.specs.Load.{input_stop, feed_stop, setting, Limits, IsAnswer, IsLoaded, IsMain, stream_of, WhyNoAnswer}
+use Rattle.sn_top.specs.Scope.{IsMain, RefusesClaim, TellsRefusal, TellsType, WhyRefused, WhyUnloaded, scope_stop}
+use Rattle.sn_top.specs.Load.{IsLoaded, IsTypedFile, WhyUnreadable, input_stop, is_of_type, untyped_line}
+
+-- the first claim that is refused
+module _ (parts : Parts) (i : ℕ) (claim : Claim) (here : claim ≡ get_or parts.claims i claim) (below : i < length parts.claims) (earlier : All (IsAccepted parts.boxes) (take i parts.claims)) where
+  refuses : (fault : FlowFault) → Checked parts.boxes claim (Err fault) → RefusesClaim parts fault
+  refuses fault is = record { index = i; claim = claim; here = slice_get-get_or parts.claims i claim below ∙ ap Some (sym here); earlier = earlier; refused = is }
+
+  pub claim_refused : (fault : FlowFault) (why : Stop) → Checked parts.boxes claim (Err fault) → TellsRefusal parts.names fault why → WhyRefused parts why
+  claim_refused (flow_fault.NoRoute at v) why is (inl told) = subst (WhyRefused parts) (sym told) (v, refuses (flow_fault.NoRoute at v) is, refl)
+  claim_refused (flow_fault.NoRoute at v) why is (inr told) = subst (WhyRefused parts) (sym told) tt
+  claim_refused (flow_fault.BadOutput at v) why is (inl told) = subst (WhyRefused parts) (sym told) (v, refuses (flow_fault.BadOutput at v) is, refl)
+  claim_refused (flow_fault.BadOutput at v) why is (inr told) = subst (WhyRefused parts) (sym told) tt
+  claim_refused (flow_fault.TooManyVariants at) why is told = subst (WhyRefused parts) (sym told) (refuses (flow_fault.TooManyVariants at) is)
+  claim_refused flow_fault.Memory why is told = subst (WhyRefused parts) (sym told) tt
 
 module _ (bytes : List ℕ) where
   -- the lexer refuses
@@ -60,43 +85,80 @@ module _ (bytes : List ℕ) where
     not_resolved scope.TooManyNames (inr is) = record { tree = tree; read = read; refused = is }
     not_resolved scope.Memory (inr is) = tt
 
-    module _ (resolved : Parts) (is : resolution tree ≡ Ok resolved) where
+    module _ (parts : Parts) (is : resolution tree ≡ Ok parts) where
+      -- a claim is refused
+      pub not_accepted : (why : Stop) → WhyRefused parts why → WhyUnloaded bytes why
+      not_accepted (Refused (TooLarge which)) why = absurd why
+      not_accepted (Refused (SourceAt fault at)) why = absurd why
+      not_accepted (Refused NoMain) why = absurd why
+      not_accepted (Refused (TooDeep at)) why = absurd why
+      not_accepted (Refused (LargeTree at)) why = absurd why
+      not_accepted (Refused TooManyNames) why = absurd why
+      not_accepted (Refused (Type fault at variant)) why = record { parts = parts; resolved = record { tree = tree; read = read; is = is }; so = why }
+      not_accepted (Refused (Variants at)) why = record { parts = parts; resolved = record { tree = tree; read = read; is = is }; so = why }
+      not_accepted (Refused (Line fault)) why = absurd why
+      not_accepted (Faulted fault) why = absurd why
+      not_accepted (Unread which) why = absurd why
+      not_accepted Memory why = tt
+      not_accepted Write why = absurd why
+
       -- the program is that of the source
-      pub loaded : (program : Program) → IsMain resolved program → IsLoaded bytes program
-      loaded program main = record {
-        main = record {
-          claim = main.claim;
-          resolved = record { tree = tree; read = read; resolved = resolved; is = is; names_are = main.names_are; boxes_are = main.boxes_are; main = main.main };
-          net_is = main.net_is;
-        };
-        formed = main.formed;
+      pub loaded : (program : Program) → IsMain parts program → IsAccepted program.boxes program.claim → FitsBoxes program.boxes program.claim.net → IsLoaded bytes program
+      loaded program main accepted fits = record {
+        main = record { parts = parts; resolved = record { tree = tree; read = read; is = is }; so = main };
+        accepted = accepted;
+        formed = fits;
       }
 
-module _ (limits : Limits) (program : Program) (bytes : List ℕ) where
+-- as many lines as records
+abbrev AreAsMany : Result Input InputFault → Type 0
+AreAsMany (Ok input) = length input.lines ≡ length input.records
+AreAsMany (Err fault) = Unit {0}
+
+as_many_more : {A B : Type 0} (xs : List A) (ys : List B) (x : A) (y : B) → length xs ≡ length ys → length (xs ++ x ∷ []) ≡ length (ys ++ y ∷ [])
+as_many_more xs ys x y same = length_push xs x ∙ ap (λ n. n + 1) same ∙ sym (length_push ys y)
+
+as_many_read : (n : ℕ) (input : Input) (lines : List (List ℕ)) (result : Result Input InputFault) → Reads n input lines result → length input.lines ≡ length input.records → AreAsMany result
+as_many_read n input lines result end same = same
+as_many_read n input lines result (blank {n'} {input'} {line} {lines'} {result'} is more) same = as_many_read (n' + 1) input' lines' result' more same
+as_many_read n input lines result (taken {n'} {input'} {line} {entries} {lines'} {result'} is more) same =
+    as_many_read (n' + 1) (with_record input' n' entries) lines' result' more (as_many_more input'.lines input'.records _ _ same)
+as_many_read n input lines result (refused is) same = tt
+
+pub lines_of_records : (names : List (List ℕ)) (bytes : List ℕ) (input : Input) → ReadsFile names bytes (Ok input) → length input.lines ≡ length input.records
+lines_of_records names bytes input read = as_many_read 1 _ _ (Ok input) read refl
+
+module _ (names : List (List ℕ)) (claim : Claim) (bytes : List ℕ) where
   -- the reader of record files refuses
-  pub not_read : (fault : InputFault) → (fault ≡ input_fault.Memory) ⊎ ReadsFile program.names bytes (Err fault) → WhyNoAnswer limits program bytes (input_stop fault)
-  not_read fault (inl is) = subst (λ f. WhyNoAnswer limits program bytes (input_stop f)) (sym is) tt
+  pub not_read : (fault : InputFault) → (fault ≡ input_fault.Memory) ⊎ ReadsFile names bytes (Err fault) → WhyUnreadable names claim bytes (input_stop fault)
+  not_read fault (inl is) = subst (λ f. WhyUnreadable names claim bytes (input_stop f)) (sym is) tt
   not_read (input_fault.BadLine n) (inr is) = is
   not_read (input_fault.Twice n kind name) (inr is) = is
   not_read (input_fault.TooMany n) (inr is) = is
   not_read input_fault.TooManyNames (inr is) = is
   not_read input_fault.Memory (inr is) = tt
 
-  module _ (input : Input) (read : ReadsFile program.names bytes (Ok input)) (items : List Item) (made : map modelled items ≡ map Rec input.records) where
-    stream_is : one_list (setting program limits) program.net (map modelled items) ≡ stream_of limits program input
-    stream_is = ap (one_list (setting program limits) program.net) made
+  abbrev fails : Entries → Bool
+  fails r = not (is_of_type claim.input r)
 
-    pub not_answered : (fault : FeedFault) → TellsFirst (one_list (setting program limits) program.net (map modelled items)) fault → WhyNoAnswer limits program bytes (feed_stop fault)
-    not_answered (feed_fault.NoRoute place) tells = record { input = input; read = read; place = place; stuck = ap first_stuck (sym stream_is) ∙ tells }
-    not_answered feed_fault.Memory tells = tt
+  un_not : (b : Bool) → not b ≡ false → IsTrue b
+  un_not true is = refl
+  un_not false is = cc
 
-    pub answered : (p : Transcript) → Shows input.names (one_list (setting program limits) program.net (map modelled items)) p
-        → first_stuck (one_list (setting program limits) program.net (map modelled items)) ≡ None → IsAnswer limits program bytes p
-    answered p shown free =
-        record { input = input; routed = record { read = read; routed = ap first_stuck (sym stream_is) ∙ free }; shown = subst (λ xs. Shows input.names xs p) stream_is shown }
+  none_before : (records : List Entries) → position fails records ≡ None → length records ≤ position_or_len fails records
+  none_before records none = grind (arith, nat_tests)
 
--- what the network of a run gives whose parts are those of a program
-pub given_is : (run : Run) (program : Program) (limits : Limits) (items : List Item) → net_of run ≡ program.net → boxes_of run ≡ program.boxes → fuel_of run ≡ limits.fuel → depth_of run ≡ limits.depth
-    → one_list (setting_of run) (net_of run) (map modelled items) ≡ one_list (setting program limits) program.net (map modelled items)
-given_is run program limits items net boxes fuel depth =
-    λ i. one_list (record { boxes = boxes i; fuel = fuel i; depth = depth i }) (net i) (map modelled items)
+  all_typed : (records : List Entries) → position fails records ≡ None → All (λ r. IsTrue (is_of_type claim.input r)) records
+  all_typed records none = λ k d below. un_not (is_of_type claim.input (get_or records k d)) (fails_before_first fails records k d (omega (arith, none_before records none)))
+
+  module _ (input : Input) (read : ReadsFile names bytes (Ok input)) where
+    -- where a record is not of the type, its line is there
+    pub line_there : (i : ℕ) → position fails input.records ≡ Some i → i < length input.lines
+    line_there i first = subst (λ n. i < n) (sym (lines_of_records names bytes input read)) (position-Some fails input.records i finite.empty first).0
+
+    pub untyped : (i n : ℕ) → position fails input.records ≡ Some i → slice_get input.lines i ≡ Some n → WhyUnreadable names claim bytes (Refused (Line (wrong.Untyped n)))
+    untyped i n first line = record { input = input; read = read; first = ap (option_and_then (slice_get input.lines)) first ∙ line }
+
+    -- else each is
+    pub typed : position fails input.records ≡ None → IsTypedFile names claim bytes input
+    typed none = record { read = read; typed = all_typed input.records none }

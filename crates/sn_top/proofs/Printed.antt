@@ -12,7 +12,7 @@ use Rattle.sn_parser.specs.declared.parsing.ParseFault.TheVariants as parse_faul
 use Rattle.sn_top.specs.declared.serve.TheConstants.{SOURCE_LIMIT}
 use Rattle.sn_top.specs.declared.status.Which.TheVariants.{Source, Input}
 use Rattle.sn_top.specs.declared.status.Refusal.{Refusal}
-use Rattle.sn_top.specs.declared.status.Refusal.TheVariants.{TooLarge, Source as SourceAt, NoMain, TooDeep, LargeTree, TooManyNames, Line, NotBuilt}
+use Rattle.sn_top.specs.declared.status.Refusal.TheVariants.{TooLarge, Source as SourceAt, NoMain, TooDeep, LargeTree, TooManyNames, Type, Variants, Line}
 use Rattle.sn_top.specs.declared.status.Stop.{Stop}
 use Rattle.sn_top.specs.declared.status.Stop.TheVariants.{Refused, Faulted, Unread, Memory, Write}
 use Rattle.sn_top.specs.Answer.{FindsText, whole, WhyUnprinted}

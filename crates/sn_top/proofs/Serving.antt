@@ -6,7 +6,7 @@ use Rattle.sn_io.specs.Told.{AppendsPrefix}
 use Rattle.sn_top.specs.declared.load.Program.{Program}
 use Rattle.sn_top.specs.declared.transcript.Transcript.{Transcript}
 use Rattle.sn_top.specs.declared.status.Which.TheVariants.{Source, Input}
-use Rattle.sn_top.specs.declared.status.Refusal.TheVariants.{TooLarge, Source as SourceAt, NoMain, TooDeep, LargeTree, TooManyNames, Line, NotBuilt}
+use Rattle.sn_top.specs.declared.status.Refusal.TheVariants.{TooLarge, Source as SourceAt, NoMain, TooDeep, LargeTree, TooManyNames, Type, Variants, Line}
 use Rattle.sn_top.specs.declared.status.Refusal.{Refusal}
 use Rattle.sn_top.specs.declared.status.Stop.{Stop}
 use Rattle.sn_top.specs.declared.status.Stop.TheVariants.{Refused, Faulted, Unread, Memory, Write}

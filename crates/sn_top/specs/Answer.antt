@@ -2,13 +2,13 @@
 use Rattle.std.specs.Prelude.{◌≡◌, ◌⊎◌, ◌≤◌, ◌<◌, ℕ, List, [], length, codes, Option, None, Some, Result, Ok, Err, IfSome}
 use Rattle.sn_io.specs.Told.{appended, AppendsPrefix}
 use Rattle.sn_top.specs.declared.words.Command.{Command}
-use Rattle.sn_top.specs.declared.words.Command.TheVariants.{Once, Print}
+use Rattle.sn_top.specs.declared.words.Command.TheVariants.{Check, Once, Print}
 use Rattle.sn_top.specs.declared.status.Status.{Status}
 use Rattle.sn_top.specs.declared.status.Status.TheVariants as status
 use Rattle.sn_top.specs.declared.status.Which.{Which}
 use Rattle.sn_top.specs.declared.status.Which.TheVariants.{Source, Input}
 use Rattle.sn_top.specs.declared.status.Refusal.{Refusal}
-use Rattle.sn_top.specs.declared.status.Refusal.TheVariants.{TooLarge, Source as SourceAt, NoMain, TooDeep, LargeTree, TooManyNames, Line, NotBuilt}
+use Rattle.sn_top.specs.declared.status.Refusal.TheVariants.{TooLarge, Source as SourceAt, NoMain, TooDeep, LargeTree, TooManyNames, Type, Variants, Line}
 use Rattle.sn_top.specs.declared.status.Stop.{Stop}
 use Rattle.sn_top.specs.declared.status.Stop.TheVariants as stop
 use Rattle.sn_top.specs.declared.serve.TheConstants.{SOURCE_LIMIT, INPUT_LIMIT}
@@ -17,9 +17,11 @@ use Rattle.sn_top.specs.Status.{refusal_status, stop_line}
 use Rattle.sn_top.specs.Words.{usage_text, source_of, input_of}
 use Rattle.sn_top.specs.Seen.{Sink, File, seen_sink, seen_file, SinkFailed, FileFailed, GotLine}
 use Rattle.sn_record.specs.declared.item.Fault.{Fault}
+use Rattle.sn_net.specs.declared.net.Claim.{Claim}
 use Rattle.sn_input.specs.declared.input.Input.{Input as RecordFile}
 use Rattle.sn_output.specs.Printed.{printed, ending}
-use Rattle.sn_top.specs.Load.{Limits, limits_of, HasManyNames, HasNoRoute, HasWrongLine, stream_of, IsRouted}
+use Rattle.sn_top.specs.Load.{Limits, limits_of, HasManyNames, HasWrongLine, stream_of, IsTypedFile}
+use Rattle.sn_top.specs.Flows.{HasFlows}
 use Rattle.sn_top.specs.Scope.{IsProgram, WhyNoProgram}
 use Rattle.sn_top.specs.declared.load.Program.{Program}
 
@@ -37,11 +39,11 @@ pub record Printout : Type 0 where
 abbrev pub whole : List ℕ → Printout
 whole bytes = record { bytes = bytes; ending = None }
 
--- what the program prints for an input of these bytes, which is within the limit and a record file
+-- what the program prints for an input of these bytes, which is within the limit and a record file of its input type
 pub record Prints (limits : Limits) (program : Program) (bytes : List ℕ) (p : Printout) : Type 0 where
   pub within : length bytes ≤ INPUT_LIMIT
   pub input : RecordFile
-  pub routed : IsRouted limits program bytes input
+  pub typed : IsTypedFile program.names program.claim bytes input
   pub bytes_are : p.bytes ≡ printed input.names (stream_of limits program input)
   pub ending_is : p.ending ≡ ending (stream_of limits program input)
 
@@ -50,11 +52,11 @@ abbrev pub IsRefusedSource : Refusal → List ℕ → Type 0
 IsRefusedSource refusal bytes = (length bytes ≤ SOURCE_LIMIT) × WhyNoProgram bytes refusal
 
 -- the source is accepted, and the input is within the limit and refused
-abbrev pub IsRefusedInput : Option (List ℕ) → (Program → List ℕ → Type 0) → List ℕ → Type 0
-IsRefusedInput input Why bytes = (program : Program) × IsAccepted bytes program × IfSome input (λ more. (length more ≤ INPUT_LIMIT) × Why program more)
+abbrev pub IsRefusedInput : Option (List ℕ) → (List (List ℕ) → Claim → List ℕ → Type 0) → List ℕ → Type 0
+IsRefusedInput input Why bytes = (program : Program) × IsAccepted bytes program × IfSome input (λ more. (length more ≤ INPUT_LIMIT) × Why program.names program.claim more)
 
 -- what the checks and the run find of a source and an input, where their bytes are told; the checks come in the order:
--- the source's file, the source, the input's file, the input, the run
+-- the source's file, the source and its types, the input's file, the input and its types, the run
 abbrev pub Finds : Limits → Option (List ℕ) → Option (List ℕ) → Result Printout Refusal → Type 0
 Finds limits source input (Err (TooLarge Source)) = IfSome source (λ bytes. SOURCE_LIMIT < length bytes)
 Finds limits source input (Err (SourceAt fault at)) = IfSome source (IsRefusedSource (SourceAt fault at))
@@ -63,7 +65,8 @@ Finds limits source input (Err (TooDeep at)) = IfSome source (IsRefusedSource (T
 Finds limits source input (Err (LargeTree at)) = IfSome source (IsRefusedSource (LargeTree at))
 Finds limits source input (Err TooManyNames) = IfSome source (λ bytes. IsRefusedSource TooManyNames bytes ⊎ IsRefusedInput input HasManyNames bytes)
 Finds limits source input (Err (Line fault)) = IfSome source (IsRefusedInput input (HasWrongLine fault))
-Finds limits source input (Err NotBuilt) = IfSome source (IsRefusedInput input (HasNoRoute limits))
+Finds limits source input (Err (Type fault at variant)) = IfSome source (IsRefusedSource (Type fault at variant))
+Finds limits source input (Err (Variants at)) = IfSome source (IsRefusedSource (Variants at))
 Finds limits source input (Err (TooLarge Input)) = IfSome source (λ bytes. (program : Program) × IsAccepted bytes program × IfSome input (λ more. INPUT_LIMIT < length more))
 Finds limits source input (Ok p) = IfSome source (λ bytes. (program : Program) × IsAccepted bytes program × IfSome input (λ more. Prints limits program more p))
 
@@ -76,9 +79,24 @@ FindsText source (Err NoMain) = ⊥
 FindsText source (Err (TooDeep at)) = IfSome source (λ bytes. (length bytes ≤ SOURCE_LIMIT) × FindsSource bytes (Err (TooDeep at)))
 FindsText source (Err (LargeTree at)) = ⊥
 FindsText source (Err TooManyNames) = ⊥
+FindsText source (Err (Type fault at variant)) = ⊥
+FindsText source (Err (Variants at)) = ⊥
 FindsText source (Err (Line fault)) = ⊥
-FindsText source (Err NotBuilt) = ⊥
 FindsText source (Ok p) = IfSome source (λ bytes. (length bytes ≤ SOURCE_LIMIT) × FindsSource bytes (Ok p.bytes) × (p.ending ≡ None))
+
+-- The same of a source whose types are checked: what can come out for each variant of the input is printed.
+abbrev pub FindsTypes : Option (List ℕ) → Result Printout Refusal → Type 0
+FindsTypes source (Err (TooLarge Source)) = IfSome source (λ bytes. SOURCE_LIMIT < length bytes)
+FindsTypes source (Err (TooLarge Input)) = ⊥
+FindsTypes source (Err (SourceAt fault at)) = IfSome source (IsRefusedSource (SourceAt fault at))
+FindsTypes source (Err NoMain) = IfSome source (IsRefusedSource NoMain)
+FindsTypes source (Err (TooDeep at)) = IfSome source (IsRefusedSource (TooDeep at))
+FindsTypes source (Err (LargeTree at)) = IfSome source (IsRefusedSource (LargeTree at))
+FindsTypes source (Err TooManyNames) = IfSome source (IsRefusedSource TooManyNames)
+FindsTypes source (Err (Type fault at variant)) = IfSome source (IsRefusedSource (Type fault at variant))
+FindsTypes source (Err (Variants at)) = IfSome source (IsRefusedSource (Variants at))
+FindsTypes source (Err (Line fault)) = ⊥
+FindsTypes source (Ok p) = IfSome source (λ bytes. (program : Program) × IsAccepted bytes program × HasFlows program program.claim.input p.bytes × (p.ending ≡ None))
 
 -- the bytes on `out`, the status and the line on `err` for what was found
 abbrev pub found_bytes : Result Printout Refusal → List ℕ
@@ -117,6 +135,7 @@ seen bytes_of file_faults out_held out_faults err_held err_faults files new_file
 -- what is found of a command's files
 abbrev pub FindsFor : Command → (List ℕ → File) → Result Printout Refusal → Type 0
 FindsFor (Once source input fuel depth) file found = Finds (limits_of fuel depth) (file source).told (file input).told found
+FindsFor (Check source) file found = FindsTypes (file source).told found
 FindsFor (Print source) file found = FindsText (file source).told found
 
 -- the whole answer: what is found decides the bytes, the status and the line
@@ -138,6 +157,7 @@ IsSourceUnread Input source = ⊥
 
 abbrev pub UnreadFor : Command → (List ℕ → File) → Which → Type 0
 UnreadFor (Once source input fuel depth) file which = IsUnread which (file source) (file input)
+UnreadFor (Check source) file which = IsSourceUnread which (file source)
 UnreadFor (Print source) file which = IsSourceUnread which (file source)
 
 -- nothing was printed, and the line names the file
@@ -178,6 +198,10 @@ WhyStopped limits source input out why = StoppedFor (Finds limits source.told in
 -- the printing of a source
 abbrev pub WhyUnprinted : File → Sink → Stop → Type 0
 WhyUnprinted source out why = StoppedFor (FindsText source.told) (λ which. IsSourceUnread which source) out why
+
+-- the check of a source
+abbrev pub WhyUnchecked : File → Sink → Stop → Type 0
+WhyUnchecked source out why = StoppedFor (FindsTypes source.told) (λ which. IsSourceUnread which source) out why
 
 -- any command
 abbrev pub WhyEnded : Command → (List ℕ → File) → Sink → Stop → Type 0

@@ -6,3 +6,5 @@ pub mod Shown
 pub mod Source
 pub mod Scope
 pub mod Answer
+pub mod Flows
+pub mod Runs

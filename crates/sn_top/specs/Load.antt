@@ -1,24 +1,21 @@
 -- What the layers below the top calls give: programs, inputs and answers.
-use Rattle.std.specs.Prelude.{◌≡◌, ℕ, None, List, map, slice_get, Some, Ok, Err}
+use Rattle.std.specs.Prelude.{◌≡◌, ℕ, Bool, IsTrue, List, map, not, slice_get, Option, Some, Ok, Err}
+use Rattle.std.specs.List.{All, list_any, position}
+use Rattle.std.specs.Option.{option_and_then}
+use Rattle.sn_record.specs.LabelSet.{Labels}
+use Rattle.sn_record.specs.Record.{Entries, is_match}
 use Rattle.sn_net.specs.Item.{ModelItem, Rec}
 use Rattle.sn_net.specs.WellFormed.{FitsBoxes}
-use Rattle.sn_net.specs.declared.expr.BoxProgram.{BoxProgram}
 use Rattle.sn_model.specs.Meaning.{Setting, one_list}
 use Rattle.sn_model.specs.Ranges.{IsWithin}
 use Rattle.sn_model.specs.declared.run.TheConstants.{MOST_FUEL, MOST_REPLICAS}
-use Rattle.sn_once.specs.Stuck.{first_stuck}
-use Rattle.sn_once.specs.declared.fault.FeedFault.{FeedFault}
-use Rattle.sn_once.specs.declared.fault.FeedFault.TheVariants as feed_fault
 use Rattle.sn_net.specs.declared.net.Claim.{Claim}
-use Rattle.sn_net.specs.declared.net.Net.{Net}
+use Rattle.sn_typing.specs.Accepted.{IsAccepted}
 use Rattle.sn_input.specs.Reading.{ReadsFile}
 use Rattle.sn_input.specs.declared.input.Input.{Input}
 use Rattle.sn_input.specs.declared.input.InputFault.{InputFault}
 use Rattle.sn_input.specs.declared.input.InputFault.TheVariants as input_fault
-use Rattle.sn_scope.specs.declared.resolved.Parts.{Parts}
 use Rattle.sn_top.specs.declared.load.Program.{Program}
-use Rattle.sn_top.specs.declared.transcript.Transcript.{Transcript}
-use Rattle.sn_top.specs.Shown.{Shows}
 use Rattle.sn_top.specs.declared.status.LineFault.{LineFault}
 use Rattle.sn_top.specs.declared.status.LineFault.TheVariants as line
 use Rattle.sn_top.specs.declared.status.Refusal.{Refusal}
@@ -34,33 +31,11 @@ input_stop (input_fault.TooMany n) = stop.Refused (refusal.Line (line.TooMany n)
 input_stop input_fault.TooManyNames = stop.Refused refusal.TooManyNames
 input_stop input_fault.Memory = stop.Memory
 
--- the refusal of a line, as the reader of record files gives it
-abbrev pub input_refusal : LineFault → InputFault
-input_refusal (line.BadLine n) = input_fault.BadLine n
-input_refusal (line.Twice n kind name) = input_fault.Twice n kind name
-input_refusal (line.TooMany n) = input_fault.TooMany n
-
-abbrev pub feed_stop : FeedFault → Stop
-feed_stop (feed_fault.NoRoute place) = stop.Refused refusal.NotBuilt
-feed_stop feed_fault.Memory = stop.Memory
-
--- the names, the boxes and the main network of what a source is resolved to; the network is well formed over the boxes
-pub record IsMain (resolved : Parts) (program : Program) : Type 0 where
-  pub claim : Claim
-  pub main : slice_get resolved.claims resolved.main ≡ Some claim
-  pub names_are : program.names ≡ resolved.names
-  pub boxes_are : program.boxes ≡ resolved.boxes
-  pub net_is : program.net ≡ claim.net
-  pub formed : FitsBoxes program.boxes program.net
-
 -- the program is that of the source, and can be run
 pub record IsLoaded (bytes : List ℕ) (program : Program) : Type 0 where
   pub main : IsProgram bytes program
-  pub formed : FitsBoxes program.boxes program.net
-
--- the program of names, boxes and a network
-abbrev pub program_of : List (List ℕ) → List BoxProgram → Net → Program
-program_of names boxes net = record { names = names; boxes = boxes; net = net }
+  pub accepted : IsAccepted program.boxes program.claim
+  pub formed : FitsBoxes program.boxes program.claim.net
 
 -- What a command says of a run: the fuel of each call of a box, and how many replicas a star may have.
 pub record Limits : Type 0 where
@@ -81,47 +56,53 @@ setting program limits = record { boxes = program.boxes; fuel = limits.fuel; dep
 
 -- what the network of a program answers to the records of an input, on one thread
 abbrev pub stream_of : Limits → Program → Input → List ModelItem
-stream_of limits program input = one_list (setting program limits) program.net (map Rec input.records)
+stream_of limits program input = one_list (setting program limits) program.claim.net (map Rec input.records)
 
--- the bytes are a record file, each record of which finds its way through the network
-pub record IsRouted (limits : Limits) (program : Program) (bytes : List ℕ) (input : Input) : Type 0 where
-  pub read : ReadsFile program.names bytes (Ok input)
-  pub routed : first_stuck (stream_of limits program input) ≡ None
+-- the record matches one of the variants
+abbrev pub is_of_type : List Labels → Entries → Bool
+is_of_type variants r = list_any (is_match r) variants
 
--- the bytes are a record file, and some record lacks a route
-pub record HasNoRoute (limits : Limits) (program : Program) (bytes : List ℕ) : Type 0 where
+-- the number of the line of the first record that is not of the claim's input type, where there is one
+abbrev pub untyped_line : Claim → Input → Option ℕ
+untyped_line claim input = option_and_then (slice_get input.lines) (position (λ r. not (is_of_type claim.input r)) input.records)
+
+-- the bytes are a record file, each record of which is of the claim's input type
+pub record IsTypedFile (names : List (List ℕ)) (claim : Claim) (bytes : List ℕ) (input : Input) : Type 0 where
+  pub read : ReadsFile names bytes (Ok input)
+  pub typed : All (λ r. IsTrue (is_of_type claim.input r)) input.records
+
+-- the bytes are a record file, and a record is not of the claim's input type, the first at the line n
+pub record HasUntyped (n : ℕ) (names : List (List ℕ)) (claim : Claim) (bytes : List ℕ) : Type 0 where
   pub input : Input
-  pub read : ReadsFile program.names bytes (Ok input)
-  pub place : ℕ
-  pub stuck : first_stuck (stream_of limits program input) ≡ Some place
+  pub read : ReadsFile names bytes (Ok input)
+  pub first : untyped_line claim input ≡ Some n
 
--- the bytes are no record file, for a line that is wrong, or for want of room for names
-abbrev pub HasWrongLine : LineFault → Program → List ℕ → Type 0
-HasWrongLine fault program bytes = ReadsFile program.names bytes (Err (input_refusal fault))
+-- the bytes are no record file of the input type, for a line that is wrong, or for want of room for names
+abbrev pub HasWrongLine : LineFault → List (List ℕ) → Claim → List ℕ → Type 0
+HasWrongLine (line.BadLine n) names claim bytes = ReadsFile names bytes (Err (input_fault.BadLine n))
+HasWrongLine (line.Twice n kind name) names claim bytes = ReadsFile names bytes (Err (input_fault.Twice n kind name))
+HasWrongLine (line.Untyped n) names claim bytes = HasUntyped n names claim bytes
+HasWrongLine (line.TooMany n) names claim bytes = ReadsFile names bytes (Err (input_fault.TooMany n))
 
-abbrev pub HasManyNames : Program → List ℕ → Type 0
-HasManyNames program bytes = ReadsFile program.names bytes (Err input_fault.TooManyNames)
+abbrev pub HasManyNames : List (List ℕ) → Claim → List ℕ → Type 0
+HasManyNames names claim bytes = ReadsFile names bytes (Err input_fault.TooManyNames)
 
--- what is printed of the items that the network answers
-pub record IsAnswer (limits : Limits) (program : Program) (bytes : List ℕ) (p : Transcript) : Type 0 where
-  pub input : Input
-  pub routed : IsRouted limits program bytes input
-  pub shown : Shows input.names (stream_of limits program input) p
+-- why an input gives a net no records to run on
+abbrev pub WhyNoRecords : List (List ℕ) → Claim → List ℕ → Refusal → Type 0
+WhyNoRecords names claim bytes (refusal.TooLarge which) = ⊥
+WhyNoRecords names claim bytes (refusal.Source fault at) = ⊥
+WhyNoRecords names claim bytes refusal.NoMain = ⊥
+WhyNoRecords names claim bytes (refusal.TooDeep at) = ⊥
+WhyNoRecords names claim bytes (refusal.LargeTree at) = ⊥
+WhyNoRecords names claim bytes refusal.TooManyNames = HasManyNames names claim bytes
+WhyNoRecords names claim bytes (refusal.Type fault at variant) = ⊥
+WhyNoRecords names claim bytes (refusal.Variants at) = ⊥
+WhyNoRecords names claim bytes (refusal.Line fault) = HasWrongLine fault names claim bytes
 
--- why there is no answer to an input
-abbrev pub WhyNoItems : Limits → Program → List ℕ → Refusal → Type 0
-WhyNoItems limits program bytes (refusal.TooLarge which) = ⊥
-WhyNoItems limits program bytes (refusal.Source fault at) = ⊥
-WhyNoItems limits program bytes refusal.NoMain = ⊥
-WhyNoItems limits program bytes (refusal.TooDeep at) = ⊥
-WhyNoItems limits program bytes (refusal.LargeTree at) = ⊥
-WhyNoItems limits program bytes refusal.TooManyNames = HasManyNames program bytes
-WhyNoItems limits program bytes (refusal.Line fault) = HasWrongLine fault program bytes
-WhyNoItems limits program bytes refusal.NotBuilt = HasNoRoute limits program bytes
-
-abbrev pub WhyNoAnswer : Limits → Program → List ℕ → Stop → Type 0
-WhyNoAnswer limits program bytes (stop.Refused refusal) = WhyNoItems limits program bytes refusal
-WhyNoAnswer limits program bytes (stop.Faulted fault) = ⊥
-WhyNoAnswer limits program bytes (stop.Unread which) = ⊥
-WhyNoAnswer limits program bytes stop.Memory = Unit {0}
-WhyNoAnswer limits program bytes stop.Write = ⊥
+-- why reading an input stopped
+abbrev pub WhyUnreadable : List (List ℕ) → Claim → List ℕ → Stop → Type 0
+WhyUnreadable names claim bytes (stop.Refused refusal) = WhyNoRecords names claim bytes refusal
+WhyUnreadable names claim bytes (stop.Faulted fault) = ⊥
+WhyUnreadable names claim bytes (stop.Unread which) = ⊥
+WhyUnreadable names claim bytes stop.Memory = Unit {0}
+WhyUnreadable names claim bytes stop.Write = ⊥

@@ -9,10 +9,12 @@ use Rattle.sn_top.specs.declared.status.Status.TheVariants as status
 use Rattle.sn_top.specs.declared.status.Which.{Which}
 use Rattle.sn_top.specs.declared.status.Which.TheVariants.{Source, Input}
 use Rattle.sn_top.specs.declared.status.Refusal.{Refusal}
-use Rattle.sn_top.specs.declared.status.Refusal.TheVariants.{TooLarge, Source as SourceAt, NoMain, TooDeep, LargeTree, TooManyNames, Line, NotBuilt}
+use Rattle.sn_top.specs.declared.status.Refusal.TheVariants.{TooLarge, Source as SourceAt, NoMain, TooDeep, LargeTree, TooManyNames, Type, Variants, Line}
 use Rattle.sn_top.specs.declared.status.LineFault.{LineFault}
 use Rattle.sn_top.specs.declared.status.LineFault.TheVariants as line
 use Rattle.sn_top.specs.declared.status.SourceFault.{SourceFault}
+use Rattle.sn_top.specs.declared.status.TypeFault.{TypeFault}
+use Rattle.sn_top.specs.declared.status.TypeFault.TheVariants as type
 use Rattle.sn_top.specs.declared.status.SourceFault.TheVariants.{BadUtf8, BadChar, NumberTooWide, TextOpen, Unexpected, Unknown, Twice, Arity, GuardTag}
 use Rattle.sn_top.specs.declared.status.Stop.{Stop}
 use Rattle.sn_top.specs.declared.status.Stop.TheVariants as stop
@@ -22,18 +24,19 @@ status_code status.Ok = 0
 status_code status.Usage = 2
 status_code status.Read = 3
 status_code status.Source = 4
+status_code status.IllTyped = 5
 status_code status.Input = 6
 status_code status.Fault = 7
 status_code status.Memory = 8
 status_code status.Write = 9
 status_code status.TooLarge = 10
 status_code status.Limit = 11
-status_code status.NotBuilt = 12
 
--- a line that is wrong, and a record that is one too many
+-- a line that is wrong, a record that is not of the input type, and one that is one too many
 abbrev pub line_status : LineFault → Status
 line_status (line.BadLine n) = status.Input
 line_status (line.Twice n kind name) = status.Input
+line_status (line.Untyped n) = status.Input
 line_status (line.TooMany n) = status.Limit
 
 abbrev pub refusal_status : Refusal → Status
@@ -43,8 +46,9 @@ refusal_status NoMain = status.Source
 refusal_status (TooDeep at) = status.Limit
 refusal_status (LargeTree at) = status.Limit
 refusal_status TooManyNames = status.Limit
+refusal_status (Type fault at variant) = status.IllTyped
+refusal_status (Variants at) = status.Limit
 refusal_status (Line fault) = line_status fault
-refusal_status NotBuilt = status.NotBuilt
 
 abbrev pub stop_status : Stop → Status
 stop_status (stop.Refused refusal) = refusal_status refusal
@@ -68,9 +72,14 @@ fault_label Twice = codes "source: Twice at "
 fault_label Arity = codes "source: Arity at "
 fault_label GuardTag = codes "source: GuardTag at "
 
+abbrev pub type_label : TypeFault → List ℕ
+type_label type.NoRoute = codes "type: NoRoute at "
+type_label type.BadOutput = codes "type: BadOutput at "
+
 abbrev pub line_label : LineFault → List ℕ
 line_label (line.BadLine n) = codes "input: BadLine "
 line_label (line.Twice n kind name) = codes "input: Twice "
+line_label (line.Untyped n) = codes "input: Untyped "
 line_label (line.TooMany n) = codes "limit: Records at line "
 
 abbrev pub ending_label : FaultKind → List ℕ
@@ -88,8 +97,9 @@ refusal_label NoMain = codes "source: NoMain"
 refusal_label (TooDeep at) = codes "limit: TooDeep at "
 refusal_label (LargeTree at) = codes "limit: TooLarge at "
 refusal_label TooManyNames = codes "limit: Names"
+refusal_label (Type fault at variant) = type_label fault
+refusal_label (Variants at) = codes "limit: Variants at "
 refusal_label (Line fault) = line_label fault
-refusal_label NotBuilt = codes "not built"
 
 abbrev pub stop_label : Stop → List ℕ
 stop_label (stop.Refused refusal) = refusal_label refusal
@@ -102,6 +112,7 @@ stop_label stop.Write = codes "write"
 abbrev pub line_number : LineFault → ℕ
 line_number (line.BadLine n) = n
 line_number (line.Twice n kind name) = n
+line_number (line.Untyped n) = n
 line_number (line.TooMany n) = n
 
 abbrev pub refusal_name : Refusal → List ℕ → List ℕ → List ℕ
@@ -111,8 +122,9 @@ refusal_name NoMain source input = []
 refusal_name (TooDeep at) source input = decimal at
 refusal_name (LargeTree at) source input = decimal at
 refusal_name TooManyNames source input = []
+refusal_name (Type fault at variant) source input = decimal at
+refusal_name (Variants at) source input = decimal at
 refusal_name (Line fault) source input = decimal (line_number fault)
-refusal_name NotBuilt source input = []
 
 abbrev pub stop_name : Stop → List ℕ → List ℕ → List ℕ
 stop_name (stop.Refused refusal) source input = refusal_name refusal source input
@@ -129,8 +141,9 @@ refusal_place NoMain = 0
 refusal_place (TooDeep at) = at
 refusal_place (LargeTree at) = at
 refusal_place TooManyNames = 0
+refusal_place (Type fault at variant) = at
+refusal_place (Variants at) = at
 refusal_place (Line fault) = line_number fault
-refusal_place NotBuilt = 0
 
 abbrev pub stop_place : Stop → ℕ
 stop_place (stop.Refused refusal) = refusal_place refusal
@@ -143,9 +156,12 @@ stop_place stop.Write = 0
 abbrev pub line_detail : LineFault → List ℕ
 line_detail (line.BadLine n) = []
 line_detail (line.Twice n kind name) = codes " " ++ printed_label kind name
+line_detail (line.Untyped n) = []
 line_detail (line.TooMany n) = []
 
+-- the label, or the variant for which types are wrong
 abbrev pub refusal_detail : Refusal → List ℕ
+refusal_detail (Type fault at variant) = codes " for " ++ variant
 refusal_detail (Line fault) = line_detail fault
 refusal_detail refusal = []
 

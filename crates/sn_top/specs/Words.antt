@@ -5,7 +5,7 @@ use Rattle.std.specs.Str.{bytes_eq, all_ascii_digits}
 use Rattle.std.specs.Str.Parse.{digits_value}
 use Rattle.std.specs.String.{string_bytes}
 use Rattle.sn_top.specs.declared.words.Command.{Command}
-use Rattle.sn_top.specs.declared.words.Command.TheVariants.{Once, Print}
+use Rattle.sn_top.specs.declared.words.Command.TheVariants.{Check, Once, Print}
 use Rattle.sn_top.specs.declared.words.Reading.{Reading}
 use Rattle.sn_top.specs.declared.words.Verb.{Verb}
 use Rattle.sn_top.specs.declared.words.Verb.TheVariants as verbs
@@ -21,7 +21,7 @@ is_word text word = bytes_eq word text
 
 -- the command that a word names
 abbrev pub verb_of : List ℕ → Option Verb
-verb_of word = if is_word (codes "once") word then Some verbs.Once else (if is_word (codes "print") word then Some verbs.Print else None)
+verb_of word = if is_word (codes "once") word then Some verbs.Once else (if is_word (codes "check") word then Some verbs.Check else (if is_word (codes "print") word then Some verbs.Print else None))
 
 -- a minus, and more
 abbrev pub is_option : List ℕ → Bool
@@ -41,6 +41,7 @@ option_value word = option_map (λ place. drop (place + 1) word) (position is_eq
 -- the option of a command that has this name
 abbrev pub setting_of : Verb → List ℕ → Option Setting
 setting_of verbs.Once name = if is_word (codes "--fuel") name then Some Fuel else (if is_word (codes "--depth") name then Some Depth else None)
+setting_of verbs.Check name = None
 setting_of verbs.Print name = None
 
 -- the number that one to ten digits write
@@ -103,14 +104,15 @@ once_of fuel depth (source ∷ input ∷ []) = if is_nothing source || is_nothin
 once_of fuel depth _ = None
 
 -- a source alone
-abbrev pub print_of : List (List ℕ) → Option Command
-print_of (source ∷ []) = if is_nothing source then None else Some (Print source)
-print_of _ = None
+abbrev pub source_alone : List (List ℕ) → Option (List ℕ)
+source_alone (source ∷ []) = if is_nothing source then None else Some source
+source_alone _ = None
 
 -- the command that was given
 abbrev pub made_of : Verb → Given → Option Command
 made_of verbs.Once given = once_of (unwrap_or given.fuel DEFAULT_FUEL) (unwrap_or given.depth DEFAULT_DEPTH) given.names
-made_of verbs.Print given = print_of given.names
+made_of verbs.Check given = option_map Check (source_alone given.names)
+made_of verbs.Print given = option_map Print (source_alone given.names)
 
 -- what the words after a command's name ask for
 abbrev pub asked_of : Verb → List (List ℕ) → Option Command
@@ -123,14 +125,17 @@ command_of (word ∷ words) = option_and_then (λ verb. asked_of verb words) (ve
 
 -- the numbers that a run may be given
 abbrev pub IsInRange : Command → Type 0
+IsInRange (Check source) = Unit {0}
 IsInRange (Print source) = Unit {0}
 IsInRange (Once source input fuel depth) = (1 ≤ fuel) × (fuel ≤ 1_000_000_000) × (1 ≤ depth) × (depth ≤ 2_000)
 
--- the names of its files; one that prints a source has no input
+-- the names of its files; one that checks or prints a source has no input
 abbrev pub source_of : Command → List ℕ
 source_of (Once source input fuel depth) = source
+source_of (Check source) = source
 source_of (Print source) = source
 
 abbrev pub input_of : Command → List ℕ
 input_of (Once source input fuel depth) = input
+input_of (Check source) = []
 input_of (Print source) = []

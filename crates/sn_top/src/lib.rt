@@ -5,10 +5,10 @@
 mod canonical;
 mod load;
 mod outside;
-mod print;
 mod serve;
 mod status;
 mod transcript;
+mod types;
 mod words;
 
 pub use serve::{INPUT_LIMIT, SOURCE_LIMIT, serve_plain, serve_words};

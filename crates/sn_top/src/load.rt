@@ -1,55 +1,81 @@
-//! From the bytes of a source and an input to the records that the network answers.
-ghost use Rattle.std.specs.Prelude.{◌≡◌, ◌≤◌, length, map, IfOk, IfErr};
-ghost use Rattle.sn_net.specs.Item.{modelled, Rec};
+//! From the bytes of a source to its program, and from those of an input to its records.
+ghost use Rattle.std.specs.Prelude.{◌≡◌, ◌≤◌, length, not, IfOk, IfErr, IsTrue, OnOk};
+ghost use Rattle.std.specs.List.{All, position};
 ghost use Rattle.sn_net.specs.WellFormed.{FitsBoxes};
+ghost use Rattle.sn_typing.specs.Accepted.{IsAccepted};
 ghost use Rattle.sn_scope.specs.Resolution.{parts_of};
-ghost use Rattle.sn_top.specs.Load.{AreLimits, limits_of, IsMain, IsLoaded, IsAnswer, WhyNoAnswer};
-ghost use Rattle.sn_top.specs.Scope.{WhyUnloaded};
+ghost use Rattle.sn_top.specs.Load.{IsLoaded, IsTypedFile, WhyUnreadable, is_of_type};
+ghost use Rattle.sn_top.specs.Scope.{IsMain, TellsRefusal, TellsType, WhyRefused, WhyUnloaded};
 ghost use Rattle.sn_top.specs.declared.serve.TheConstants.{SOURCE_LIMIT, INPUT_LIMIT};
 
-use crate::status::{Refusal, Stop};
-use crate::transcript::{Transcript, print_run};
+use crate::status::{LineFault, Refusal, Stop, TypeFault};
+use sn_flow::{FlowFault, check};
 use sn_input::{Input, read_records};
 use sn_lexer::lex;
-use sn_list::{Memory, Seq};
-use sn_model::Run;
+use sn_list::Seq;
 use sn_names::Names;
-use sn_net::{Boxes, Claim, Net};
-use sn_once::FeedFault;
+use sn_net::{Boxes, Claim};
+use sn_output::push_variant;
 use sn_parser::parse;
-use sn_record::{Item, Items, Record};
+use sn_record::{LabelSet, Record};
 use sn_scope::{Parts, Resolved, resolve};
-use sn_stack::append;
 use std::alloc::Global;
 
-/// How many entries a queue holds where no word says it.
-const DEFAULT_QUEUE: u32 = 16;
-
-/// The main network of a source with its boxes, and the names of its labels.
+/// The main claim of a source with its boxes, and the names of its labels.
 #[derive(Drop)]
 pub struct Program {
     pub names: Names,
     pub boxes: Boxes,
-    pub net: Net,
+    pub claim: Claim,
 }
 
-impl From<FeedFault> for Stop {
-    ghost use Rattle.std.specs.Prelude.{◌≡◌};
-    ghost use Rattle.sn_top.specs.Load.{feed_stop};
-
-    ghost from_gives = { λ f e. e ≡ feed_stop f };
-
-    fn from(fault: FeedFault) -> Stop {
-        match fault {
-            FeedFault::NoRoute(_) => Stop::Refused(Refusal::NotBuilt),
-            FeedFault::Memory => Stop::Memory,
-        }
+/// That types are wrong at a place, with the variant printed.
+fn tell_type(alloc: Global, names: &Names, fault: TypeFault, at: u32, variant: &LabelSet) -> Stop
+    ensures { TellsType names.now fault at variant.now result }
+{
+    let mut text = Seq::new(alloc);
+    match push_variant(alloc, &mut text, variant, names) {
+        Ok(()) => Stop::Refused(Refusal::Type(fault, at, text)),
+        Err(_) => Stop::Memory,
     }
 }
 
-/// The names, the boxes and the main network of what a source is resolved to.
+/// Why a claim is refused.
+fn tell_fault(alloc: Global, names: &Names, fault: &FlowFault) -> Stop
+    ensures { TellsRefusal names.now fault.now result }
+{
+    match fault {
+        FlowFault::NoRoute(at, variant) => {
+            tell_type(alloc, names, TypeFault::NoRoute, *at, variant)
+        }
+        FlowFault::BadOutput(at, variant) => {
+            tell_type(alloc, names, TypeFault::BadOutput, *at, variant)
+        }
+        FlowFault::TooManyVariants(at) => Stop::Refused(Refusal::Variants(*at)),
+        FlowFault::Memory => Stop::Memory,
+    }
+}
+
+/// Checks the claims of a program in the order of their declarations, up to the first that is refused.
+fn check_claims(alloc: Global, parts: &Parts) -> Result<(), Stop>
+    requires { All (λ claim. FitsBoxes parts.now.boxes claim.net) parts.now.claims }
+    ensures accepted { OnOk result (All (IsAccepted parts.now.boxes) parts.now.claims) }
+    ensures refused { IfErr result (WhyRefused parts.now) }
+{
+    for claim in parts.claims.as_slice() {
+        if let Err(fault) = check(alloc, claim, &parts.boxes) {
+            return Err(tell_fault(alloc, &parts.names, &fault));
+        }
+    }
+    Ok(())
+}
+
+/// The names, the boxes and the main claim of what a source is resolved to.
 fn main_of(resolved: Resolved) -> Program
-    ensures { IsMain (parts_of resolved) result }
+    requires { All (IsAccepted (parts_of resolved).boxes) (parts_of resolved).claims }
+    ensures main { IsMain (parts_of resolved) result }
+    ensures accepted { IsAccepted result.boxes result.claim }
+    ensures formed { FitsBoxes result.boxes result.claim.net }
 {
     let Parts {
         names,
@@ -59,11 +85,14 @@ fn main_of(resolved: Resolved) -> Program
     } = resolved.into_parts();
     let mut claims = claims.into_vec();
     let claim = claims.swap_remove(main as usize);
-    let Claim { net, .. } = claim;
-    Program { names, boxes, net }
+    Program {
+        names,
+        boxes,
+        claim,
+    }
 }
 
-/// The program of a source.
+/// The program of a source, each claim of which is accepted.
 pub fn load_source(alloc: Global, bytes: &[u8]) -> Result<Program, Stop>
     requires { length bytes.now ≤ SOURCE_LIMIT }
     ensures loaded { IfOk result (IsLoaded bytes.now) }
@@ -72,39 +101,48 @@ pub fn load_source(alloc: Global, bytes: &[u8]) -> Result<Program, Stop>
     let tokens = lex(alloc, bytes)?;
     let tree = parse(alloc, bytes, tokens.as_slice())?;
     let resolved = resolve(alloc, &tree)?;
+    check_claims(alloc, resolved.as_parts())?;
     Ok(main_of(resolved))
 }
 
-/// The records as items that flow.
-fn items_of(alloc: Global, records: Seq<Record>) -> Result<Items, Memory>
-    ensures { IfOk result (λ items. map modelled items ≡ map Rec records) }
+/// Whether the record matches one of the variants.
+fn is_of_type(variants: &[LabelSet], r: &Record) -> bool
+    ensures { result ≡ is_of_type variants.now r.now }
 {
-    let mut items = Items::new(alloc);
-    for record in records.into_vec() {
-        append(&mut items, Item::Rec(record))?;
+    for variant in variants {
+        if r.matches(variant) {
+            return true;
+        }
     }
-    Ok(items)
+    false
 }
 
-/// What a program prints for the records of an input, whose new names go to the end of its own. The fuel is that of each call of
-/// a box, and the depth how many replicas a star may have.
-pub fn answer_input(
-    alloc: Global,
-    program: Program,
-    fuel: u64,
-    depth: u32,
-    bytes: &[u8],
-) -> Result<Transcript, Stop>
-    requires limits { AreLimits (limits_of fuel depth) }
-    requires formed { FitsBoxes program.boxes program.net }
-    requires within { length bytes.now ≤ INPUT_LIMIT }
-    ensures answered { IfOk result (IsAnswer (limits_of fuel depth) program bytes.now) }
-    ensures ended { IfErr result (WhyNoAnswer (limits_of fuel depth) program bytes.now) }
+/// The place of the first record that matches none of the variants.
+fn first_untyped(variants: &[LabelSet], records: &[Record]) -> Option<usize>
+    ensures { result ≡ position (λ r. not (is_of_type variants.now r)) records.now }
 {
-    let Program { names, boxes, net } = program;
-    let Input { records, names, .. } = read_records(alloc, bytes, names)?;
-    let items = items_of(alloc, records)?;
-    let run = Run::new(net, boxes, fuel, depth, DEFAULT_QUEUE, Items::new(alloc));
-    let printed = print_run(alloc, &run, &names, items)?;
-    Ok(printed)
+    for (i, r) in records.iter().enumerate() {
+        if !is_of_type(variants, r) {
+            return Some(i);
+        }
+    }
+    None
+}
+
+/// The records of an input, and the names of its labels, the new ones at the end of those that are known.
+pub fn read_input(
+    alloc: Global,
+    names: Names,
+    claim: &Claim,
+    bytes: &[u8],
+) -> Result<Input, Stop>
+    requires { length bytes.now ≤ INPUT_LIMIT }
+    ensures read { IfOk result (IsTypedFile names claim.now bytes.now) }
+    ensures ended { IfErr result (WhyUnreadable names claim.now bytes.now) }
+{
+    let input = read_records(alloc, bytes, names)?;
+    match first_untyped(claim.input.as_slice(), input.records.as_slice()) {
+        Some(i) => Err(Stop::Refused(Refusal::Line(LineFault::Untyped(*input.lines.at(i))))),
+        None => Ok(input),
+    }
 }

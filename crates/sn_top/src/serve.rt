@@ -6,13 +6,14 @@ ghost use Rattle.sn_top.specs.Load.{AreLimits, limits_of};
 ghost use Rattle.sn_top.specs.Seen.{GotLine, seen_file, seen_sink};
 ghost use Rattle.sn_top.specs.Status.{stop_line};
 ghost use Rattle.sn_top.specs.Words.{command_of, input_of, IsInRange, source_of};
-ghost use Rattle.sn_top.specs.Answer.{seen, whole, Finds, FindsFor, FindsText, WhyEnded, WhyStopped, WhyUnprinted, IsAnswered, HasUnread, IsCutShort, IsUnwritten, IsAnsweredFor, OfCommand, IsCutShortFor};
+ghost use Rattle.sn_top.specs.Answer.{seen, whole, Finds, FindsFor, FindsText, FindsTypes, WhyEnded, WhyStopped, WhyUnchecked, WhyUnprinted, IsAnswered, HasUnread, IsCutShort, IsUnwritten, IsAnsweredFor, OfCommand, IsCutShortFor};
 
 use crate::canonical::canonical_text;
-use crate::load::{answer_input, load_source};
+use crate::load::load_source;
 use crate::outside::{read_file, write_line};
-use crate::print::write_lines;
 use crate::status::{Status, Stop, Which};
+use crate::transcript::run_program;
+use crate::types::flows_text;
 use crate::words::{Command, WordsFault, read_words, usage_line};
 use itoa::Buffer;
 use sn_io::{Files, Gate, Sink, write_whole};
@@ -51,12 +52,34 @@ fn run_once<F: Files, O: Sink>(
     let source = read_file(alloc, files, Which::Source, source_name, SOURCE_LIMIT)?;
     let program = load_source(alloc, source.as_slice())?;
     let input = read_file(alloc, files, Which::Input, input_name, INPUT_LIMIT)?;
-    let printed = answer_input(alloc, program, fuel, depth, input.as_slice())?;
-    write_lines(printed.text.as_slice(), out)?;
-    match printed.fault {
+    match run_program(alloc, program, fuel, depth, input.as_slice(), out)? {
         None => Ok(()),
         Some(fault) => Err(Stop::Faulted(fault)),
     }
+}
+
+/// Checks a source, and prints what can come out for each variant of its input.
+fn run_check<F: Files, O: Sink>(
+    alloc: Global,
+    source_name: &[u8],
+    files: &mut F,
+    out: &mut O,
+) -> Result<(), Stop>
+    ensures done { OnOk result ((p : List ℕ)
+        × FindsTypes (F.bytes_of files.old source_name.now) (Ok (whole p))
+        × (O.held out.new ≡ appended (O.held out.old) p)) }
+    ensures stopped { IfErr result (WhyUnchecked
+        (seen_file F.bytes_of F.faults files.old files.new source_name.now)
+        (seen_sink O.held O.faults out.old out.new)) }
+    ensures same { (name : List ℕ) → F.bytes_of files.new name ≡ F.bytes_of files.old name }
+    ensures later { (name : List ℕ) → F.faults files.old name ≤ F.faults files.new name }
+    ensures out_later { O.faults out.old ≤ O.faults out.new }
+{
+    let source = read_file(alloc, files, Which::Source, source_name, SOURCE_LIMIT)?;
+    let program = load_source(alloc, source.as_slice())?;
+    let text = flows_text(alloc, &program)?;
+    write_whole(out, text.as_slice())?;
+    Ok(())
 }
 
 /// Prints the canonical text of a source.
@@ -114,6 +137,7 @@ fn run<F: Files, O: Sink>(
             files,
             out,
         ),
+        Command::Check { source } => run_check(alloc, source.as_slice(), files, out),
         Command::Print { source } => run_print(alloc, source.as_slice(), files, out),
     }
 }

@@ -1,7 +1,7 @@
 //! How a call ends: its status, and what it writes on `err`.
 ghost use Rattle.std.specs.Prelude.{◌≡◌, ◌++◌};
 ghost use Rattle.std.specs.Fmt.{decimal};
-ghost use Rattle.sn_top.specs.Status.{ending_label, fault_label, line_label, line_number, line_status, status_code, stop_detail, stop_label, stop_name, stop_place, stop_status};
+ghost use Rattle.sn_top.specs.Status.{ending_label, fault_label, line_label, line_number, line_status, status_code, stop_detail, stop_label, stop_name, stop_place, stop_status, type_label};
 
 use sn_input::InputFault;
 use sn_io::WriteFault;
@@ -22,7 +22,9 @@ pub enum Status {
     Read,
     /// The source is none.
     Source,
-    /// The input is no record file.
+    /// The types of a net are wrong.
+    IllTyped,
+    /// The input is no record file, or not of the input type.
     Input,
     /// What was printed ends at a fault.
     Fault,
@@ -34,8 +36,6 @@ pub enum Status {
     TooLarge,
     /// Another limit is passed.
     Limit,
-    /// A record has no route.
-    NotBuilt,
 }
 
 impl Status {
@@ -48,13 +48,13 @@ impl Status {
             Status::Usage => 2,
             Status::Read => 3,
             Status::Source => 4,
+            Status::IllTyped => 5,
             Status::Input => 6,
             Status::Fault => 7,
             Status::Memory => 8,
             Status::Write => 9,
             Status::TooLarge => 10,
             Status::Limit => 11,
-            Status::NotBuilt => 12,
         }
     }
 }
@@ -99,6 +99,27 @@ impl SourceFault {
     }
 }
 
+/// What is wrong with the types of a net.
+#[derive(Clone, Copy, PartialEq, Eq, Debug)]
+pub enum TypeFault {
+    /// A record has no route at a part of the net.
+    NoRoute,
+    /// A record may leave the net that is not of its output type.
+    BadOutput,
+}
+
+impl TypeFault {
+    /// What the line on `err` says before the place.
+    fn label(&self) -> &'static [u8]
+        ensures { result.now ≡ type_label self.now }
+    {
+        match self {
+            TypeFault::NoRoute => b"type: NoRoute at ",
+            TypeFault::BadOutput => b"type: BadOutput at ",
+        }
+    }
+}
+
 /// What is wrong in a line of an input. Lines are counted from 1.
 #[derive(PartialEq, Eq, Drop)]
 pub enum LineFault {
@@ -106,6 +127,8 @@ pub enum LineFault {
     BadLine(u32),
     /// A label repeats an earlier one, by its kind and name.
     Twice(u32, Kind, Text),
+    /// Its record is not of the input type.
+    Untyped(u32),
     /// Its record is one too many.
     TooMany(u32),
 }
@@ -115,7 +138,9 @@ impl LineFault {
         ensures { result ≡ line_status self.now }
     {
         match self {
-            LineFault::BadLine(_) | LineFault::Twice(_, _, _) => Status::Input,
+            LineFault::BadLine(_) | LineFault::Twice(_, _, _) | LineFault::Untyped(_) => {
+                Status::Input
+            }
             LineFault::TooMany(_) => Status::Limit,
         }
     }
@@ -125,7 +150,10 @@ impl LineFault {
         ensures { result ≡ line_number self.now }
     {
         match self {
-            LineFault::BadLine(n) | LineFault::Twice(n, _, _) | LineFault::TooMany(n) => *n,
+            LineFault::BadLine(n)
+            | LineFault::Twice(n, _, _)
+            | LineFault::Untyped(n)
+            | LineFault::TooMany(n) => *n,
         }
     }
 
@@ -136,6 +164,7 @@ impl LineFault {
         match self {
             LineFault::BadLine(_) => b"input: BadLine ",
             LineFault::Twice(_, _, _) => b"input: Twice ",
+            LineFault::Untyped(_) => b"input: Untyped ",
             LineFault::TooMany(_) => b"limit: Records at line ",
         }
     }
@@ -167,10 +196,12 @@ pub enum Refusal {
     LargeTree(u32),
     /// The labels have too many different names.
     TooManyNames,
+    /// The types of a net are wrong at the place, for records of the variant, which is printed.
+    Type(TypeFault, u32, Text),
+    /// Too many variants flow in the net whose name stands there.
+    Variants(u32),
     /// A line of the input is wrong.
     Line(LineFault),
-    /// A record of the input has no route.
-    NotBuilt,
 }
 
 /// Why a command ends otherwise than with its whole output.
@@ -292,8 +323,9 @@ impl Stop {
             Stop::Refused(Refusal::TooDeep(_)) => Status::Limit,
             Stop::Refused(Refusal::LargeTree(_)) => Status::Limit,
             Stop::Refused(Refusal::TooManyNames) => Status::Limit,
+            Stop::Refused(Refusal::Type(_, _, _)) => Status::IllTyped,
+            Stop::Refused(Refusal::Variants(_)) => Status::Limit,
             Stop::Refused(Refusal::Line(fault)) => fault.status(),
-            Stop::Refused(Refusal::NotBuilt) => Status::NotBuilt,
             Stop::Faulted(_) => Status::Fault,
             Stop::Unread(_) => Status::Read,
             Stop::Memory => Status::Memory,
@@ -309,6 +341,8 @@ impl Stop {
             Stop::Refused(Refusal::Source(_, at)) => *at,
             Stop::Refused(Refusal::TooDeep(at)) => *at,
             Stop::Refused(Refusal::LargeTree(at)) => *at,
+            Stop::Refused(Refusal::Type(_, at, _)) => *at,
+            Stop::Refused(Refusal::Variants(at)) => *at,
             Stop::Refused(Refusal::Line(fault)) => fault.number(),
             Stop::Faulted(fault) => fault.place,
             _ => 0,
@@ -326,8 +360,9 @@ impl Stop {
             Stop::Refused(Refusal::TooDeep(_)) => b"limit: TooDeep at ",
             Stop::Refused(Refusal::LargeTree(_)) => b"limit: TooLarge at ",
             Stop::Refused(Refusal::TooManyNames) => b"limit: Names",
+            Stop::Refused(Refusal::Type(fault, _, _)) => fault.label(),
+            Stop::Refused(Refusal::Variants(_)) => b"limit: Variants at ",
             Stop::Refused(Refusal::Line(fault)) => fault.label(),
-            Stop::Refused(Refusal::NotBuilt) => b"not built",
             Stop::Faulted(fault) => ending_label(fault.kind),
             Stop::Unread(_) => b"read: ",
             Stop::Memory => b"memory",
@@ -346,17 +381,20 @@ impl Stop {
             Stop::Refused(Refusal::Source(_, _))
             | Stop::Refused(Refusal::TooDeep(_))
             | Stop::Refused(Refusal::LargeTree(_))
+            | Stop::Refused(Refusal::Type(_, _, _))
+            | Stop::Refused(Refusal::Variants(_))
             | Stop::Refused(Refusal::Line(_))
             | Stop::Faulted(_) => place,
             _ => &source[..0],
         }
     }
 
-    /// What the line says last, in three pieces: the label that stands twice, or nothing.
+    /// What the line says last, in three pieces: the label that stands twice, the variant for which types are wrong, or nothing.
     pub fn detail(&self) -> (&[u8], &[u8], &[u8])
         ensures { result.0.now ++ (result.1.now ++ result.2.now) ≡ stop_detail self.now }
     {
         match self {
+            Stop::Refused(Refusal::Type(_, _, variant)) => (b" for ", variant.as_slice(), b""),
             Stop::Refused(Refusal::Line(LineFault::Twice(_, Kind::Field, name))) => {
                 (b" ", name.as_slice(), b"")
             }

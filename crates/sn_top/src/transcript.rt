@@ -1,19 +1,34 @@
-//! What a run prints. It is kept until the run has ended, since no record may lack a route, and lines take less room than records.
-ghost use Rattle.std.specs.Prelude.{◌≡◌, ◌++◌, ◌∷◌, [], None, IfErr, IfOk, List, OnOk, map};
+//! What a run prints: the lines of what comes of each record, before the next is taken.
+ghost use Rattle.std.specs.Prelude.{◌≡◌, ◌≤◌, ◌++◌, ◌∷◌, [], length, map, None, IfErr, IfOk, List, OnOk};
+ghost use Rattle.sn_io.specs.Told.{appended};
 ghost use Rattle.sn_record.specs.declared.item.Item.{Item as SomeItem};
-ghost use Rattle.sn_net.specs.Item.{modelled};
+ghost use Rattle.sn_net.specs.Item.{Rec, modelled};
+ghost use Rattle.sn_net.specs.WellFormed.{FitsBoxes};
+ghost use Rattle.sn_typing.specs.Accepted.{IsAccepted};
 ghost use Rattle.sn_model.specs.Meaning.{one_list};
-ghost use Rattle.sn_model.specs.Run.{net_of, setting_of};
-ghost use Rattle.sn_once.specs.Stuck.{TellsFirst, first_stuck};
+ghost use Rattle.sn_model.specs.Run.{boxes_of, net_of, setting_of};
+ghost use Rattle.sn_output.specs.Printed.{ending, printed};
+ghost use Rattle.sn_top.specs.Load.{AreLimits, limits_of};
+ghost use Rattle.sn_top.specs.Runs.{AreTypedRecords, HasRun, WhyNotRun, WhyUnfinished};
+ghost use Rattle.sn_top.specs.Seen.{seen_sink};
 ghost use Rattle.sn_top.specs.Shown.{Shows};
+ghost use Rattle.sn_top.specs.declared.serve.TheConstants.{INPUT_LIMIT};
 
+use crate::load::{Program, read_input};
+use crate::status::Stop;
+use sn_input::Input;
+use sn_io::{Sink, write_whole};
 use sn_list::{Memory, Seq};
 use sn_model::Run;
 use sn_names::Names;
-use sn_once::{FeedFault, Once};
+use sn_net::Claim;
+use sn_once::Once;
 use sn_output::push_line;
-use sn_record::{Fault, Item, Items, Text};
+use sn_record::{Fault, Item, Items, Record, Text};
 use std::alloc::Global;
+
+/// How many entries a queue holds where no word says it.
+const DEFAULT_QUEUE: u32 = 16;
 
 /// The lines of a stream, and the fault that ends it.
 #[derive(Drop)]
@@ -23,6 +38,19 @@ pub struct Transcript {
 }
 
 impl Transcript {
+    /// The transcript of nothing, in the room of a text.
+    fn in_room(text: Text) -> Transcript
+        ensures text { result.text ≡ [] }
+        ensures fault { result.fault ≡ None }
+    {
+        let mut bytes = text.into_vec();
+        bytes.clear();
+        Transcript {
+            text: Seq::from_vec(bytes),
+            fault: None,
+        }
+    }
+
     /// Adds the line of a record, or the fault that ends the stream. Behind a fault nothing is added.
     fn add(&mut self, alloc: Global, names: &Names, item: Item) -> Result<(), Memory>
         ensures { OnOk result ((before : List SomeItem) → Shows names.now (map modelled before) self.old → Shows names.now (map modelled (before ++ item ∷ [])) self.new) }
@@ -50,26 +78,70 @@ impl Transcript {
     }
 }
 
-/// Prints what the network of a run gives on one thread for items that are handed over. Where a record has no route, all is dropped.
-pub fn print_run(
+/// The transcript of some items, in the room of a text.
+fn shown_in(alloc: Global, room: Text, names: &Names, items: Items) -> Result<Transcript, Memory>
+    ensures { IfOk result (Shows names.now (map modelled items)) }
+{
+    let mut shown = Transcript::in_room(room);
+    shown.add_all(alloc, names, items)?;
+    Ok(shown)
+}
+
+/// Prints what the network of a run gives on one thread for typed records, and answers the fault that ends it. What comes of a
+/// record is written before the next is taken, and nothing is taken behind a fault.
+fn print_run<O: Sink>(
     alloc: Global,
     run: &Run,
     names: &Names,
-    items: Items,
-) -> Result<Transcript, FeedFault>
-    ensures shown { IfOk result (Shows names.now (one_list (setting_of run.now) (net_of run.now) (map modelled items))) }
-    ensures routed { OnOk result (first_stuck (one_list (setting_of run.now) (net_of run.now) (map modelled items)) ≡ None) }
-    ensures no_route { IfErr result (TellsFirst (one_list (setting_of run.now) (net_of run.now) (map modelled items))) }
+    records: Seq<Record>,
+    out: &mut O,
+) -> Result<Option<Fault>, Stop>
+    requires { AreTypedRecords (boxes_of run.now) (net_of run.now) records }
+    ensures ended { IfOk result (λ fault. fault ≡ ending (one_list (setting_of run.now) (net_of run.now) (map Rec records))) }
+    ensures whole { OnOk result (O.held out.new ≡ appended (O.held out.old) (printed names.now (one_list (setting_of run.now) (net_of run.now) (map Rec records)))) }
+    ensures stopped { IfErr result (WhyUnfinished (seen_sink O.held O.faults out.old out.new) (printed names.now (one_list (setting_of run.now) (net_of run.now) (map Rec records)))) }
+    ensures later { O.faults out.old ≤ O.faults out.new }
 {
     let mut once = Once::new(alloc, run)?;
-    let mut printed = Transcript {
-        text: Seq::new(alloc),
-        fault: None,
-    };
-    for item in items.into_vec() {
-        let (next, given) = once.feed(alloc, run, item)?;
+    let mut room = Seq::new(alloc);
+    for record in records.into_vec() {
+        let (next, given) = once.feed(alloc, run, Item::Rec(record))?;
         once = next;
-        printed.add_all(alloc, names, given)?;
+        let Transcript { text, fault } = shown_in(alloc, room, names, given)?;
+        write_whole(out, text.as_slice())?;
+        if fault.is_some() {
+            return Ok(fault);
+        }
+        room = text;
     }
-    Ok(printed)
+    Ok(None)
+}
+
+/// Runs a program over the records of an input, prints what comes out, and answers the fault that ends it. The fuel is that of each
+/// call of a box, and the depth how many replicas a star may have.
+pub fn run_program<O: Sink>(
+    alloc: Global,
+    program: Program,
+    fuel: u64,
+    depth: u32,
+    bytes: &[u8],
+    out: &mut O,
+) -> Result<Option<Fault>, Stop>
+    requires limits { AreLimits (limits_of fuel depth) }
+    requires formed { FitsBoxes program.boxes program.claim.net }
+    requires accepted { IsAccepted program.boxes program.claim }
+    requires within { length bytes.now ≤ INPUT_LIMIT }
+    ensures done { IfOk result (HasRun (limits_of fuel depth) program bytes.now (seen_sink O.held O.faults out.old out.new)) }
+    ensures ended { IfErr result (WhyNotRun (limits_of fuel depth) program bytes.now (seen_sink O.held O.faults out.old out.new)) }
+    ensures later { O.faults out.old ≤ O.faults out.new }
+{
+    let Program {
+        names,
+        boxes,
+        claim,
+    } = program;
+    let Input { records, names, .. } = read_input(alloc, names, &claim, bytes)?;
+    let Claim { net, .. } = claim;
+    let run = Run::new(net, boxes, fuel, depth, DEFAULT_QUEUE, Items::new(alloc));
+    print_run(alloc, &run, &names, records, out)
 }

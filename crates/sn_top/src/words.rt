@@ -2,7 +2,7 @@
 ghost use Rattle.std.specs.Prelude.{◌≡◌, ◌≤◌, ◌++◌, ◌∷◌, codes, false, length, map, Some, None, IfOk, IfSome, OnOk, OnErr};
 ghost use Rattle.std.specs.Option.{option_copied};
 ghost use Rattle.std.specs.String.{string_bytes};
-ghost use Rattle.sn_top.specs.Words.{asked_of, behind, command_of, first_given, is_option as is_an_option, is_word, made_of, nothing, number_of, option_name, option_value, read_on, set, setting_of, so_far, usage_text, verb_of, IsInRange, source_of, input_of};
+ghost use Rattle.sn_top.specs.Words.{asked_of, behind, command_of, first_given, is_option as is_an_option, is_word, made_of, nothing, number_of, option_name, option_value, read_on, set, setting_of, so_far, source_alone, usage_text, verb_of, IsInRange, source_of, input_of};
 
 use sn_list::{Memory, Seq};
 use sn_record::Text;
@@ -32,6 +32,10 @@ pub enum Command {
         fuel: u64,
         depth: u32,
     },
+    /// Check the types of a source, and print what can come out for each variant of its input.
+    Check {
+        source: Text,
+    },
     /// Print the canonical text of a source.
     Print {
         source: Text,
@@ -45,6 +49,7 @@ impl Command {
     {
         match self {
             Command::Once { source, .. } => source.as_slice(),
+            Command::Check { source } => source.as_slice(),
             Command::Print { source } => source.as_slice(),
         }
     }
@@ -55,7 +60,7 @@ impl Command {
     {
         match self {
             Command::Once { input, .. } => input.as_slice(),
-            Command::Print { .. } => &[],
+            Command::Check { .. } | Command::Print { .. } => &[],
         }
     }
 }
@@ -102,6 +107,7 @@ fn is_option(word: &String) -> bool
 #[derive(Clone, Copy)]
 enum Verb {
     Once,
+    Check,
     Print,
 }
 
@@ -118,6 +124,7 @@ fn find_verb(word: &str) -> Option<Verb>
 {
     match word {
         "once" => Some(Verb::Once),
+        "check" => Some(Verb::Check),
         "print" => Some(Verb::Print),
         _ => None,
     }
@@ -310,10 +317,10 @@ fn make_once(alloc: Global, reading: &Reading) -> Result<Command, WordsFault>
     })
 }
 
-/// The command `print` of what was read.
-fn make_print(alloc: Global, reading: &Reading) -> Result<Command, WordsFault>
-    ensures ok { IfOk result (λ command. made_of Verb.Print (so_far reading.now) ≡ Some command) }
-    ensures usage { result ≡ Err WordsFault.Usage → made_of Verb.Print (so_far reading.now) ≡ None }
+/// The name of a source, where nothing else was read.
+fn only_source(alloc: Global, reading: &Reading) -> Result<Text, WordsFault>
+    ensures ok { IfOk result (λ source. source_alone (so_far reading.now).names ≡ Some source) }
+    ensures usage { result ≡ Err WordsFault.Usage → source_alone (so_far reading.now).names ≡ None }
 {
     let [source] = reading.names.as_slice() else {
         return Err(WordsFault::Usage);
@@ -322,7 +329,7 @@ fn make_print(alloc: Global, reading: &Reading) -> Result<Command, WordsFault>
         return Err(WordsFault::Usage);
     }
     let source = Seq::from_slice(alloc, source.as_bytes())?;
-    Ok(Command::Print { source })
+    Ok(source)
 }
 
 /// Reads the words after the program's name.
@@ -344,6 +351,13 @@ pub fn read_words(alloc: Global, words: &[String]) -> Result<Command, WordsFault
     let reading = read_all(alloc, verb, rest)?;
     match verb {
         Verb::Once => make_once(alloc, &reading),
-        Verb::Print => make_print(alloc, &reading),
+        Verb::Check => {
+            let source = only_source(alloc, &reading)?;
+            Ok(Command::Check { source })
+        }
+        Verb::Print => {
+            let source = only_source(alloc, &reading)?;
+            Ok(Command::Print { source })
+        }
     }
 }

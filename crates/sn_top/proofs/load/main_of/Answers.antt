@@ -1,24 +1,40 @@
 use Rattle.std.proofs.Common.{◌≡◌, ◌<◌, All, get_or, length, Some, refl, sym, ap, ◌∙◌, subst}
 use Rattle.std.proofs.lemmas.Option.{slice_get-get_or}
 use Rattle.sn_net.specs.WellFormed.{FitsBoxes}
+use Rattle.sn_net.specs.declared.net.Claim.{Claim}
+use Rattle.sn_typing.specs.Accepted.{IsAccepted}
 use Rattle.sn_scope.specs.Resolution.{parts_of}
 use Rattle.sn_scope.specs.declared.resolved.Parts.{Parts}
 use Rattle.sn_top.proofs.load.main_of.Goals as goal
 
-pub returns : goal.returns
-returns c =
+-- the claim that was taken out is the main one
+taken_at : (c : goal.After-swap_remove-claim) → c.swap_remove-claim.result ≡ get_or (parts_of c.args.resolved).claims (parts_of c.args.resolved).main c.swap_remove-claim.result
+taken_at c =
+    let claim : Claim = c.swap_remove-claim.result in
+    c.swap_remove-claim.ensures.value ∙ ap (λ cs. get_or cs c.into_parts-names.result.main claim) c.into_vec-claims.ensures ∙ ap (λ (p : Parts). get_or p.claims p.main claim) c.into_parts-names.ensures.parts
+
+main_below : (c : goal.After-swap_remove-claim) → (parts_of c.args.resolved).main < length (parts_of c.args.resolved).claims
+main_below c = subst (λ (p : Parts). p.main < length p.claims) c.into_parts-names.ensures.parts c.into_parts-names.ensures.main
+
+pub returns-clause-main : goal.returns-clause-main
+returns-clause-main c = record {
+  names_are = ap (λ (p : Parts). p.names) c.into_parts-names.ensures.parts;
+  boxes_are = ap (λ (p : Parts). p.boxes) c.into_parts-names.ensures.parts;
+  main = slice_get-get_or (parts_of c.args.resolved).claims (parts_of c.args.resolved).main c.swap_remove-claim.result (main_below c) ∙ ap Some (sym (taken_at c));
+  accepted = c.requires;
+}
+
+pub returns-clause-accepted : goal.returns-clause-accepted
+returns-clause-accepted c =
     let parts : Parts = parts_of c.args.resolved in
-    let claim = c.swap_remove-claim.result in
-    let at : claim ≡ get_or parts.claims parts.main claim =
-    c.swap_remove-claim.ensures.value ∙ ap (λ cs. get_or cs c.into_parts-names.result.main claim) c.into_vec-claims.ensures ∙ ap (λ (p : Parts). get_or p.claims p.main claim) c.into_parts-names.ensures.parts in
-    let main : parts.main < length parts.claims = subst (λ (p : Parts). p.main < length p.claims) c.into_parts-names.ensures.parts c.into_parts-names.ensures.main in
+    let claim : Claim = c.swap_remove-claim.result in
+    subst (λ (p : Parts). IsAccepted p.boxes claim) (sym c.into_parts-names.ensures.parts)
+    (subst (IsAccepted parts.boxes) (sym (taken_at c)) (c.requires parts.main claim (main_below c)))
+
+pub returns-clause-formed : goal.returns-clause-formed
+returns-clause-formed c =
+    let parts : Parts = parts_of c.args.resolved in
+    let claim : Claim = c.swap_remove-claim.result in
     let all = subst (λ (p : Parts). All (λ claim. FitsBoxes p.boxes claim.net) p.claims) c.into_parts-names.ensures.parts c.into_parts-names.ensures.formed in
-    let fits : FitsBoxes parts.boxes claim.net = subst (λ x. FitsBoxes parts.boxes x.net) (sym at) (all parts.main claim main) in
-    record {
-      claim = claim;
-      main = slice_get-get_or parts.claims parts.main claim main ∙ ap Some (sym at);
-      names_are = ap (λ (p : Parts). p.names) c.into_parts-names.ensures.parts;
-      boxes_are = ap (λ (p : Parts). p.boxes) c.into_parts-names.ensures.parts;
-      net_is = refl;
-      formed = subst (λ (p : Parts). FitsBoxes p.boxes claim.net) (sym c.into_parts-names.ensures.parts) fits;
-    }
+    subst (λ (p : Parts). FitsBoxes p.boxes claim.net) (sym c.into_parts-names.ensures.parts)
+    (subst (λ (x : Claim). FitsBoxes parts.boxes x.net) (sym (taken_at c)) (all parts.main claim (main_below c)))
