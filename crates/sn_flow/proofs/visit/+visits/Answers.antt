@@ -1,4 +1,4 @@
-use Rattle.std.proofs.Common.{◌≡◌, ℕ, ◌<◌, ◌≤◌, ◌-◌, Bool, max, ◌∷◌, [], List, map, refl, sym, ap, ◌∙◌, subst, rules, arith}
+use Rattle.std.proofs.Common.{◌≡◌, ◌<◌, ◌≤◌, ◌-◌, Bool, max, ◌∷◌, [], List, map, refl, sym, ap, ◌∙◌, subst, rules, arith}
 use Rattle.std.proofs.Math.Nat.{max-le, le-max_left, le-max_right}
 use Rattle.std.proofs.lemmas.List.Elements.{All-get_or}
 use Rattle.std.proofs.lemmas.Result.{err_from_is_err_and}
@@ -135,11 +135,11 @@ visit_form-returns-in_ok-flow-in-Sync t c =
 pub visit_form-visit_series-requires : goal.visit_form-visit_series-requires
 visit_form-visit_series-requires t c = (
   (
-    let left : the_size c.get.result.now < the_size c.args.net.now = search (rules, the_lemmas) in
-    let right : the_size c.get-in-Serial.result.now < the_size c.args.net.now = search (rules, the_lemmas) in
-    let most : max (the_size c.get.result.now) (the_size c.get-in-Serial.result.now) ≤ the_size c.args.net.now - 1 = max-le (omega (arith, left)) (omega (arith, right)) in
-    omega (arith, left, most)
-  ),
+      let left : the_size c.get.result.now < the_size c.args.net.now = search (rules, the_lemmas) in
+      let right : the_size c.get-in-Serial.result.now < the_size c.args.net.now = search (rules, the_lemmas) in
+      let most : max (the_size c.get.result.now) (the_size c.get-in-Serial.result.now) ≤ the_size c.args.net.now - 1 = max-le (omega (arith, left)) (omega (arith, right)) in
+      omega (arith, left, most)
+      ),
   (
     left_formed c.args.boxes.now c.args.net.now c.requires c.in-Serial.left c.in-Serial.right c.get.result.now c.in-Serial.is c.get.ensures,
     right_formed c.args.boxes.now c.args.net.now c.requires c.in-Serial.left c.in-Serial.right c.get-in-Serial.result.now c.in-Serial.is c.get-in-Serial.ensures,
