@@ -3,7 +3,7 @@ ghost use Rattle.std.specs.Prelude.{◌≡◌, ◌&&◌, ℕ, map, not};
 ghost use Rattle.std.specs.List.{All};
 ghost use Rattle.sn_types.specs.RecordType.{is_subset};
 ghost use Rattle.sn_net.specs.WellFormed.{IsSoundChoice, IsWellFormed};
-ghost use Rattle.sn_typing.specs.Outline.{Choice, Series, Split, Star, branch_of, outline};
+ghost use Rattle.sn_typing.specs.Outline.{Choice, Series, Split, Star, branch_of, is_guarded, outline};
 ghost use Rattle.sn_flow.specs.Visits.{AllVisited, Closed, FormVisited, Visited, WithExit};
 
 use crate::chosen::{chosen, has_face};
@@ -13,7 +13,7 @@ use crate::sets::{MOST_VARIANTS, add, add_all, is_subset};
 use crate::stop::Stop;
 use crate::table::{Table, flow_of, has_row, put_part, take_part, with_row};
 use sn_list::Seq;
-use sn_net::{Boxes, Net};
+use sn_net::{Boxes, Net, TagExpr};
 use sn_record::{Kind, Label, LabelSet};
 use std::alloc::Global;
 
@@ -74,28 +74,16 @@ fn visit_form(
             branches,
             faces,
             ..
-        } => visit_choice(
-            alloc,
-            branches.as_slice(),
-            faces.as_slice(),
-            boxes,
-            parts,
-            variant,
-        ),
+        } => {
+            let branches = branches.as_slice();
+            visit_choice(alloc, branches, faces.as_slice(), boxes, parts, variant)
+        }
         Net::Star {
             body,
             exit,
             guard,
             ..
-        } => visit_star(
-            alloc,
-            body.get(),
-            exit,
-            guard.is_some(),
-            boxes,
-            parts,
-            variant,
-        ),
+        } => visit_star(alloc, body.get(), exit, guard, boxes, parts, variant),
         Net::Split { body, tag, .. } => {
             visit_split(alloc, body.get(), *tag, boxes, parts, variant)
         }
@@ -161,16 +149,16 @@ fn visit_star(
     alloc: Global,
     body: &Net,
     exit: &LabelSet,
-    guarded: bool,
+    guard: &Option<TagExpr>,
     boxes: &Boxes,
     parts: Seq<Table>,
     variant: &LabelSet,
 ) -> Result<(Seq<Table>, Seq<LabelSet>), Stop>
     requires { IsWellFormed boxes.now body.now }
-    ensures { FormVisited (Star exit.now guarded (outline boxes.now body.now)) variant.now parts result }
+    ensures { FormVisited (Star exit.now (is_guarded guard.now) (outline boxes.now body.now)) variant.now parts result }
 {
     let (inner, parts) = take_part(alloc, parts, 0);
-    let (inner, members) = close(alloc, body, boxes, inner, exit, guarded, variant)?;
+    let (inner, members) = close(alloc, body, boxes, inner, exit, guard.is_some(), variant)?;
     let flow = with_exit(alloc, members.as_slice(), exit)?;
     let parts = put_part(alloc, parts, 0, inner)?;
     Ok((parts, flow))

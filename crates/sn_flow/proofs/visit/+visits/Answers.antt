@@ -9,7 +9,7 @@ use Rattle.sn_net.specs.declared.net.Net.TheViews.{the_lemmas}
 use Rattle.sn_net.specs.Face.{variant_of}
 use Rattle.sn_net.specs.WellFormed.{IsWellFormed}
 use Rattle.sn_net.proofs.net.Net.TheLaws.{the_size}
-use Rattle.sn_typing.specs.Outline.{Choice, Component, Series, Split, Star, Outline, branch_of, outline, template_variant}
+use Rattle.sn_typing.specs.Outline.{Choice, Component, Series, Split, Star, Outline, branch_of, is_guarded, outline, template_variant}
 use Rattle.sn_flow.specs.Chosen.{chosen_of}
 use Rattle.sn_flow.specs.Tables.{rows_of}
 use Rattle.sn_flow.specs.Visits.{Added, Adds, AllVisited, Closes, FormVisited, WithExit}
@@ -155,15 +155,15 @@ pub visit_form-visit_choice-requires : goal.visit_form-visit_choice-requires
 visit_form-visit_choice-requires t c = (
   search (rules, the_lemmas),
   (
-    slices_formed c.args.boxes.now c.args.net.now c.requires c.in-Choice.place c.in-Choice.merge c.in-Choice.branches c.in-Choice.faces c.in-Choice.is c.as_slice-in-Choice.result.now c.as_slice-in-Choice.ensures,
-    slices_sound c.args.boxes.now c.args.net.now c.requires c.in-Choice.place c.in-Choice.merge c.in-Choice.branches c.in-Choice.faces c.in-Choice.is c.as_slice-in-Choice.result.now c.as_slice-in-Choice-2.result.now c.as_slice-in-Choice.ensures c.as_slice-in-Choice-2.ensures,
+    slices_formed c.args.boxes.now c.args.net.now c.requires c.in-Choice.place c.in-Choice.merge c.in-Choice.branches c.in-Choice.faces c.in-Choice.is c.as_slice-branches.result.now c.as_slice-branches.ensures,
+    slices_sound c.args.boxes.now c.args.net.now c.requires c.in-Choice.place c.in-Choice.merge c.in-Choice.branches c.in-Choice.faces c.in-Choice.is c.as_slice-branches.result.now c.as_slice-in-Choice.result.now c.as_slice-branches.ensures c.as_slice-in-Choice.ensures,
   ),
 )
 
 pub visit_form-returns-in-Choice : goal.visit_form-returns-in-Choice
 visit_form-returns-in-Choice t c =
     subst (λ (o : Outline). FormVisited o c.args.variant.now c.args.parts c.visit_choice.result)
-    (sym (slices_are c.args.boxes.now c.args.net.now c.in-Choice.place c.in-Choice.merge c.in-Choice.branches c.in-Choice.faces c.as_slice-in-Choice.result.now c.as_slice-in-Choice-2.result.now c.in-Choice.is c.as_slice-in-Choice.ensures c.as_slice-in-Choice-2.ensures))
+    (sym (slices_are c.args.boxes.now c.args.net.now c.in-Choice.place c.in-Choice.merge c.in-Choice.branches c.in-Choice.faces c.as_slice-branches.result.now c.as_slice-in-Choice.result.now c.in-Choice.is c.as_slice-branches.ensures c.as_slice-in-Choice.ensures))
     (c.visit_choice.ensures c.in-Choice.place)
 
 pub visit_form-visit_star-requires : goal.visit_form-visit_star-requires
@@ -173,8 +173,7 @@ visit_form-visit_star-requires t c =
 pub visit_form-returns-in-Star : goal.visit_form-returns-in-Star
 visit_form-returns-in-Star t c =
     subst (λ (o : Outline). FormVisited o c.args.variant.now c.args.parts c.visit_star.result)
-    (sym (star_is c.args.boxes.now c.args.net.now c.in-Star.place c.in-Star.merge c.in-Star.body c.in-Star.exit c.in-Star.guard c.get-in-Star.result.now c.in-Star.is c.get-in-Star.ensures))
-    (subst (λ (b : Bool). FormVisited (Star c.in-Star.exit b (outline c.args.boxes.now c.get-in-Star.result.now)) c.args.variant.now c.args.parts c.visit_star.result) (c.is_some.ensures ∙ guard_some c.in-Star.guard) c.visit_star.ensures)
+    (sym (star_is c.args.boxes.now c.args.net.now c.in-Star.place c.in-Star.merge c.in-Star.body c.in-Star.exit c.in-Star.guard c.get-in-Star.result.now c.in-Star.is c.get-in-Star.ensures)) c.visit_star.ensures
 
 pub visit_form-visit_split-requires : goal.visit_form-visit_split-requires
 visit_form-visit_split-requires t c =
@@ -256,18 +255,21 @@ pub visit_star-returns-in_err-inner : goal.visit_star-returns-in_err-inner
 visit_star-returns-in_err-inner t c =
     let p = err_from_is_err_and c.from_residual.result c.from_residual.ensures.1 in
     rw (p.1, p.2)
-    (star_stops (Star c.args.exit.now c.args.guarded (outline c.args.boxes.now c.args.body.now)) c.args.exit.now c.args.guarded (outline c.args.boxes.now c.args.body.now) c.args.variant.now c.args.parts refl c.take_part-inner.result.0 c.take_part-inner.result.1 c.take_part-inner.ensures.part c.in_err-inner.field-0.0 c.in_err-inner.ensures)
+    (star_stops (Star c.args.exit.now (is_guarded c.args.guard.now) (outline c.args.boxes.now c.args.body.now)) c.args.exit.now c.is_some.result (outline c.args.boxes.now c.args.body.now) c.args.variant.now c.args.parts
+    (ap (λ (b : Bool). Star c.args.exit.now b (outline c.args.boxes.now c.args.body.now)) (sym (c.is_some.ensures ∙ guard_some c.args.guard.now))) c.take_part-inner.result.0 c.take_part-inner.result.1 c.take_part-inner.ensures.part c.in_err-inner.field-0.0 c.in_err-inner.ensures)
 
 pub visit_star-returns-in_err-flow : goal.visit_star-returns-in_err-flow
 visit_star-returns-in_err-flow t c =
     let p = err_from_is_err_and c.from_residual-in_err-flow.result c.from_residual-in_err-flow.ensures.1 in
     rw (p.1, p.2)
-    (exit_stops (Star c.args.exit.now c.args.guarded (outline c.args.boxes.now c.args.body.now)) c.args.exit.now c.args.guarded (outline c.args.boxes.now c.args.body.now) c.args.variant.now c.args.parts refl c.take_part-inner.result.0 c.take_part-inner.result.1 c.take_part-inner.ensures.part c.in_ok-inner.inner c.in_ok-inner.members c.in_err-flow.field-0.0 c.in_ok-inner.ensures
+    (exit_stops (Star c.args.exit.now (is_guarded c.args.guard.now) (outline c.args.boxes.now c.args.body.now)) c.args.exit.now c.is_some.result (outline c.args.boxes.now c.args.body.now) c.args.variant.now c.args.parts
+    (ap (λ (b : Bool). Star c.args.exit.now b (outline c.args.boxes.now c.args.body.now)) (sym (c.is_some.ensures ∙ guard_some c.args.guard.now))) c.take_part-inner.result.0 c.take_part-inner.result.1 c.take_part-inner.ensures.part c.in_ok-inner.inner c.in_ok-inner.members c.in_err-flow.field-0.0 c.in_ok-inner.ensures
     (subst (λ (ms : List Labels). WithExit ms c.args.exit.now (Err c.in_err-flow.field-0.0)) c.as_slice.ensures c.in_err-flow.ensures))
 
 pub visit_star-returns : goal.visit_star-returns
 visit_star-returns t c =
-    star_form (Star c.args.exit.now c.args.guarded (outline c.args.boxes.now c.args.body.now)) c.args.exit.now c.args.guarded (outline c.args.boxes.now c.args.body.now) c.args.variant.now c.args.parts refl c.take_part-inner.result.0 c.take_part-inner.result.1 c.take_part-inner.ensures.part c.in_ok-inner.inner c.in_ok-inner.members c.in_ok-flow.flow c.in_ok-parts.parts c.in_ok-inner.ensures
+    star_form (Star c.args.exit.now (is_guarded c.args.guard.now) (outline c.args.boxes.now c.args.body.now)) c.args.exit.now c.is_some.result (outline c.args.boxes.now c.args.body.now) c.args.variant.now c.args.parts
+    (ap (λ (b : Bool). Star c.args.exit.now b (outline c.args.boxes.now c.args.body.now)) (sym (c.is_some.ensures ∙ guard_some c.args.guard.now))) c.take_part-inner.result.0 c.take_part-inner.result.1 c.take_part-inner.ensures.part c.in_ok-inner.inner c.in_ok-inner.members c.in_ok-flow.flow c.in_ok-parts.parts c.in_ok-inner.ensures
     (subst (λ (ms : List Labels). WithExit ms c.args.exit.now (Ok c.in_ok-flow.flow)) c.as_slice.ensures c.in_ok-flow.ensures) c.in_ok-parts.ensures.part
 
 pub visit_split-returns-then-not-contains : goal.visit_split-returns-then-not-contains
