@@ -1,17 +1,15 @@
--- What a table that holds says of the network: that it is bounded, and whether it is safe.
+-- What a table that holds says of the network: that it is bounded, and what reaches its parts.
 use Rattle.std.proofs.Common.{◌≤◌, List, [], ◌∷◌, ◌++◌, length, sym, subst, arith, append_assoc, append-nil}
 use Rattle.std.specs.List.{Contains}
 use Rattle.std.proofs.Math.ListN.{length-map}
 use Rattle.sn_record.specs.LabelSet.{Labels, union}
 use Rattle.sn_typing.specs.Outline.{Outline, Component, Series, Choice, Star, Split}
-use Rattle.sn_typing.specs.Flow.{IsRouted, Safe}
 use Rattle.sn_typing.specs.Reached.{Turn, Left, Right, Branch, Body, Reached, Reached.{here, left, right, branch, inside, replica}}
 use Rattle.sn_typing.specs.Accepted.{AreFew, ComesTo, IsBounded, IsReached, most_variants}
-use Rattle.sn_typing.proofs.Routes.{routed_safe}
 use Rattle.sn_flow.specs.declared.table.Row.{Row}
 use Rattle.sn_flow.specs.declared.table.Table.{Table}
 use Rattle.sn_flow.specs.Tables.{Came, Covers, Holds, child, rows_of, variants_of}
-use Rattle.sn_flow.specs.Routed.{AllRouted, RowAt, RowAt.{here as row_here, left as row_left, right as row_right, branch as row_branch, inside as row_inside, replica as row_replica}}
+use Rattle.sn_flow.specs.Rows.{RowAt, RowAt.{here as row_here, left as row_left, right as row_right, branch as row_branch, inside as row_inside, replica as row_replica}}
 use Rattle.sn_flow.proofs.Lists.{mapped}
 
 -- the table of the part at the way
@@ -86,23 +84,6 @@ module _ (net : Outline) (input : List Labels) (t : Table) (holds : Holds net t)
         record { all = known.0.row.flow; few = known.0.flow.few; listed = λ w flow. (known.0.flow.same w).1 flow };
     stars = λ way part u is. few_come part (table_at t way) u (covers_reached net is.variant way part u t is.reached (covers is.variant is.listed));
   }
-
--- a row that is routed
-row_routed : (net : Outline) (t : Table) (v : Labels) → Covers net t v → AllRouted net t → IsRouted net v
-row_routed net t v covers all = subst (IsRouted net) covers.0.variant (all.0 covers.0.row covers.0.listed)
-
-routed_at : (net : Outline) (v : Labels) (way : List Turn) (part : Outline) (u : Labels) (t : Table) → Reached net v way part u → Covers net t v → AllRouted net t → IsRouted part u
-routed_at net v way part u t (here net' v') covers all = row_routed net t v covers all
-routed_at net v way part u t (left a b v' way' part' u' reached) covers all = routed_at a v way' part u (child t 0) reached covers.1.0 all.1.0
-routed_at net v way part u t (right a b v' w way' part' u' flow reached) covers all = routed_at b w way' part u (child t 1) reached (covers.1.1 w flow) all.1.1
-routed_at net v way part u t (branch place faces branches v' i w way' part' u' has unbeaten reached) covers all =
-    routed_at (branches i) (union v w) way' part u (child t i) reached (covers.1 has i w unbeaten) (all.1 i)
-routed_at net v way part u t (inside exit guarded body v' w way' part' u' come stays reached) covers all = routed_at body w way' part u (child t 0) reached (covers.1.1 w come stays) all.1
-routed_at net v way part u t (replica place id body v' way' part' u' there reached) covers all = routed_at body v way' part u (child t 0) reached (covers.1 there) all.1
-
--- where all rows have routes, the network is safe
-pub table_safe : (net : Outline) (v : Labels) (t : Table) → Covers net t v → AllRouted net t → Safe net v
-table_safe net v t covers all = routed_safe net v (λ way part u reached. routed_at net v way part u t reached covers all)
 
 -- each row is of a variant that reaches its part
 pub row_reached : (root : Outline) (input : List Labels) (before : List Turn) (net : Outline) (t : Table) (way : List Turn) (part : Outline) (u : Labels)

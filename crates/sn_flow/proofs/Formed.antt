@@ -1,12 +1,12 @@
 -- The parts and the outline of a well-formed network, as a match on it shows them.
-use Rattle.std.proofs.Common.{◌≡◌, ℕ, ◌<◌, List, [], ◌∷◌, length, map, refl, sym, ap, ◌∙◌, subst}
+use Rattle.std.proofs.Common.{◌≡◌, ℕ, ◌<◌, List, [], ◌∷◌, get_or, length, map, refl, sym, ap, ◌∙◌, subst}
 use Rattle.std.specs.Prelude.{Option, Some, None, is_some, slice_get, unwrap_or}
 use Rattle.std.specs.Option.{option_map}
 use Rattle.std.proofs.Math.ListN.{length-map}
 use Rattle.std.specs.List.{All}
 use Rattle.std.specs.FinMap as finite
 use Rattle.std.proofs.lemmas.List.Elements.{All-head, All-tail}
-use Rattle.std.proofs.lemmas.Option.{slice_get_within, get_or_from_slice_get, slice_get-map}
+use Rattle.std.proofs.lemmas.Option.{slice_get_within, get_or_from_slice_get, slice_get-map, slice_get_read}
 use Rattle.sn_record.specs.LabelSet.{Labels}
 use Rattle.sn_tagexpr.specs.declared.expr.TagExpr.{TagExpr}
 use Rattle.sn_net.specs.declared.expr.BoxProgram.{BoxProgram}
@@ -55,6 +55,14 @@ module _ (boxes : List BoxProgram) (net : Net) (formed : IsWellFormed boxes net)
     pub sound_choice : IsSoundChoice boxes branches faces
     sound_choice = level_sound boxes (Net-F.Choice place merge branches faces) rolled
 
+    -- the same of slices
+    pub slices_formed : (nets : List Net) → nets ≡ branches → All (IsWellFormed boxes) nets
+    slices_formed nets are = subst (All (IsWellFormed boxes)) (sym are) (parts_formed boxes (Net-F.Choice place merge branches faces) rolled)
+
+    pub slices_sound : (nets : List Net) (sliced : List (List Labels)) → nets ≡ branches → sliced ≡ faces → IsSoundChoice boxes nets sliced
+    slices_sound nets sliced are faces_are =
+        subst (IsSoundChoice boxes nets) (sym faces_are) (subst (λ (ns : List Net). IsSoundChoice boxes ns faces) (sym are) sound_choice)
+
 module _ (boxes : List BoxProgram) (net : Net) where
   pub box_is : (place number : ℕ) (program : BoxProgram) → net ≡ form.Box place number → slice_get boxes number ≡ Some program
       → outline boxes net ≡ Component place (variant_of program.input ∷ []) (variant_of program.input) (map variant_of program.outputs)
@@ -74,6 +82,12 @@ module _ (boxes : List BoxProgram) (net : Net) where
       → outline boxes net ≡ Choice place faces (branch_of (map (outline boxes) branches))
   choice_is place merge branches faces is = ap (outline boxes) is ∙ outline-Choice boxes place merge branches faces
 
+  pub slices_are : (place : ℕ) (merge : Merge) (branches : List Net) (faces : List (List Labels)) (nets : List Net) (sliced : List (List Labels)) → net ≡ form.Choice place merge branches faces → nets ≡ branches → sliced ≡ faces
+      → outline boxes net ≡ Choice place sliced (branch_of (map (outline boxes) nets))
+  slices_are place merge branches faces nets sliced is are faces_are =
+      choice_is place merge branches faces is ∙ ap (λ (fs : List (List Labels)). Choice place fs (branch_of (map (outline boxes) branches))) (sym faces_are)
+      ∙ ap (λ (ns : List Net). Choice place sliced (branch_of (map (outline boxes) ns))) (sym are)
+
   pub star_is : (place : ℕ) (merge : Merge) (body : Net) (exit : Labels) (guard : Option TagExpr) (got : Net) → net ≡ form.Star place merge body exit guard → got ≡ body
       → outline boxes net ≡ Star exit (is_guarded guard) (outline boxes got)
   star_is place merge body exit guard got is same = ap (outline boxes) is ∙ outline-Star boxes place merge body exit guard ∙ ap (λ (n : Net). Star exit (is_guarded guard) (outline boxes n)) (sym same)
@@ -85,6 +99,9 @@ module _ (boxes : List BoxProgram) (net : Net) where
 pub branch_got : (boxes : List BoxProgram) (branches : List Net) (i : ℕ) (got : Net) → slice_get branches i ≡ Some got → branch_of (map (outline boxes) branches) i ≡ outline boxes got
 branch_got boxes branches i got here =
     ap (λ (b : Option Outline). unwrap_or b (nowhere 0)) (slice_get-map (outline boxes) branches i ∙ ap (option_map (outline boxes)) here)
+
+pub branch_read : (boxes : List BoxProgram) (branches : List Net) (i : ℕ) (got : Net) → i < length branches → got ≡ get_or branches i got → branch_of (map (outline boxes) branches) i ≡ outline boxes got
+branch_read boxes branches i got below is = branch_got boxes branches i got (slice_get_read branches (length branches) i got refl below is)
 
 -- there are as many faces as branches
 pub as_many : (boxes : List BoxProgram) (branches : List Net) (faces : List (List Labels)) → IsSoundChoice boxes branches faces → length faces ≡ length branches

@@ -1,5 +1,5 @@
 -- The branches of a choice are visited one after another.
-use Rattle.std.proofs.Common.{◌≡◌, ◌⊎◌, inl, inr, ◌==◌, ℕ, zero, suc, ◌+◌, ◌<◌, ◌≤◌, Bool, true, false, cond, IsTrue, List, [], ◌∷◌, length, Option, Some, None, refl, sym, ap, ◌∙◌, subst, arith}
+use Rattle.std.proofs.Common.{◌≡◌, ◌⊎◌, inl, inr, ◌==◌, ℕ, zero, suc, ◌+◌, ◌<◌, ◌≤◌, Bool, true, false, cond, IsTrue, List, [], ◌∷◌, get_or, length, Option, Some, None, refl, sym, ap, ◌∙◌, subst, arith}
 use Rattle.std.specs.Prelude.{nat_lt, slice_get, unwrap_or, Ok, Err}
 use Rattle.std.specs.List.{Contains, list_any}
 use Rattle.std.proofs.lemmas.Bool.Decides.{nat_tests}
@@ -11,7 +11,7 @@ use Rattle.sn_typing.specs.Flow.{HasFace}
 use Rattle.sn_flow.specs.declared.stop.Stop.{Stop}
 use Rattle.sn_flow.specs.declared.stop.Stop.TheVariants.{TooMany, Memory}
 use Rattle.sn_flow.specs.declared.table.Table.{Table}
-use Rattle.std.proofs.lemmas.Option.{slice_get-get_or, slice_get_within, get_or_from_slice_get}
+use Rattle.std.proofs.lemmas.Option.{slice_get-get_or, slice_get_within, get_or_from_slice_get, slice_get_read}
 use Rattle.sn_flow.specs.Chosen.{chosen_of, sent_of, sent_until}
 use Rattle.sn_flow.specs.Tables.{Came, Holds, child, part_at}
 use Rattle.sn_flow.specs.Visits.{Added, Adds, AddsRow, AllVisited, AreFlows, FlowsFrom, FormVisited, Going, Refuted, SameElsewhere, VisitsAll}
@@ -196,6 +196,10 @@ module _ (branch : ℕ → Outline) (faces : List (List Labels)) (v : Labels) (b
   going_none net place flow net_is without empty = λ whole t are t_is rows.
       subst (λ (o : Outline). AddsRow o v whole t flow) (sym net_is)
       (choice_unrouted place faces branch v whole (sent_of faces v) t flow rows (λ i. ap (λ (ps : List Table). part_at ps i) (t_is ∙ sym are)) without empty)
+
+-- what is sent to a branch whose face was read
+pub sent_read : (faces : List (List Labels)) (i : ℕ) (v : Labels) (face : List Labels) → i < length faces → face ≡ get_or faces i face → chosen_of faces i v face ≡ sent_of faces v i
+sent_read faces i v face below is = ap (chosen_of faces i v) (sym (ap (λ (f : Option (List Labels)). unwrap_or f []) (slice_get_read faces (length faces) i face refl below is)))
 
 pub face_found : (faces : List (List Labels)) (v : Labels) (b : Bool) → b ≡ list_any (λ face. has_subset face v) faces → b ≡ true → HasFace faces v
 face_found faces v b is test = at faces (λ face there. there) (any_found (λ face. has_subset face v) faces (sym is ∙ test))

@@ -16,7 +16,7 @@ use Rattle.sn_flow.specs.declared.spots.Spot.{Spot}
 use Rattle.sn_flow.specs.declared.table.Row.{Row}
 use Rattle.sn_flow.specs.declared.table.Table.{Table}
 use Rattle.sn_flow.specs.Tables.{Covers, child, rows_of}
-use Rattle.sn_flow.specs.Routed.{RowAt, RowAt.{here as row_here, left as row_left, right as row_right, branch as row_branch, inside as row_inside, replica as row_replica}}
+use Rattle.sn_flow.specs.Rows.{RowAt, RowAt.{here as row_here, left as row_left, right as row_right, branch as row_branch, inside as row_inside, replica as row_replica}}
 use Rattle.sn_flow.specs.Spots.{is_routed, joined, place_of, row_spots, spot, spots}
 use Rattle.sn_flow.proofs.Goings.{face_found, no_face}
 use Rattle.sn_flow.proofs.Lists.{behind, cases, head, none}

@@ -10,7 +10,7 @@ use crate::sets::{add, has_subset};
 use crate::stop::Stop;
 use sn_list::{Memory, Seq};
 use sn_net::{BoxProgram, Filter, Template, variant_of};
-use sn_record::LabelSet;
+use sn_record::{Label, LabelSet};
 use sn_stack::append;
 use std::alloc::Global;
 

@@ -5,23 +5,17 @@ ghost use Rattle.sn_record.specs.LabelSet.{Labels};
 ghost use Rattle.sn_net.specs.declared.expr.BoxProgram.{BoxProgram};
 ghost use Rattle.sn_net.specs.declared.net.Claim.{Claim};
 ghost use Rattle.sn_typing.specs.Outline.{Outline};
-ghost use Rattle.sn_typing.specs.Flow.{Safe};
 ghost use Rattle.sn_typing.specs.Reached.{Turn};
 ghost use Rattle.sn_typing.specs.Accepted.{IsBounded, IsReached};
 ghost use Rattle.sn_flow.specs.declared.table.Table.{Table};
 ghost use Rattle.sn_flow.specs.Tables.{Came, Covers, Holds, no_table};
-ghost use Rattle.sn_flow.specs.Routed.{AllRouted, RowAt};
+ghost use Rattle.sn_flow.specs.Rows.{RowAt};
 ghost use Rattle.sn_flow.specs.declared.fault.FlowFault.{FlowFault};
 ghost use Rattle.sn_flow.specs.Verdicts.{AreOne, Checked, Decided, FlowFound};
 
 /// Where a table holds and covers each variant of the input, the network is bounded.
 pub fn tables_bound()
     ensures { (net : Outline) (input : List Labels) (t : Table) → Holds net t → ((v : Labels) → Contains input v → Covers net t v) → IsBounded net input }
-{}
-
-/// Where each row has a route, the network is safe for what is covered.
-pub fn routed_rows_make_safe()
-    ensures { (net : Outline) (v : Labels) (t : Table) → Covers net t v → AllRouted net t → Safe net v }
 {}
 
 /// Each row is of a variant that reaches its part.

@@ -1,8 +1,9 @@
 //! Visits: what is reached from a variant, with each part's table.
-ghost use Rattle.std.specs.Prelude.{◌≡◌, ◌&&◌, not};
+ghost use Rattle.std.specs.Prelude.{◌≡◌, ◌&&◌, ℕ, map, not};
+ghost use Rattle.std.specs.List.{All};
 ghost use Rattle.sn_types.specs.RecordType.{is_subset};
-ghost use Rattle.sn_net.specs.WellFormed.{IsWellFormed};
-ghost use Rattle.sn_typing.specs.Outline.{outline};
+ghost use Rattle.sn_net.specs.WellFormed.{IsSoundChoice, IsWellFormed};
+ghost use Rattle.sn_typing.specs.Outline.{Choice, Series, Split, Star, branch_of, is_guarded, outline};
 ghost use Rattle.sn_flow.specs.Visits.{AllVisited, Closed, FormVisited, Visited, WithExit};
 
 use crate::chosen::{chosen, has_face};
@@ -12,7 +13,7 @@ use crate::sets::{MOST_VARIANTS, add, add_all, is_subset};
 use crate::stop::Stop;
 use crate::table::{Table, flow_of, has_row, put_part, take_part, with_row};
 use sn_list::Seq;
-use sn_net::{Boxes, Net};
+use sn_net::{Boxes, Net, TagExpr};
 use sn_record::{Kind, Label, LabelSet};
 use std::alloc::Global;
 
@@ -67,69 +68,127 @@ fn visit_form(
             Ok((parts, flow))
         }
         Net::Serial { left, right } => {
-            let (first, parts) = take_part(alloc, parts, 0);
-            let first = visit(alloc, left.get(), boxes, first, variant)?;
-            let middle = flow_of(alloc, &first.rows, variant)?;
-            let parts = put_part(alloc, parts, 0, first)?;
-            let (second, parts) = take_part(alloc, parts, 1);
-            let (second, flow) = visit_all(alloc, right.get(), boxes, second, middle.as_slice())?;
-            let parts = put_part(alloc, parts, 1, second)?;
-            Ok((parts, flow))
+            visit_series(alloc, left.get(), right.get(), boxes, parts, variant)
         }
         Net::Choice {
             branches,
             faces,
             ..
         } => {
-            if !has_face(faces.as_slice(), variant) {
-                return Ok((parts, Seq::new(alloc)));
-            }
-            let mut parts = parts;
-            let mut flow = Indexed::new(alloc);
-            for i in 0..branches.len() {
-                let sent = chosen(alloc, faces.as_slice(), i, variant, faces.at(i).as_slice())?;
-                let (part, others) = take_part(alloc, parts, i);
-                let (part, more) = visit_all(alloc, branches.at(i), boxes, part, sent.as_slice())?;
-                add_all(alloc, &mut flow, more.as_slice())?;
-                parts = put_part(alloc, others, i, part)?;
-            }
-            Ok((parts, flow.into_seq()))
+            let branches = branches.as_slice();
+            visit_choice(alloc, branches, faces.as_slice(), boxes, parts, variant)
         }
         Net::Star {
             body,
             exit,
             guard,
             ..
-        } => {
-            let (inner, parts) = take_part(alloc, parts, 0);
-            let (inner, members) = close(
-                alloc,
-                body.get(),
-                boxes,
-                inner,
-                exit,
-                guard.is_some(),
-                variant,
-            )?;
-            let flow = with_exit(alloc, members.as_slice(), exit)?;
-            let parts = put_part(alloc, parts, 0, inner)?;
-            Ok((parts, flow))
-        }
+        } => visit_star(alloc, body.get(), exit, guard, boxes, parts, variant),
         Net::Split { body, tag, .. } => {
-            let tag = Label {
-                kind: Kind::Tag,
-                id: *tag,
-            };
-            if !variant.contains(tag) {
-                return Ok((parts, Seq::new(alloc)));
-            }
-            let (inner, parts) = take_part(alloc, parts, 0);
-            let inner = visit(alloc, body.get(), boxes, inner, variant)?;
-            let flow = flow_of(alloc, &inner.rows, variant)?;
-            let parts = put_part(alloc, parts, 0, inner)?;
-            Ok((parts, flow))
+            visit_split(alloc, body.get(), *tag, boxes, parts, variant)
         }
     }
+}
+
+/// The same for two networks in series: the second is visited with what flows out of the first.
+#[cycle(visits)]
+fn visit_series(
+    alloc: Global,
+    left: &Net,
+    right: &Net,
+    boxes: &Boxes,
+    parts: Seq<Table>,
+    variant: &LabelSet,
+) -> Result<(Seq<Table>, Seq<LabelSet>), Stop>
+    requires left { IsWellFormed boxes.now left.now }
+    requires right { IsWellFormed boxes.now right.now }
+    ensures { FormVisited (Series (outline boxes.now left.now) (outline boxes.now right.now)) variant.now parts result }
+{
+    let (first, parts) = take_part(alloc, parts, 0);
+    let first = visit(alloc, left, boxes, first, variant)?;
+    let middle = flow_of(alloc, &first.rows, variant)?;
+    let parts = put_part(alloc, parts, 0, first)?;
+    let (second, parts) = take_part(alloc, parts, 1);
+    let (second, flow) = visit_all(alloc, right, boxes, second, middle.as_slice())?;
+    let parts = put_part(alloc, parts, 1, second)?;
+    Ok((parts, flow))
+}
+
+/// The same for a choice of branches with these faces: each branch is visited with what is sent to it.
+#[cycle(visits)]
+fn visit_choice(
+    alloc: Global,
+    branches: &[Net],
+    faces: &[Seq<LabelSet>],
+    boxes: &Boxes,
+    parts: Seq<Table>,
+    variant: &LabelSet,
+) -> Result<(Seq<Table>, Seq<LabelSet>), Stop>
+    requires formed { All (IsWellFormed boxes.now) branches.now }
+    requires sound { IsSoundChoice boxes.now branches.now faces.now }
+    ensures { (place : ℕ) → FormVisited (Choice place faces.now (branch_of (map (outline boxes.now) branches.now))) variant.now parts result }
+{
+    if !has_face(faces, variant) {
+        return Ok((parts, Seq::new(alloc)));
+    }
+    let mut parts = parts;
+    let mut flow = Indexed::new(alloc);
+    for i in 0..branches.len() {
+        let sent = chosen(alloc, faces, i, variant, faces[i].as_slice())?;
+        let (part, others) = take_part(alloc, parts, i);
+        let (part, more) = visit_all(alloc, &branches[i], boxes, part, sent.as_slice())?;
+        add_all(alloc, &mut flow, more.as_slice())?;
+        parts = put_part(alloc, others, i, part)?;
+    }
+    Ok((parts, flow.into_seq()))
+}
+
+/// The same for a star: its body is visited with all that comes and stays, and all that comes flows out, with the exit.
+#[cycle(visits)]
+fn visit_star(
+    alloc: Global,
+    body: &Net,
+    exit: &LabelSet,
+    guard: &Option<TagExpr>,
+    boxes: &Boxes,
+    parts: Seq<Table>,
+    variant: &LabelSet,
+) -> Result<(Seq<Table>, Seq<LabelSet>), Stop>
+    requires { IsWellFormed boxes.now body.now }
+    ensures { FormVisited (Star exit.now (is_guarded guard.now) (outline boxes.now body.now)) variant.now parts result }
+{
+    let (inner, parts) = take_part(alloc, parts, 0);
+    let (inner, members) = close(alloc, body, boxes, inner, exit, guard.is_some(), variant)?;
+    let flow = with_exit(alloc, members.as_slice(), exit)?;
+    let parts = put_part(alloc, parts, 0, inner)?;
+    Ok((parts, flow))
+}
+
+/// The same for a split, which has a route where the variant has its tag.
+#[cycle(visits)]
+fn visit_split(
+    alloc: Global,
+    body: &Net,
+    tag: u32,
+    boxes: &Boxes,
+    parts: Seq<Table>,
+    variant: &LabelSet,
+) -> Result<(Seq<Table>, Seq<LabelSet>), Stop>
+    requires { IsWellFormed boxes.now body.now }
+    ensures { (place : ℕ) → FormVisited (Split place tag (outline boxes.now body.now)) variant.now parts result }
+{
+    let label = Label {
+        kind: Kind::Tag,
+        id: tag,
+    };
+    if !variant.contains(label) {
+        return Ok((parts, Seq::new(alloc)));
+    }
+    let (inner, parts) = take_part(alloc, parts, 0);
+    let inner = visit(alloc, body, boxes, inner, variant)?;
+    let flow = flow_of(alloc, &inner.rows, variant)?;
+    let parts = put_part(alloc, parts, 0, inner)?;
+    Ok((parts, flow))
 }
 
 /// The table after visits of the network with each of the variants, and what flows out for them together.

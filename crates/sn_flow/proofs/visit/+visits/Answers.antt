@@ -1,21 +1,21 @@
-use Rattle.std.proofs.Common.{◌≡◌, ◌<◌, Bool, get_or, length, ◌∷◌, [], List, Some, map, refl, sym, ap, ◌∙◌, subst, rules, arith}
-use Rattle.std.specs.Prelude.{unwrap_or, Option, Ok, Err}
-use Rattle.std.specs.List.{list_any}
-use Rattle.sn_types.specs.RecordType.{has_subset}
+use Rattle.std.proofs.Common.{◌≡◌, ◌<◌, ◌≤◌, ◌-◌, Bool, max, ◌∷◌, [], List, map, refl, sym, ap, ◌∙◌, subst, rules, arith}
+use Rattle.std.proofs.Math.Nat.{max-le, le-max_left, le-max_right}
+use Rattle.std.proofs.lemmas.List.Elements.{All-get_or}
+use Rattle.std.proofs.lemmas.Result.{err_from_is_err_and}
+use Rattle.std.specs.Prelude.{Ok, Err, Some}
 use Rattle.std.specs.FinMap.{empty}
 use Rattle.sn_record.specs.LabelSet.{Labels}
 use Rattle.sn_net.specs.declared.net.Net.TheViews.{the_lemmas}
 use Rattle.sn_net.specs.Face.{variant_of}
-use Rattle.sn_typing.specs.Outline.{Component, Star, Outline, branch_of, template_variant}
+use Rattle.sn_net.specs.WellFormed.{IsWellFormed}
+use Rattle.sn_net.proofs.net.Net.TheLaws.{the_size}
+use Rattle.sn_typing.specs.Outline.{Choice, Component, Series, Split, Star, Outline, branch_of, is_guarded, outline, template_variant}
 use Rattle.sn_flow.specs.Chosen.{chosen_of}
-use Rattle.std.proofs.lemmas.Option.{get_or_from_slice_get, slice_get_within}
 use Rattle.sn_flow.specs.Tables.{rows_of}
 use Rattle.sn_flow.specs.Visits.{Added, Adds, AllVisited, Closes, FormVisited, WithExit}
 use Rattle.sn_flow.proofs.Choosing.{true_false}
-use Rattle.sn_flow.proofs.Formed.{as_many, guard_some, box_is, box_room, branch_formed, branch_got, choice_is, filter_is, left_formed, right_formed, serial_is, sound_choice, split_formed, split_is, star_formed, star_is, sync_is}
-use Rattle.sn_flow.proofs.Goings.{face_found, going_ends, going_goes, going_none, going_overflows, going_stops, no_face}
-use Rattle.std.proofs.lemmas.Result.{err_from_is_err_and}
-use Rattle.sn_typing.specs.Outline.{outline}
+use Rattle.sn_flow.proofs.Formed.{as_many, guard_some, box_is, box_room, branch_read, filter_is, left_formed, right_formed, serial_is, slices_are, slices_formed, slices_sound, split_formed, split_is, star_formed, star_is, sync_is}
+use Rattle.sn_flow.proofs.Goings.{face_found, going_ends, going_goes, going_none, going_overflows, going_stops, no_face, sent_read}
 use Rattle.sn_flow.proofs.Visiting.{along_goes, along_overflows, along_stops, close_add_stops, close_begins, close_ends, close_ends_full, close_goes, close_overflows, close_passes, close_stops, component_form, component_form_stops, exit_stops, series_form, series_left_stops, series_right_stops, split_form, split_stops, split_without, star_form, star_stops, visit_done, visit_full, visit_known, visit_stops}
 use Rattle.sn_flow.proofs.visit.+visits.Goals as goal
 use Rattle.sn_flow.proofs.visit.+visits.Goals.{close-then-not-leaves+in_ok-table+in_ok-more+in_ok-add_all, close-else-not-leaves}
@@ -132,108 +132,158 @@ pub visit_form-returns-in_ok-flow-in-Sync : goal.visit_form-returns-in_ok-flow-i
 visit_form-returns-in_ok-flow-in-Sync t c =
     component_form (outline c.args.boxes.now c.args.net.now) c.in-Sync.place c.as_slice.result.now empty (empty ∷ []) c.args.variant.now c.args.parts c.in_ok-flow-in-Sync.flow (subst (λ (ps : List Labels). (outline c.args.boxes.now c.args.net.now) ≡ Component c.in-Sync.place ps empty (empty ∷ [])) (sym c.as_slice.ensures) (sync_is c.args.boxes.now c.args.net.now c.in-Sync.place c.in-Sync.patterns c.in-Sync.is)) c.in_ok-flow-in-Sync.ensures
 
-pub visit_form-visit-requires : goal.visit_form-visit-requires
-visit_form-visit-requires t c =
-    (search (rules, the_lemmas), left_formed c.args.boxes.now c.args.net.now c.requires c.in-Serial.left c.in-Serial.right c.get.result.now c.in-Serial.is c.get.ensures)
+pub visit_form-visit_series-requires : goal.visit_form-visit_series-requires
+visit_form-visit_series-requires t c = (
+  (
+      let left : the_size c.get.result.now < the_size c.args.net.now = search (rules, the_lemmas) in
+      let right : the_size c.get-in-Serial.result.now < the_size c.args.net.now = search (rules, the_lemmas) in
+      let most : max (the_size c.get.result.now) (the_size c.get-in-Serial.result.now) ≤ the_size c.args.net.now - 1 = max-le (omega (arith, left)) (omega (arith, right)) in
+      omega (arith, left, most)
+      ),
+  (
+    left_formed c.args.boxes.now c.args.net.now c.requires c.in-Serial.left c.in-Serial.right c.get.result.now c.in-Serial.is c.get.ensures,
+    right_formed c.args.boxes.now c.args.net.now c.requires c.in-Serial.left c.in-Serial.right c.get-in-Serial.result.now c.in-Serial.is c.get-in-Serial.ensures,
+  ),
+)
 
-pub visit_form-visit_all-requires : goal.visit_form-visit_all-requires
-visit_form-visit_all-requires t c =
-    (search (rules, the_lemmas), right_formed c.args.boxes.now c.args.net.now c.requires c.in-Serial.left c.in-Serial.right c.get-in-Serial.result.now c.in-Serial.is c.get-in-Serial.ensures)
+pub visit_form-returns-in-Serial : goal.visit_form-returns-in-Serial
+visit_form-returns-in-Serial t c =
+    subst (λ (o : Outline). FormVisited o c.args.variant.now c.args.parts c.visit_series.result)
+    (sym (serial_is c.args.boxes.now c.args.net.now c.in-Serial.left c.in-Serial.right c.get.result.now c.get-in-Serial.result.now c.in-Serial.is c.get.ensures c.get-in-Serial.ensures)) c.visit_series.ensures
 
-pub visit_form-returns-in_err-first-in-Serial : goal.visit_form-returns-in_err-first-in-Serial
-visit_form-returns-in_err-first-in-Serial t c =
-    let p = err_from_is_err_and c.from_residual-in_err-first-in-Serial.result c.from_residual-in_err-first-in-Serial.ensures.1 in
-    rw (p.1, p.2)
-    (series_left_stops (outline c.args.boxes.now c.args.net.now) (outline c.args.boxes.now c.get.result.now) (outline c.args.boxes.now c.in-Serial.right) c.args.variant.now c.args.parts (serial_is c.args.boxes.now c.args.net.now c.in-Serial.left c.in-Serial.right c.get.result.now c.in-Serial.right c.in-Serial.is c.get.ensures refl) c.take_part-first.result.0 c.take_part-first.result.1 c.take_part-first.ensures.part c.take_part-first.ensures.others c.in_err-first-in-Serial.field-0.0 c.in_err-first-in-Serial.ensures)
+pub visit_form-visit_choice-requires : goal.visit_form-visit_choice-requires
+visit_form-visit_choice-requires t c = (
+  search (rules, the_lemmas),
+  (
+    slices_formed c.args.boxes.now c.args.net.now c.requires c.in-Choice.place c.in-Choice.merge c.in-Choice.branches c.in-Choice.faces c.in-Choice.is c.as_slice-branches.result.now c.as_slice-branches.ensures,
+    slices_sound c.args.boxes.now c.args.net.now c.requires c.in-Choice.place c.in-Choice.merge c.in-Choice.branches c.in-Choice.faces c.in-Choice.is c.as_slice-branches.result.now c.as_slice-in-Choice.result.now c.as_slice-branches.ensures c.as_slice-in-Choice.ensures,
+  ),
+)
 
-pub visit_form-returns-in_err-second-in-Serial : goal.visit_form-returns-in_err-second-in-Serial
-visit_form-returns-in_err-second-in-Serial t c =
-    let p = err_from_is_err_and c.from_residual-in_err-second-in-Serial.result c.from_residual-in_err-second-in-Serial.ensures.1 in
-    rw (p.1, p.2)
-    (series_right_stops (outline c.args.boxes.now c.args.net.now) (outline c.args.boxes.now c.get.result.now) (outline c.args.boxes.now c.get-in-Serial.result.now) c.args.variant.now c.args.parts (serial_is c.args.boxes.now c.args.net.now c.in-Serial.left c.in-Serial.right c.get.result.now c.get-in-Serial.result.now c.in-Serial.is c.get.ensures c.get-in-Serial.ensures) c.take_part-first.result.0 c.take_part-first.result.1 c.take_part-first.ensures.part c.take_part-first.ensures.others
-    c.in_ok-first-in-Serial.first c.in_ok-first-in-Serial.ensures c.as_slice-in-Serial.result.now (c.as_slice-in-Serial.ensures ∙ c.in_ok-middle-in-Serial.ensures) c.in_ok-parts-in-Serial.parts c.in_ok-parts-in-Serial.ensures.part c.in_ok-parts-in-Serial.ensures.others
-    c.take_part-second.result.0 c.take_part-second.result.1 c.take_part-second.ensures.part c.take_part-second.ensures.others c.in_err-second-in-Serial.field-0.0 c.in_err-second-in-Serial.ensures)
+pub visit_form-returns-in-Choice : goal.visit_form-returns-in-Choice
+visit_form-returns-in-Choice t c =
+    subst (λ (o : Outline). FormVisited o c.args.variant.now c.args.parts c.visit_choice.result)
+    (sym (slices_are c.args.boxes.now c.args.net.now c.in-Choice.place c.in-Choice.merge c.in-Choice.branches c.in-Choice.faces c.as_slice-branches.result.now c.as_slice-in-Choice.result.now c.in-Choice.is c.as_slice-branches.ensures c.as_slice-in-Choice.ensures))
+    (c.visit_choice.ensures c.in-Choice.place)
 
-pub visit_form-returns-in_ok-parts-in-Serial-2 : goal.visit_form-returns-in_ok-parts-in-Serial-2
-visit_form-returns-in_ok-parts-in-Serial-2 t c =
-    series_form (outline c.args.boxes.now c.args.net.now) (outline c.args.boxes.now c.get.result.now) (outline c.args.boxes.now c.get-in-Serial.result.now) c.args.variant.now c.args.parts (serial_is c.args.boxes.now c.args.net.now c.in-Serial.left c.in-Serial.right c.get.result.now c.get-in-Serial.result.now c.in-Serial.is c.get.ensures c.get-in-Serial.ensures) c.take_part-first.result.0 c.take_part-first.result.1 c.take_part-first.ensures.part c.take_part-first.ensures.others
-    c.in_ok-first-in-Serial.first c.in_ok-first-in-Serial.ensures c.as_slice-in-Serial.result.now (c.as_slice-in-Serial.ensures ∙ c.in_ok-middle-in-Serial.ensures) c.in_ok-parts-in-Serial.parts c.in_ok-parts-in-Serial.ensures.part c.in_ok-parts-in-Serial.ensures.others
-    c.take_part-second.result.0 c.take_part-second.result.1 c.take_part-second.ensures.part c.take_part-second.ensures.others c.in_ok-second-in-Serial.second c.in_ok-second-in-Serial.flow c.in_ok-second-in-Serial.ensures c.in_ok-parts-in-Serial-2.parts c.in_ok-parts-in-Serial-2.ensures.part c.in_ok-parts-in-Serial-2.ensures.others
-
-pub visit_form-returns-then-not-has_face : goal.visit_form-returns-then-not-has_face
-visit_form-returns-then-not-has_face t c =
-    going_none (branch_of (map (outline c.args.boxes.now) c.in-Choice.branches)) c.in-Choice.faces c.args.variant.now c.args.parts (outline c.args.boxes.now c.args.net.now) c.in-Choice.place c.new.result (choice_is c.args.boxes.now c.args.net.now c.in-Choice.place c.in-Choice.merge c.in-Choice.branches c.in-Choice.faces c.in-Choice.is) (no_face c.in-Choice.faces c.args.variant.now c.has_face.result (c.has_face.ensures ∙ ap (λ (fs : List (List Labels)). list_any (λ face. has_subset face c.args.variant.now) fs) c.as_slice-in-Choice.ensures) c.if-not-has_face.true) c.new.ensures
-
-pub visit_form-at-requires-in-loop-i : goal.visit_form-at-requires-in-loop-i
-visit_form-at-requires-in-loop-i t c =
-    let many = as_many c.args.boxes.now c.in-Choice.branches c.in-Choice.faces (sound_choice c.args.boxes.now c.args.net.now c.requires c.in-Choice.place c.in-Choice.merge c.in-Choice.branches c.in-Choice.faces c.in-Choice.is) in omega (arith, many, c.loop-i-test.true, c.len-i-end.ensures)
-
-pub visit_form-visit_all-requires-in-loop-i : goal.visit_form-visit_all-requires-in-loop-i
-visit_form-visit_all-requires-in-loop-i t c =
-    let item : c.at-in-loop-i-2.result.now ≡ get_or c.in-Choice.branches c.loop-i.i c.at-in-loop-i-2.result.now = sym (get_or_from_slice_get c.in-Choice.branches c.loop-i.i c.at-in-loop-i-2.result.now c.at-in-loop-i-2.result.now c.at-in-loop-i-2.ensures) in
-    let below : c.loop-i.i < length c.in-Choice.branches = slice_get_within c.in-Choice.branches c.loop-i.i c.at-in-loop-i-2.result.now c.at-in-loop-i-2.ensures in
-    (search (rules, the_lemmas, item, below), branch_formed c.args.boxes.now c.args.net.now c.requires c.in-Choice.place c.in-Choice.merge c.in-Choice.branches c.in-Choice.faces c.in-Choice.is c.loop-i.i c.at-in-loop-i-2.result.now c.at-in-loop-i-2.ensures)
-
-pub visit_form-put_part-requires-in-loop-i : goal.visit_form-put_part-requires-in-loop-i
-visit_form-put_part-requires-in-loop-i t c =
-    let few = (sound_choice c.args.boxes.now c.args.net.now c.requires c.in-Choice.place c.in-Choice.merge c.in-Choice.branches c.in-Choice.faces c.in-Choice.is).few in omega (arith, few, c.loop-i-test.true, c.len-i-end.ensures)
-
-pub visit_form-returns-in_err-part-in-Choice : goal.visit_form-returns-in_err-part-in-Choice
-visit_form-returns-in_err-part-in-Choice t c =
-    let p = err_from_is_err_and c.from_residual-in_err-part-in-Choice.result c.from_residual-in_err-part-in-Choice.ensures.1 in
-    rw (p.1, p.2)
-    (going_stops (branch_of (map (outline c.args.boxes.now) c.in-Choice.branches)) c.in-Choice.faces c.args.variant.now c.args.parts c.loop-i.i c.loop-i.parts c.loop-i.flow c.loop-i.invariant c.as_slice-in-loop-i-3.result.now (c.as_slice-in-loop-i-3.ensures ∙ c.in_ok-sent-in-Choice.ensures ∙ (ap (λ (fs : List (List Labels)). chosen_of fs c.loop-i.i c.args.variant.now c.as_slice-in-loop-i-2.result.now) c.as_slice-in-loop-i.ensures ∙ ap (λ (ws : List Labels). chosen_of c.in-Choice.faces c.loop-i.i c.args.variant.now ws) (c.as_slice-in-loop-i-2.ensures ∙ sym (ap (λ (b : Option (List Labels)). unwrap_or b []) c.at-in-loop-i.ensures)))) c.take_part-part.result.0 c.take_part-part.ensures.part (outline c.args.boxes.now c.args.net.now) c.in-Choice.place c.in_err-part-in-Choice.field-0.0 (choice_is c.args.boxes.now c.args.net.now c.in-Choice.place c.in-Choice.merge c.in-Choice.branches c.in-Choice.faces c.in-Choice.is) (face_found c.in-Choice.faces c.args.variant.now c.has_face.result (c.has_face.ensures ∙ ap (λ (fs : List (List Labels)). list_any (λ face. has_subset face c.args.variant.now) fs) c.as_slice-in-Choice.ensures) c.if-not-has_face.false) (subst (λ (o : Outline). AllVisited o c.as_slice-in-loop-i-3.result.now c.take_part-part.result.0 (Err c.in_err-part-in-Choice.field-0.0)) (sym (branch_got c.args.boxes.now c.in-Choice.branches c.loop-i.i c.at-in-loop-i-2.result.now c.at-in-loop-i-2.ensures)) c.in_err-part-in-Choice.ensures))
-
-pub visit_form-returns-in_err-add_all-in-Choice : goal.visit_form-returns-in_err-add_all-in-Choice
-visit_form-returns-in_err-add_all-in-Choice t c =
-    let p = err_from_is_err_and c.from_residual-in_err-add_all-in-Choice.result c.from_residual-in_err-add_all-in-Choice.ensures.1 in
-    rw (p.1, p.2)
-    (going_overflows (branch_of (map (outline c.args.boxes.now) c.in-Choice.branches)) c.in-Choice.faces c.args.variant.now c.args.parts c.loop-i.i c.loop-i.parts c.loop-i.flow c.loop-i.invariant c.as_slice-in-loop-i-3.result.now (c.as_slice-in-loop-i-3.ensures ∙ c.in_ok-sent-in-Choice.ensures ∙ (ap (λ (fs : List (List Labels)). chosen_of fs c.loop-i.i c.args.variant.now c.as_slice-in-loop-i-2.result.now) c.as_slice-in-loop-i.ensures ∙ ap (λ (ws : List Labels). chosen_of c.in-Choice.faces c.loop-i.i c.args.variant.now ws) (c.as_slice-in-loop-i-2.ensures ∙ sym (ap (λ (b : Option (List Labels)). unwrap_or b []) c.at-in-loop-i.ensures)))) c.take_part-part.result.0 c.take_part-part.ensures.part (outline c.args.boxes.now c.args.net.now) c.in-Choice.place c.in_ok-part-in-Choice.part c.in_ok-part-in-Choice.more c.add_all.new.sets c.in_err-add_all-in-Choice.field-0.0 (choice_is c.args.boxes.now c.args.net.now c.in-Choice.place c.in-Choice.merge c.in-Choice.branches c.in-Choice.faces c.in-Choice.is) (face_found c.in-Choice.faces c.args.variant.now c.has_face.result (c.has_face.ensures ∙ ap (λ (fs : List (List Labels)). list_any (λ face. has_subset face c.args.variant.now) fs) c.as_slice-in-Choice.ensures) c.if-not-has_face.false) (subst (λ (o : Outline). AllVisited o c.as_slice-in-loop-i-3.result.now c.take_part-part.result.0 (Ok (c.in_ok-part-in-Choice.part, c.in_ok-part-in-Choice.more))) (sym (branch_got c.args.boxes.now c.in-Choice.branches c.loop-i.i c.at-in-loop-i-2.result.now c.at-in-loop-i-2.ensures)) c.in_ok-part-in-Choice.ensures) (subst (λ (ms : List Labels). Added c.loop-i.flow ms c.add_all.new.sets (Err c.in_err-add_all-in-Choice.field-0.0)) c.as_slice-in-loop-i-4.ensures c.in_err-add_all-in-Choice.ensures))
-
-pub visit_form-loop-i-preserved : goal.visit_form-loop-i-preserved
-visit_form-loop-i-preserved t c =
-    going_goes (branch_of (map (outline c.args.boxes.now) c.in-Choice.branches)) c.in-Choice.faces c.args.variant.now c.args.parts c.loop-i.i c.loop-i.parts c.loop-i.flow c.loop-i.invariant c.as_slice-in-loop-i-3.result.now (c.as_slice-in-loop-i-3.ensures ∙ c.in_ok-sent-in-Choice.ensures ∙ (ap (λ (fs : List (List Labels)). chosen_of fs c.loop-i.i c.args.variant.now c.as_slice-in-loop-i-2.result.now) c.as_slice-in-loop-i.ensures ∙ ap (λ (ws : List Labels). chosen_of c.in-Choice.faces c.loop-i.i c.args.variant.now ws) (c.as_slice-in-loop-i-2.ensures ∙ sym (ap (λ (b : Option (List Labels)). unwrap_or b []) c.at-in-loop-i.ensures)))) c.take_part-part.result.0 c.take_part-part.ensures.part c.take_part-part.result.1 c.in_ok-part-in-Choice.part c.in_ok-part-in-Choice.more c.add_all.new.sets c.in_ok-parts-in-Choice.parts c.take_part-part.ensures.others (subst (λ (o : Outline). AllVisited o c.as_slice-in-loop-i-3.result.now c.take_part-part.result.0 (Ok (c.in_ok-part-in-Choice.part, c.in_ok-part-in-Choice.more))) (sym (branch_got c.args.boxes.now c.in-Choice.branches c.loop-i.i c.at-in-loop-i-2.result.now c.at-in-loop-i-2.ensures)) c.in_ok-part-in-Choice.ensures) (subst (λ (ms : List Labels). Adds c.loop-i.flow ms c.add_all.new.sets) c.as_slice-in-loop-i-4.ensures c.in_ok-add_all-in-Choice.ensures) c.in_ok-parts-in-Choice.ensures.part c.in_ok-parts-in-Choice.ensures.others
-
-pub visit_form-returns-after-loop-i : goal.visit_form-returns-after-loop-i
-visit_form-returns-after-loop-i t c =
-    let many = as_many c.args.boxes.now c.in-Choice.branches c.in-Choice.faces (sound_choice c.args.boxes.now c.args.net.now c.requires c.in-Choice.place c.in-Choice.merge c.in-Choice.branches c.in-Choice.faces c.in-Choice.is) in
-    subst (λ (flow : List Labels). FormVisited (outline c.args.boxes.now c.args.net.now) c.args.variant.now c.args.parts (Ok (c.loop-i.parts, flow))) (sym c.into_seq.ensures)
-    (going_ends (branch_of (map (outline c.args.boxes.now) c.in-Choice.branches)) c.in-Choice.faces c.args.variant.now c.args.parts (outline c.args.boxes.now c.args.net.now) c.in-Choice.place c.loop-i.i c.loop-i.parts c.loop-i.flow (choice_is c.args.boxes.now c.args.net.now c.in-Choice.place c.in-Choice.merge c.in-Choice.branches c.in-Choice.faces c.in-Choice.is) (face_found c.in-Choice.faces c.args.variant.now c.has_face.result (c.has_face.ensures ∙ ap (λ (fs : List (List Labels)). list_any (λ face. has_subset face c.args.variant.now) fs) c.as_slice-in-Choice.ensures) c.if-not-has_face.false) (omega (arith, many, c.loop-i-test.false, c.len-i-end.ensures)) c.loop-i.invariant)
-
-pub visit_form-close-requires : goal.visit_form-close-requires
-visit_form-close-requires t c =
+pub visit_form-visit_star-requires : goal.visit_form-visit_star-requires
+visit_form-visit_star-requires t c =
     (search (rules, the_lemmas), star_formed c.args.boxes.now c.args.net.now c.requires c.in-Star.place c.in-Star.merge c.in-Star.body c.in-Star.exit c.in-Star.guard c.get-in-Star.result.now c.in-Star.is c.get-in-Star.ensures)
 
-pub visit_form-returns-in_err-inner-in-Star : goal.visit_form-returns-in_err-inner-in-Star
-visit_form-returns-in_err-inner-in-Star t c =
-    let p = err_from_is_err_and c.from_residual-in_err-inner-in-Star.result c.from_residual-in_err-inner-in-Star.ensures.1 in
-    rw (p.1, p.2)
-    (star_stops (outline c.args.boxes.now c.args.net.now) c.in-Star.exit c.is_some.result (outline c.args.boxes.now c.get-in-Star.result.now) c.args.variant.now c.args.parts (subst (λ (b : Bool). (outline c.args.boxes.now c.args.net.now) ≡ Star c.in-Star.exit b (outline c.args.boxes.now c.get-in-Star.result.now)) (sym (c.is_some.ensures ∙ guard_some c.in-Star.guard)) (star_is c.args.boxes.now c.args.net.now c.in-Star.place c.in-Star.merge c.in-Star.body c.in-Star.exit c.in-Star.guard c.get-in-Star.result.now c.in-Star.is c.get-in-Star.ensures)) c.take_part-inner.result.0 c.take_part-inner.result.1 c.take_part-inner.ensures.part c.in_err-inner-in-Star.field-0.0 c.in_err-inner-in-Star.ensures)
+pub visit_form-returns-in-Star : goal.visit_form-returns-in-Star
+visit_form-returns-in-Star t c =
+    subst (λ (o : Outline). FormVisited o c.args.variant.now c.args.parts c.visit_star.result)
+    (sym (star_is c.args.boxes.now c.args.net.now c.in-Star.place c.in-Star.merge c.in-Star.body c.in-Star.exit c.in-Star.guard c.get-in-Star.result.now c.in-Star.is c.get-in-Star.ensures)) c.visit_star.ensures
 
-pub visit_form-returns-in_err-flow-in-Star : goal.visit_form-returns-in_err-flow-in-Star
-visit_form-returns-in_err-flow-in-Star t c =
-    let p = err_from_is_err_and c.from_residual-in_err-flow-in-Star.result c.from_residual-in_err-flow-in-Star.ensures.1 in
-    rw (p.1, p.2)
-    (exit_stops (outline c.args.boxes.now c.args.net.now) c.in-Star.exit c.is_some.result (outline c.args.boxes.now c.get-in-Star.result.now) c.args.variant.now c.args.parts (subst (λ (b : Bool). (outline c.args.boxes.now c.args.net.now) ≡ Star c.in-Star.exit b (outline c.args.boxes.now c.get-in-Star.result.now)) (sym (c.is_some.ensures ∙ guard_some c.in-Star.guard)) (star_is c.args.boxes.now c.args.net.now c.in-Star.place c.in-Star.merge c.in-Star.body c.in-Star.exit c.in-Star.guard c.get-in-Star.result.now c.in-Star.is c.get-in-Star.ensures)) c.take_part-inner.result.0 c.take_part-inner.result.1 c.take_part-inner.ensures.part c.in_ok-inner-in-Star.inner c.in_ok-inner-in-Star.members c.in_err-flow-in-Star.field-0.0 c.in_ok-inner-in-Star.ensures (subst (λ (ms : List Labels). WithExit ms c.in-Star.exit (Err c.in_err-flow-in-Star.field-0.0)) c.as_slice-in-Star.ensures c.in_err-flow-in-Star.ensures))
-
-pub visit_form-returns-in_ok-parts-in-Star : goal.visit_form-returns-in_ok-parts-in-Star
-visit_form-returns-in_ok-parts-in-Star t c =
-    star_form (outline c.args.boxes.now c.args.net.now) c.in-Star.exit c.is_some.result (outline c.args.boxes.now c.get-in-Star.result.now) c.args.variant.now c.args.parts (subst (λ (b : Bool). (outline c.args.boxes.now c.args.net.now) ≡ Star c.in-Star.exit b (outline c.args.boxes.now c.get-in-Star.result.now)) (sym (c.is_some.ensures ∙ guard_some c.in-Star.guard)) (star_is c.args.boxes.now c.args.net.now c.in-Star.place c.in-Star.merge c.in-Star.body c.in-Star.exit c.in-Star.guard c.get-in-Star.result.now c.in-Star.is c.get-in-Star.ensures)) c.take_part-inner.result.0 c.take_part-inner.result.1 c.take_part-inner.ensures.part c.in_ok-inner-in-Star.inner c.in_ok-inner-in-Star.members c.in_ok-flow-in-Star.flow c.in_ok-parts-in-Star.parts c.in_ok-inner-in-Star.ensures (subst (λ (ms : List Labels). WithExit ms c.in-Star.exit (Ok c.in_ok-flow-in-Star.flow)) c.as_slice-in-Star.ensures c.in_ok-flow-in-Star.ensures) c.in_ok-parts-in-Star.ensures.part
-
-pub visit_form-returns-then-not-contains : goal.visit_form-returns-then-not-contains
-visit_form-returns-then-not-contains t c =
-    split_without (outline c.args.boxes.now c.args.net.now) c.in-Split.place c.in-Split.tag (outline c.args.boxes.now c.in-Split.body) c.args.variant.now c.args.parts (split_is c.args.boxes.now c.args.net.now c.in-Split.place c.in-Split.merge c.in-Split.body c.in-Split.tag c.in-Split.body c.in-Split.is refl) c.new-then-not-contains.result (λ there. true_false (sym there ∙ sym c.contains.ensures ∙ c.if-not-contains.true)) c.new-then-not-contains.ensures
-
-pub visit_form-visit-requires-in-Split : goal.visit_form-visit-requires-in-Split
-visit_form-visit-requires-in-Split t c =
+pub visit_form-visit_split-requires : goal.visit_form-visit_split-requires
+visit_form-visit_split-requires t c =
     (search (rules, the_lemmas), split_formed c.args.boxes.now c.args.net.now c.requires c.in-Split.place c.in-Split.merge c.in-Split.body c.in-Split.tag c.get-in-Split.result.now c.in-Split.is c.get-in-Split.ensures)
 
-pub visit_form-returns-in_err-inner-in-Split : goal.visit_form-returns-in_err-inner-in-Split
-visit_form-returns-in_err-inner-in-Split t c =
-    let p = err_from_is_err_and c.from_residual-in_err-inner-in-Split.result c.from_residual-in_err-inner-in-Split.ensures.1 in
-    rw (p.1, p.2)
-    (split_stops (outline c.args.boxes.now c.args.net.now) c.in-Split.place c.in-Split.tag (outline c.args.boxes.now c.get-in-Split.result.now) c.args.variant.now c.args.parts (split_is c.args.boxes.now c.args.net.now c.in-Split.place c.in-Split.merge c.in-Split.body c.in-Split.tag c.get-in-Split.result.now c.in-Split.is c.get-in-Split.ensures) c.take_part-inner-in-Split.result.0 c.take_part-inner-in-Split.ensures.part (sym c.contains.ensures ∙ c.if-not-contains.false) c.in_err-inner-in-Split.field-0.0 c.in_err-inner-in-Split.ensures)
+pub visit_form-returns-in-Split : goal.visit_form-returns-in-Split
+visit_form-returns-in-Split t c =
+    subst (λ (o : Outline). FormVisited o c.args.variant.now c.args.parts c.visit_split.result)
+    (sym (split_is c.args.boxes.now c.args.net.now c.in-Split.place c.in-Split.merge c.in-Split.body c.in-Split.tag c.get-in-Split.result.now c.in-Split.is c.get-in-Split.ensures)) (c.visit_split.ensures c.in-Split.place)
 
-pub visit_form-returns-in_ok-parts-in-Split : goal.visit_form-returns-in_ok-parts-in-Split
-visit_form-returns-in_ok-parts-in-Split t c =
-    split_form (outline c.args.boxes.now c.args.net.now) c.in-Split.place c.in-Split.tag (outline c.args.boxes.now c.get-in-Split.result.now) c.args.variant.now c.args.parts (split_is c.args.boxes.now c.args.net.now c.in-Split.place c.in-Split.merge c.in-Split.body c.in-Split.tag c.get-in-Split.result.now c.in-Split.is c.get-in-Split.ensures) c.take_part-inner-in-Split.result.0 c.take_part-inner-in-Split.ensures.part (sym c.contains.ensures ∙ c.if-not-contains.false) c.in_ok-inner-in-Split.inner c.in_ok-flow-in-Split.flow c.in_ok-parts-in-Split.parts c.in_ok-inner-in-Split.ensures c.in_ok-flow-in-Split.ensures c.in_ok-parts-in-Split.ensures.part
+pub visit_series-visit-requires : goal.visit_series-visit-requires
+visit_series-visit-requires t c = (omega (arith, le-max_left (the_size c.args.left.now) (the_size c.args.right.now)), c.requires.left)
+
+pub visit_series-visit_all-requires : goal.visit_series-visit_all-requires
+visit_series-visit_all-requires t c = (omega (arith, le-max_right (the_size c.args.left.now) (the_size c.args.right.now)), c.requires.right)
+
+pub visit_series-returns-in_err-first : goal.visit_series-returns-in_err-first
+visit_series-returns-in_err-first t c =
+    let p = err_from_is_err_and c.from_residual.result c.from_residual.ensures.1 in
+    rw (p.1, p.2)
+    (series_left_stops (Series (outline c.args.boxes.now c.args.left.now) (outline c.args.boxes.now c.args.right.now)) (outline c.args.boxes.now c.args.left.now) (outline c.args.boxes.now c.args.right.now) c.args.variant.now c.args.parts refl c.take_part-first.result.0 c.take_part-first.result.1 c.take_part-first.ensures.part c.take_part-first.ensures.others c.in_err-first.field-0.0 c.in_err-first.ensures)
+
+pub visit_series-returns-in_err-second : goal.visit_series-returns-in_err-second
+visit_series-returns-in_err-second t c =
+    let p = err_from_is_err_and c.from_residual-in_err-second.result c.from_residual-in_err-second.ensures.1 in
+    rw (p.1, p.2)
+    (series_right_stops (Series (outline c.args.boxes.now c.args.left.now) (outline c.args.boxes.now c.args.right.now)) (outline c.args.boxes.now c.args.left.now) (outline c.args.boxes.now c.args.right.now) c.args.variant.now c.args.parts refl c.take_part-first.result.0 c.take_part-first.result.1 c.take_part-first.ensures.part c.take_part-first.ensures.others
+    c.in_ok-first.first c.in_ok-first.ensures c.as_slice.result.now (c.as_slice.ensures ∙ c.in_ok-middle.ensures) c.in_ok-parts.parts c.in_ok-parts.ensures.part c.in_ok-parts.ensures.others
+    c.take_part-second.result.0 c.take_part-second.result.1 c.take_part-second.ensures.part c.take_part-second.ensures.others c.in_err-second.field-0.0 c.in_err-second.ensures)
+
+pub visit_series-returns : goal.visit_series-returns
+visit_series-returns t c =
+    series_form (Series (outline c.args.boxes.now c.args.left.now) (outline c.args.boxes.now c.args.right.now)) (outline c.args.boxes.now c.args.left.now) (outline c.args.boxes.now c.args.right.now) c.args.variant.now c.args.parts refl c.take_part-first.result.0 c.take_part-first.result.1 c.take_part-first.ensures.part c.take_part-first.ensures.others
+    c.in_ok-first.first c.in_ok-first.ensures c.as_slice.result.now (c.as_slice.ensures ∙ c.in_ok-middle.ensures) c.in_ok-parts.parts c.in_ok-parts.ensures.part c.in_ok-parts.ensures.others
+    c.take_part-second.result.0 c.take_part-second.result.1 c.take_part-second.ensures.part c.take_part-second.ensures.others c.in_ok-second.second c.in_ok-second.flow c.in_ok-second.ensures c.in_ok-parts-2.parts c.in_ok-parts-2.ensures.part c.in_ok-parts-2.ensures.others
+
+pub visit_choice-returns-then-not-has_face : goal.visit_choice-returns-then-not-has_face
+visit_choice-returns-then-not-has_face t c place =
+    going_none (branch_of (map (outline c.args.boxes.now) c.args.branches.now)) c.args.faces.now c.args.variant.now c.args.parts (Choice place c.args.faces.now (branch_of (map (outline c.args.boxes.now) c.args.branches.now))) place c.new.result refl (no_face c.args.faces.now c.args.variant.now c.has_face.result c.has_face.ensures c.if-not-has_face.true) c.new.ensures
+
+pub visit_choice-bounds-faces-i : goal.visit_choice-bounds-faces-i
+visit_choice-bounds-faces-i t c = omega (arith, as_many c.args.boxes.now c.args.branches.now c.args.faces.now c.requires.sound, c.loop-i-test.true)
+
+pub visit_choice-visit_all-requires : goal.visit_choice-visit_all-requires
+visit_choice-visit_all-requires t c =
+    (search (rules, the_lemmas, c.loop-i-test.true), subst (IsWellFormed c.args.boxes.now) (sym c.index-branches-i.is) (All-get_or (IsWellFormed c.args.boxes.now) c.args.branches.now c.loop-i.i c.index-branches-i.result c.loop-i-test.true c.requires.formed))
+
+pub visit_choice-put_part-requires : goal.visit_choice-put_part-requires
+visit_choice-put_part-requires t c = omega (arith, c.requires.sound.few, c.loop-i-test.true)
+
+pub visit_choice-returns-in_err-part : goal.visit_choice-returns-in_err-part
+visit_choice-returns-in_err-part t c =
+    let p = err_from_is_err_and c.from_residual-in_err-part.result c.from_residual-in_err-part.ensures.1 in
+    rw (p.1, p.2) (λ place. going_stops (branch_of (map (outline c.args.boxes.now) c.args.branches.now)) c.args.faces.now c.args.variant.now c.args.parts c.loop-i.i c.loop-i.parts c.loop-i.flow c.loop-i.invariant c.as_slice-in-loop-i.result.now (c.as_slice-in-loop-i.ensures ∙ c.in_ok-sent.ensures ∙ ap (chosen_of c.args.faces.now c.loop-i.i c.args.variant.now) c.as_slice.ensures
+    ∙ sent_read c.args.faces.now c.loop-i.i c.args.variant.now c.index-faces-i.result (omega (arith, as_many c.args.boxes.now c.args.branches.now c.args.faces.now c.requires.sound, c.loop-i-test.true)) c.index-faces-i.is) c.take_part-part.result.0 c.take_part-part.ensures.part (Choice place c.args.faces.now (branch_of (map (outline c.args.boxes.now) c.args.branches.now))) place c.in_err-part.field-0.0 refl (face_found c.args.faces.now c.args.variant.now c.has_face.result c.has_face.ensures c.if-not-has_face.false) (subst (λ (o : Outline). AllVisited o c.as_slice-in-loop-i.result.now c.take_part-part.result.0 (Err c.in_err-part.field-0.0)) (sym (branch_read c.args.boxes.now c.args.branches.now c.loop-i.i c.index-branches-i.result c.loop-i-test.true c.index-branches-i.is)) c.in_err-part.ensures))
+
+pub visit_choice-returns-in_err-add_all : goal.visit_choice-returns-in_err-add_all
+visit_choice-returns-in_err-add_all t c =
+    let p = err_from_is_err_and c.from_residual-in_err-add_all.result c.from_residual-in_err-add_all.ensures.1 in
+    rw (p.1, p.2) (λ place. going_overflows (branch_of (map (outline c.args.boxes.now) c.args.branches.now)) c.args.faces.now c.args.variant.now c.args.parts c.loop-i.i c.loop-i.parts c.loop-i.flow c.loop-i.invariant c.as_slice-in-loop-i.result.now (c.as_slice-in-loop-i.ensures ∙ c.in_ok-sent.ensures ∙ ap (chosen_of c.args.faces.now c.loop-i.i c.args.variant.now) c.as_slice.ensures
+    ∙ sent_read c.args.faces.now c.loop-i.i c.args.variant.now c.index-faces-i.result (omega (arith, as_many c.args.boxes.now c.args.branches.now c.args.faces.now c.requires.sound, c.loop-i-test.true)) c.index-faces-i.is) c.take_part-part.result.0 c.take_part-part.ensures.part (Choice place c.args.faces.now (branch_of (map (outline c.args.boxes.now) c.args.branches.now))) place c.in_ok-part.part c.in_ok-part.more c.add_all.new.sets c.in_err-add_all.field-0.0 refl (face_found c.args.faces.now c.args.variant.now c.has_face.result c.has_face.ensures c.if-not-has_face.false) (subst (λ (o : Outline). AllVisited o c.as_slice-in-loop-i.result.now c.take_part-part.result.0 (Ok (c.in_ok-part.part, c.in_ok-part.more))) (sym (branch_read c.args.boxes.now c.args.branches.now c.loop-i.i c.index-branches-i.result c.loop-i-test.true c.index-branches-i.is)) c.in_ok-part.ensures) (subst (λ (ms : List Labels). Added c.loop-i.flow ms c.add_all.new.sets (Err c.in_err-add_all.field-0.0)) c.as_slice-in-loop-i-2.ensures c.in_err-add_all.ensures))
+
+pub visit_choice-loop-i-preserved : goal.visit_choice-loop-i-preserved
+visit_choice-loop-i-preserved t c =
+    going_goes (branch_of (map (outline c.args.boxes.now) c.args.branches.now)) c.args.faces.now c.args.variant.now c.args.parts c.loop-i.i c.loop-i.parts c.loop-i.flow c.loop-i.invariant c.as_slice-in-loop-i.result.now (c.as_slice-in-loop-i.ensures ∙ c.in_ok-sent.ensures ∙ ap (chosen_of c.args.faces.now c.loop-i.i c.args.variant.now) c.as_slice.ensures
+    ∙ sent_read c.args.faces.now c.loop-i.i c.args.variant.now c.index-faces-i.result (omega (arith, as_many c.args.boxes.now c.args.branches.now c.args.faces.now c.requires.sound, c.loop-i-test.true)) c.index-faces-i.is) c.take_part-part.result.0 c.take_part-part.ensures.part c.take_part-part.result.1 c.in_ok-part.part c.in_ok-part.more c.add_all.new.sets c.in_ok-parts.parts c.take_part-part.ensures.others (subst (λ (o : Outline). AllVisited o c.as_slice-in-loop-i.result.now c.take_part-part.result.0 (Ok (c.in_ok-part.part, c.in_ok-part.more))) (sym (branch_read c.args.boxes.now c.args.branches.now c.loop-i.i c.index-branches-i.result c.loop-i-test.true c.index-branches-i.is)) c.in_ok-part.ensures)
+    (subst (λ (ms : List Labels). Adds c.loop-i.flow ms c.add_all.new.sets) c.as_slice-in-loop-i-2.ensures c.in_ok-add_all.ensures) c.in_ok-parts.ensures.part c.in_ok-parts.ensures.others
+
+pub visit_choice-returns : goal.visit_choice-returns
+visit_choice-returns t c place =
+    let many = as_many c.args.boxes.now c.args.branches.now c.args.faces.now c.requires.sound in
+    subst (λ (flow : List Labels). FormVisited (Choice place c.args.faces.now (branch_of (map (outline c.args.boxes.now) c.args.branches.now))) c.args.variant.now c.args.parts (Ok (c.loop-i.parts, flow))) (sym c.into_seq.ensures)
+    (going_ends (branch_of (map (outline c.args.boxes.now) c.args.branches.now)) c.args.faces.now c.args.variant.now c.args.parts (Choice place c.args.faces.now (branch_of (map (outline c.args.boxes.now) c.args.branches.now))) place c.loop-i.i c.loop-i.parts c.loop-i.flow refl (face_found c.args.faces.now c.args.variant.now c.has_face.result c.has_face.ensures c.if-not-has_face.false) (omega (arith, many, c.loop-i-test.false)) c.loop-i.invariant)
+
+pub visit_star-close-requires : goal.visit_star-close-requires
+visit_star-close-requires t c = (omega arith, c.requires)
+
+pub visit_star-returns-in_err-inner : goal.visit_star-returns-in_err-inner
+visit_star-returns-in_err-inner t c =
+    let p = err_from_is_err_and c.from_residual.result c.from_residual.ensures.1 in
+    rw (p.1, p.2)
+    (star_stops (Star c.args.exit.now (is_guarded c.args.guard.now) (outline c.args.boxes.now c.args.body.now)) c.args.exit.now c.is_some.result (outline c.args.boxes.now c.args.body.now) c.args.variant.now c.args.parts
+    (ap (λ (b : Bool). Star c.args.exit.now b (outline c.args.boxes.now c.args.body.now)) (sym (c.is_some.ensures ∙ guard_some c.args.guard.now))) c.take_part-inner.result.0 c.take_part-inner.result.1 c.take_part-inner.ensures.part c.in_err-inner.field-0.0 c.in_err-inner.ensures)
+
+pub visit_star-returns-in_err-flow : goal.visit_star-returns-in_err-flow
+visit_star-returns-in_err-flow t c =
+    let p = err_from_is_err_and c.from_residual-in_err-flow.result c.from_residual-in_err-flow.ensures.1 in
+    rw (p.1, p.2)
+    (exit_stops (Star c.args.exit.now (is_guarded c.args.guard.now) (outline c.args.boxes.now c.args.body.now)) c.args.exit.now c.is_some.result (outline c.args.boxes.now c.args.body.now) c.args.variant.now c.args.parts
+    (ap (λ (b : Bool). Star c.args.exit.now b (outline c.args.boxes.now c.args.body.now)) (sym (c.is_some.ensures ∙ guard_some c.args.guard.now))) c.take_part-inner.result.0 c.take_part-inner.result.1 c.take_part-inner.ensures.part c.in_ok-inner.inner c.in_ok-inner.members c.in_err-flow.field-0.0 c.in_ok-inner.ensures
+    (subst (λ (ms : List Labels). WithExit ms c.args.exit.now (Err c.in_err-flow.field-0.0)) c.as_slice.ensures c.in_err-flow.ensures))
+
+pub visit_star-returns : goal.visit_star-returns
+visit_star-returns t c =
+    star_form (Star c.args.exit.now (is_guarded c.args.guard.now) (outline c.args.boxes.now c.args.body.now)) c.args.exit.now c.is_some.result (outline c.args.boxes.now c.args.body.now) c.args.variant.now c.args.parts
+    (ap (λ (b : Bool). Star c.args.exit.now b (outline c.args.boxes.now c.args.body.now)) (sym (c.is_some.ensures ∙ guard_some c.args.guard.now))) c.take_part-inner.result.0 c.take_part-inner.result.1 c.take_part-inner.ensures.part c.in_ok-inner.inner c.in_ok-inner.members c.in_ok-flow.flow c.in_ok-parts.parts c.in_ok-inner.ensures
+    (subst (λ (ms : List Labels). WithExit ms c.args.exit.now (Ok c.in_ok-flow.flow)) c.as_slice.ensures c.in_ok-flow.ensures) c.in_ok-parts.ensures.part
+
+pub visit_split-returns-then-not-contains : goal.visit_split-returns-then-not-contains
+visit_split-returns-then-not-contains t c place =
+    split_without (Split place c.args.tag (outline c.args.boxes.now c.args.body.now)) place c.args.tag (outline c.args.boxes.now c.args.body.now) c.args.variant.now c.args.parts refl c.new.result (λ there. true_false (sym there ∙ sym c.contains.ensures ∙ c.if-not-contains.true)) c.new.ensures
+
+pub visit_split-visit-requires : goal.visit_split-visit-requires
+visit_split-visit-requires t c = (omega arith, c.requires)
+
+pub visit_split-returns-in_err-inner : goal.visit_split-returns-in_err-inner
+visit_split-returns-in_err-inner t c =
+    let p = err_from_is_err_and c.from_residual.result c.from_residual.ensures.1 in
+    rw (p.1, p.2) (λ place. split_stops (Split place c.args.tag (outline c.args.boxes.now c.args.body.now)) place c.args.tag (outline c.args.boxes.now c.args.body.now) c.args.variant.now c.args.parts refl c.take_part-inner.result.0 c.take_part-inner.ensures.part (sym c.contains.ensures ∙ c.if-not-contains.false) c.in_err-inner.field-0.0 c.in_err-inner.ensures)
+
+pub visit_split-returns : goal.visit_split-returns
+visit_split-returns t c place =
+    split_form (Split place c.args.tag (outline c.args.boxes.now c.args.body.now)) place c.args.tag (outline c.args.boxes.now c.args.body.now) c.args.variant.now c.args.parts refl c.take_part-inner.result.0 c.take_part-inner.ensures.part (sym c.contains.ensures ∙ c.if-not-contains.false) c.in_ok-inner.inner c.in_ok-flow.flow c.in_ok-parts.parts c.in_ok-inner.ensures c.in_ok-flow.ensures c.in_ok-parts.ensures.part

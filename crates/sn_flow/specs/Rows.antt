@@ -1,28 +1,12 @@
--- Rows without a route, and what a check answers.
+-- Rows at any depth.
 use Rattle.std.specs.Prelude.{ℕ, List, [], ◌∷◌}
 use Rattle.std.specs.List.{Contains}
 use Rattle.sn_record.specs.LabelSet.{Labels}
-use Rattle.sn_typing.specs.Outline.{Outline, Component, Series, Choice, Star, Split}
-use Rattle.sn_typing.specs.Flow.{IsRouted}
+use Rattle.sn_typing.specs.Outline.{Outline, Series, Choice, Star, Split}
 use Rattle.sn_typing.specs.Reached.{Turn, Left, Right, Branch, Body}
 use Rattle.sn_flow.specs.declared.table.Row.{Row}
 use Rattle.sn_flow.specs.declared.table.Table.{Table}
 use Rattle.sn_flow.specs.Tables.{child, rows_of}
-
--- the part has a route for the variant of each row
-abbrev pub RowsRouted : Outline → Table → Type 0
-RowsRouted net t = (row : Row) → Contains (rows_of t) row → IsRouted net row.variant
-
-abbrev pub InnerRouted : Outline → Table → Type 0
-InnerRouted (Component place takes named outputs) t = Unit {0}
-InnerRouted (Series a b) t = (RowsRouted a (child t 0) × InnerRouted a (child t 0)) × (RowsRouted b (child t 1) × InnerRouted b (child t 1))
-InnerRouted (Choice place faces branch) t = (i : ℕ) → RowsRouted (branch i) (child t i) × InnerRouted (branch i) (child t i)
-InnerRouted (Star exit guarded body) t = RowsRouted body (child t 0) × InnerRouted body (child t 0)
-InnerRouted (Split place id body) t = RowsRouted body (child t 0) × InnerRouted body (child t 0)
-
--- the same of the parts, at any depth
-abbrev pub AllRouted : Outline → Table → Type 0
-AllRouted net t = RowsRouted net t × InnerRouted net t
 
 -- the table of the part at the way has a row for the variant
 pub data RowAt : Outline → Table → List Turn → Outline → Labels → Type 0 where
