@@ -7,7 +7,10 @@ use Rattle.std.specs.List.{All}
 use Rattle.std.specs.FinMap as finite
 use Rattle.std.proofs.lemmas.List.Elements.{All-head, All-tail}
 use Rattle.std.proofs.lemmas.Option.{slice_get_within, get_or_from_slice_get, slice_get-map, slice_get_read}
+use mathlib.Core.Logic.{∥∥₁_elim}
+use Rattle.std.specs.Coded.{Coded-set, coded_list, le_prop}
 use Rattle.sn_record.specs.LabelSet.{Labels}
+use Rattle.sn_record.specs.contracts.label_set.LabelSet as labels
 use Rattle.sn_tagexpr.specs.declared.expr.TagExpr.{TagExpr}
 use Rattle.sn_net.specs.declared.expr.BoxProgram.{BoxProgram}
 use Rattle.sn_net.specs.declared.filter.Filter.{Filter}
@@ -17,47 +20,55 @@ use Rattle.sn_net.specs.declared.net.Net.TheOpen.{Net-F}
 use Rattle.sn_net.specs.declared.net.Net.TheViews.{roll-Net}
 use Rattle.sn_net.specs.declared.net.Net.TheVariants as form
 use Rattle.sn_net.specs.Face.{face, variant_of}
-use Rattle.sn_net.specs.WellFormed.{IsSoundChoice, IsWellFormed}
-use Rattle.sn_net.proofs.Sound.{level_sound, parts_formed}
+use Rattle.sn_net.specs.WellFormed.{FitsBoxes, IsSoundChoice}
+use Rattle.sn_net.proofs.Fits.{box_there, parts_fit}
+use Rattle.sn_net.proofs.Sound.{level_sound}
 use Rattle.sn_typing.specs.Outline.{Outline, Component, Series, Choice, Star, Split, box_outline, branch_of, is_guarded, nowhere, outline, template_variant}
 use Rattle.sn_typing.proofs.Forms.{outline-Box, outline-Filter, outline-Sync, outline-Serial, outline-Choice, outline-Star, outline-Split}
 
-module _ (boxes : List BoxProgram) (net : Net) (formed : IsWellFormed boxes net) where
+-- a choice is sound in one way alone
+sound_once : (boxes : List BoxProgram) (branches : List Net) (faces : List (List Labels)) → IsProp (IsSoundChoice boxes branches faces)
+sound_once boxes branches faces a b i = record {
+  few = le_prop a.few b.few i;
+  paired = Coded-set (coded_list (coded_list labels.the_row.coded)) _ _ a.paired b.paired i;
+}
+
+module _ (boxes : List BoxProgram) (net : Net) (formed : FitsBoxes boxes net) where
   pub box_room : (place number : ℕ) → net ≡ form.Box place number → number < length boxes
-  box_room place number is = level_sound boxes (Net-F.Box place number) (subst (IsWellFormed boxes) (is ∙ sym (form.rolls-Box place number)) formed)
+  box_room place number is = box_there boxes place number (subst (FitsBoxes boxes) is formed)
 
-  both_formed : (l r : Net) → net ≡ form.Serial l r → All (IsWellFormed boxes) (l ∷ r ∷ [])
-  both_formed l r is = parts_formed boxes (Net-F.Serial l r) (subst (IsWellFormed boxes) (is ∙ sym (form.rolls-Serial l r)) formed)
+  both_formed : (l r : Net) → net ≡ form.Serial l r → All (FitsBoxes boxes) (l ∷ r ∷ [])
+  both_formed l r is = parts_fit boxes (Net-F.Serial l r) (subst (FitsBoxes boxes) (is ∙ sym (form.rolls-Serial l r)) formed)
 
-  pub left_formed : (l r got : Net) → net ≡ form.Serial l r → got ≡ l → IsWellFormed boxes got
-  left_formed l r got is same = subst (IsWellFormed boxes) (sym same) (All-head (IsWellFormed boxes) l (r ∷ []) (both_formed l r is))
+  pub left_formed : (l r got : Net) → net ≡ form.Serial l r → got ≡ l → FitsBoxes boxes got
+  left_formed l r got is same = subst (FitsBoxes boxes) (sym same) (All-head (FitsBoxes boxes) l (r ∷ []) (both_formed l r is))
 
-  pub right_formed : (l r got : Net) → net ≡ form.Serial l r → got ≡ r → IsWellFormed boxes got
-  right_formed l r got is same = subst (IsWellFormed boxes) (sym same) (All-head (IsWellFormed boxes) r [] (All-tail (IsWellFormed boxes) l (r ∷ []) (both_formed l r is)))
+  pub right_formed : (l r got : Net) → net ≡ form.Serial l r → got ≡ r → FitsBoxes boxes got
+  right_formed l r got is same = subst (FitsBoxes boxes) (sym same) (All-head (FitsBoxes boxes) r [] (All-tail (FitsBoxes boxes) l (r ∷ []) (both_formed l r is)))
 
-  pub star_formed : (place : ℕ) (merge : Merge) (body : Net) (exit : Labels) (guard : Option TagExpr) (got : Net) → net ≡ form.Star place merge body exit guard → got ≡ body → IsWellFormed boxes got
+  pub star_formed : (place : ℕ) (merge : Merge) (body : Net) (exit : Labels) (guard : Option TagExpr) (got : Net) → net ≡ form.Star place merge body exit guard → got ≡ body → FitsBoxes boxes got
   star_formed place merge body exit guard got is same =
-      subst (IsWellFormed boxes) (sym same) (All-head (IsWellFormed boxes) body [] (parts_formed boxes (Net-F.Star place merge body exit guard) (subst (IsWellFormed boxes) (is ∙ sym (form.rolls-Star place merge body exit guard)) formed)))
+      subst (FitsBoxes boxes) (sym same) (All-head (FitsBoxes boxes) body [] (parts_fit boxes (Net-F.Star place merge body exit guard) (subst (FitsBoxes boxes) (is ∙ sym (form.rolls-Star place merge body exit guard)) formed)))
 
-  pub split_formed : (place : ℕ) (merge : Merge) (body : Net) (id : ℕ) (got : Net) → net ≡ form.Split place merge body id → got ≡ body → IsWellFormed boxes got
+  pub split_formed : (place : ℕ) (merge : Merge) (body : Net) (id : ℕ) (got : Net) → net ≡ form.Split place merge body id → got ≡ body → FitsBoxes boxes got
   split_formed place merge body id got is same =
-      subst (IsWellFormed boxes) (sym same) (All-head (IsWellFormed boxes) body [] (parts_formed boxes (Net-F.Split place merge body id) (subst (IsWellFormed boxes) (is ∙ sym (form.rolls-Split place merge body id)) formed)))
+      subst (FitsBoxes boxes) (sym same) (All-head (FitsBoxes boxes) body [] (parts_fit boxes (Net-F.Split place merge body id) (subst (FitsBoxes boxes) (is ∙ sym (form.rolls-Split place merge body id)) formed)))
 
   module _ (place : ℕ) (merge : Merge) (branches : List Net) (faces : List (List Labels)) (is : net ≡ form.Choice place merge branches faces) where
-    rolled : IsWellFormed boxes (roll-Net (Net-F.Choice place merge branches faces))
-    rolled = subst (IsWellFormed boxes) (is ∙ sym (form.rolls-Choice place merge branches faces)) formed
+    rolled : FitsBoxes boxes (roll-Net (Net-F.Choice place merge branches faces))
+    rolled = subst (FitsBoxes boxes) (is ∙ sym (form.rolls-Choice place merge branches faces)) formed
 
-    pub branch_formed : (i : ℕ) (got : Net) → slice_get branches i ≡ Some got → IsWellFormed boxes got
+    pub branch_formed : (i : ℕ) (got : Net) → slice_get branches i ≡ Some got → FitsBoxes boxes got
     branch_formed i got here =
-        subst (IsWellFormed boxes) (get_or_from_slice_get branches i got got here)
-        (parts_formed boxes (Net-F.Choice place merge branches faces) rolled i got (slice_get_within branches i got here))
+        subst (FitsBoxes boxes) (get_or_from_slice_get branches i got got here)
+        (parts_fit boxes (Net-F.Choice place merge branches faces) rolled i got (slice_get_within branches i got here))
 
     pub sound_choice : IsSoundChoice boxes branches faces
-    sound_choice = level_sound boxes (Net-F.Choice place merge branches faces) rolled
+    sound_choice = ∥∥₁_elim rolled (sound_once boxes branches faces) (λ whole. level_sound boxes (Net-F.Choice place merge branches faces) whole)
 
     -- the same of slices
-    pub slices_formed : (nets : List Net) → nets ≡ branches → All (IsWellFormed boxes) nets
-    slices_formed nets are = subst (All (IsWellFormed boxes)) (sym are) (parts_formed boxes (Net-F.Choice place merge branches faces) rolled)
+    pub slices_formed : (nets : List Net) → nets ≡ branches → All (FitsBoxes boxes) nets
+    slices_formed nets are = subst (All (FitsBoxes boxes)) (sym are) (parts_fit boxes (Net-F.Choice place merge branches faces) rolled)
 
     pub slices_sound : (nets : List Net) (sliced : List (List Labels)) → nets ≡ branches → sliced ≡ faces → IsSoundChoice boxes nets sliced
     slices_sound nets sliced are faces_are =

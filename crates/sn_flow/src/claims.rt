@@ -1,6 +1,6 @@
 //! Flow and claims.
 ghost use Rattle.std.specs.Prelude.{◌∷◌, []};
-ghost use Rattle.sn_net.specs.WellFormed.{IsWellFormed};
+ghost use Rattle.sn_net.specs.WellFormed.{FitsBoxes};
 ghost use Rattle.sn_typing.specs.Outline.{outline};
 ghost use Rattle.sn_flow.specs.Verdicts.{Checked, FlowFound};
 
@@ -22,7 +22,7 @@ pub fn flow(
     boxes: &Boxes,
     variant: &LabelSet,
 ) -> Result<Seq<LabelSet>, FlowFault>
-    requires { IsWellFormed boxes.now net.now }
+    requires { FitsBoxes boxes.now net.now }
     ensures { FlowFound (outline boxes.now net.now) variant.now result }
 {
     let input = one_set(alloc, variant)?;
@@ -41,7 +41,7 @@ pub fn flow(
 
 /// Whether the claim is accepted, or why it isn't.
 pub fn check(alloc: Global, claim: &Claim, boxes: &Boxes) -> Result<(), FlowFault>
-    requires { IsWellFormed boxes.now claim.now.net }
+    requires { FitsBoxes boxes.now claim.now.net }
     ensures { Checked boxes.now claim.now result }
 {
     match visit_each(alloc, &claim.net, boxes, claim.input.as_slice()) {

@@ -2,7 +2,7 @@
 ghost use Rattle.std.specs.Prelude.{◌≡◌, ◌∷◌, List, None, IfOk};
 ghost use Rattle.std.specs.Ordering.{is_lt};
 ghost use Rattle.sn_net.specs.declared.expr.BoxProgram.{BoxProgram};
-ghost use Rattle.sn_net.specs.WellFormed.{IsWellFormed};
+ghost use Rattle.sn_net.specs.WellFormed.{FitsBoxes};
 ghost use Rattle.sn_typing.specs.Outline.{outline};
 ghost use Rattle.sn_flow.specs.Spots.{bad_spots, flow_spots, is_routed, least, place_of, row_spots, sooner, spot, spot_cmp, spots};
 
@@ -73,7 +73,7 @@ fn place_of(net: &Net) -> u32
 
 /// Whether the form itself has a route for records of the variant.
 fn is_routed(alloc: Global, net: &Net, boxes: &Boxes, variant: &LabelSet) -> Result<bool, Memory>
-    requires { IsWellFormed boxes.now net.now }
+    requires { FitsBoxes boxes.now net.now }
     ensures { IfOk result (λ routed. routed ≡ is_routed (outline boxes.now net.now) variant.now) }
 {
     match net {
@@ -101,7 +101,7 @@ fn row_spot(
     rows: &[Row],
     best: Option<Spot>,
 ) -> Result<Option<Spot>, Memory>
-    requires { IsWellFormed boxes.now net.now }
+    requires { FitsBoxes boxes.now net.now }
     ensures { IfOk result (λ found. found ≡ least best (row_spots (outline boxes.now net.now) rows.now)) }
 {
     let mut best = best;
@@ -121,7 +121,7 @@ pub fn unrouted_spot(
     table: Table,
     best: Option<Spot>,
 ) -> Result<Option<Spot>, Memory>
-    requires { IsWellFormed boxes.now net.now }
+    requires { FitsBoxes boxes.now net.now }
     ensures { IfOk result (λ found. found ≡ least best (spots (outline boxes.now net.now) table)) }
 {
     let Table { rows, parts } = table;

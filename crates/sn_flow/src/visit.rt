@@ -2,7 +2,7 @@
 ghost use Rattle.std.specs.Prelude.{◌≡◌, ◌&&◌, ℕ, map, not};
 ghost use Rattle.std.specs.List.{All};
 ghost use Rattle.sn_types.specs.RecordType.{is_subset};
-ghost use Rattle.sn_net.specs.WellFormed.{IsSoundChoice, IsWellFormed};
+ghost use Rattle.sn_net.specs.WellFormed.{IsSoundChoice, FitsBoxes};
 ghost use Rattle.sn_typing.specs.Outline.{Choice, Series, Split, Star, branch_of, is_guarded, outline};
 ghost use Rattle.sn_flow.specs.Visits.{AllVisited, Closed, FormVisited, Visited, WithExit};
 
@@ -26,7 +26,7 @@ pub fn visit(
     table: Table,
     variant: &LabelSet,
 ) -> Result<Table, Stop>
-    requires { IsWellFormed boxes.now net.now }
+    requires { FitsBoxes boxes.now net.now }
     ensures { Visited (outline boxes.now net.now) variant.now table result }
 {
     let known = has_row(alloc, &table.rows, variant)?;
@@ -51,7 +51,7 @@ fn visit_form(
     parts: Seq<Table>,
     variant: &LabelSet,
 ) -> Result<(Seq<Table>, Seq<LabelSet>), Stop>
-    requires { IsWellFormed boxes.now net.now }
+    requires { FitsBoxes boxes.now net.now }
     ensures { FormVisited (outline boxes.now net.now) variant.now parts result }
 {
     match net {
@@ -100,8 +100,8 @@ fn visit_series(
     parts: Seq<Table>,
     variant: &LabelSet,
 ) -> Result<(Seq<Table>, Seq<LabelSet>), Stop>
-    requires left { IsWellFormed boxes.now left.now }
-    requires right { IsWellFormed boxes.now right.now }
+    requires left { FitsBoxes boxes.now left.now }
+    requires right { FitsBoxes boxes.now right.now }
     ensures { FormVisited (Series (outline boxes.now left.now) (outline boxes.now right.now)) variant.now parts result }
 {
     let (first, parts) = take_part(alloc, parts, 0);
@@ -124,7 +124,7 @@ fn visit_choice(
     parts: Seq<Table>,
     variant: &LabelSet,
 ) -> Result<(Seq<Table>, Seq<LabelSet>), Stop>
-    requires formed { All (IsWellFormed boxes.now) branches.now }
+    requires formed { All (FitsBoxes boxes.now) branches.now }
     requires sound { IsSoundChoice boxes.now branches.now faces.now }
     ensures { (place : ℕ) → FormVisited (Choice place faces.now (branch_of (map (outline boxes.now) branches.now))) variant.now parts result }
 {
@@ -154,7 +154,7 @@ fn visit_star(
     parts: Seq<Table>,
     variant: &LabelSet,
 ) -> Result<(Seq<Table>, Seq<LabelSet>), Stop>
-    requires { IsWellFormed boxes.now body.now }
+    requires { FitsBoxes boxes.now body.now }
     ensures { FormVisited (Star exit.now (is_guarded guard.now) (outline boxes.now body.now)) variant.now parts result }
 {
     let (inner, parts) = take_part(alloc, parts, 0);
@@ -174,7 +174,7 @@ fn visit_split(
     parts: Seq<Table>,
     variant: &LabelSet,
 ) -> Result<(Seq<Table>, Seq<LabelSet>), Stop>
-    requires { IsWellFormed boxes.now body.now }
+    requires { FitsBoxes boxes.now body.now }
     ensures { (place : ℕ) → FormVisited (Split place tag (outline boxes.now body.now)) variant.now parts result }
 {
     let label = Label {
@@ -200,7 +200,7 @@ fn visit_all(
     table: Table,
     variants: &[LabelSet],
 ) -> Result<(Table, Seq<LabelSet>), Stop>
-    requires { IsWellFormed boxes.now net.now }
+    requires { FitsBoxes boxes.now net.now }
     ensures { AllVisited (outline boxes.now net.now) variants.now table result }
 {
     let mut table = table;
@@ -231,7 +231,7 @@ fn close(
     guarded: bool,
     variant: &LabelSet,
 ) -> Result<(Table, Seq<LabelSet>), Stop>
-    requires { IsWellFormed boxes.now net.now }
+    requires { FitsBoxes boxes.now net.now }
     ensures { Closed exit.now guarded (outline boxes.now net.now) variant.now table result }
 {
     let mut table = table;

@@ -1,5 +1,5 @@
 //! Visits with each variant of an input.
-ghost use Rattle.sn_net.specs.WellFormed.{IsWellFormed};
+ghost use Rattle.sn_net.specs.WellFormed.{FitsBoxes};
 ghost use Rattle.sn_typing.specs.Outline.{outline};
 ghost use Rattle.sn_flow.specs.Whole.{EachVisited};
 
@@ -17,7 +17,7 @@ pub fn visit_each(
     boxes: &Boxes,
     input: &[LabelSet],
 ) -> Result<Table, Stop>
-    requires { IsWellFormed boxes.now net.now }
+    requires { FitsBoxes boxes.now net.now }
     ensures { EachVisited (outline boxes.now net.now) input.now result }
 {
     let mut table = no_table(alloc);

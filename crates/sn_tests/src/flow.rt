@@ -1,5 +1,5 @@
 ghost use Rattle.std.specs.Prelude.{[], IfOk};
-ghost use Rattle.sn_net.specs.WellFormed.{IsWellFormed};
+ghost use Rattle.sn_net.specs.WellFormed.{FitsBoxes};
 
 use sn_flow::{FlowFault, check, flow};
 use sn_list::{Memory, Seq};
@@ -36,7 +36,7 @@ fn list(alloc: Global, set: LabelSet) -> Result<Seq<LabelSet>, Memory> {
 
 /// A claim at the place 3, for a synchrocell at the place 5 that takes records with `a`.
 fn claim_of(alloc: Global, input: Label, output: Label) -> Result<Claim, Memory>
-    ensures { IfOk result (λ claim. IsWellFormed [] claim.net) }
+    ensures { IfOk result (λ claim. FitsBoxes [] claim.net) }
 {
     let pattern = only(alloc, A)?;
     let patterns = list(alloc, pattern)?;

@@ -1,4 +1,4 @@
-//! The tests of the libraries, a module for each.
+//! The tests of the libraries below the top calls, a module for each.
 //!
 //! They stand here since a crate with tests is proved once with them and once without: here nothing but the tests is proved.
 #![tactic(auto)]
@@ -50,10 +50,6 @@ mod terminal;
 #[cfg(test)]
 mod text;
 #[cfg(test)]
-mod top;
-#[cfg(test)]
 mod type_parser;
 #[cfg(test)]
 mod types;
-#[cfg(test)]
-mod words;

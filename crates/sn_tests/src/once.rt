@@ -2,9 +2,9 @@ ghost use Rattle.sn_net.specs.Filter.{IsClosed};
 
 use sn_list::{Memory, Seq};
 use sn_model::Run;
-use sn_net::{Filter, Net};
-use sn_once::{FeedFault, run_once};
-use sn_record::{Item, Items, Kind, Label, LabelSet, Record};
+use sn_net::{Boxes, Filter, Net};
+use sn_once::run_once;
+use sn_record::{Fault, FaultKind, Item, Items, Kind, Label, LabelSet};
 use std::alloc::Global;
 use std::test::Fail;
 
@@ -22,25 +22,41 @@ fn filter_of(alloc: Global) -> Result<Filter, Memory> {
     })
 }
 
-fn run_of(alloc: Global, filter: Filter, items: Items) -> Run
+/// A run of the filter on a fault, which is typed for any network.
+fn run_of(alloc: Global, filter: Filter, fault: Fault) -> Result<Run, Memory>
     requires { IsClosed filter }
 {
-    Run::new(Net::Filter(filter), Seq::new(alloc), 1, 1, 1, items)
+    let boxes = Boxes::new(alloc);
+    let net = Net::Filter(filter);
+    let mut items = Items::new(alloc);
+    match items.push(Item::Fault(fault)) {
+        Ok(()) => Ok(Run::new(net, boxes, 1, 1, 1, items)),
+        Err(_) => Err(Memory),
+    }
 }
 
-/// What the filter gives for a record without labels.
-fn given(alloc: Global) -> Result<Items, FeedFault> {
+/// What the filter gives for a fault.
+fn given(alloc: Global) -> Result<Items, Memory> {
     let filter = filter_of(alloc)?;
-    let mut items = Items::new(alloc);
-    if !filter.is_closed() || items.push(Item::Rec(Record::new(alloc))).is_err() {
-        return Err(FeedFault::Memory);
+    if !filter.is_closed() {
+        return Err(Memory);
     }
-    let run = run_of(alloc, filter, items);
+    let fault = Fault {
+        kind: FaultKind::Index,
+        place: 5,
+    };
+    let run = run_of(alloc, filter, fault)?;
     run_once(alloc, &run)
 }
 
 #[test]
-fn a_record_without_a_route_is_told(rt: HostRuntime) -> Result<(), Fail> {
-    assert!(rt; matches!(given(rt.alloc()), Err(FeedFault::NoRoute(38))));
+fn a_fault_passes_on(rt: HostRuntime) -> Result<(), Fail> {
+    match given(rt.alloc()) {
+        Ok(items) => {
+            assert!(rt; items.len() == 1);
+            assert!(rt; matches!(items.as_slice(), [Item::Fault(Fault { place: 5, .. })]));
+        }
+        Err(_) => assert!(rt; false),
+    }
     Ok(())
 }

@@ -10,11 +10,12 @@ use Rattle.std.proofs.lemmas.Str.Parse.{IsNumeralModel, numerals_by_value, tells
 use Rattle.std.proofs.lemmas.List.{take_all}
 use Rattle.std.proofs.lemmas.Result.{IfOk-weaker}
 use Rattle.sn_top.specs.declared.words.Command.{Command}
+use Rattle.sn_top.specs.declared.words.Command.TheVariants as command
 use Rattle.sn_top.specs.declared.words.Setting.{Setting}
 use Rattle.sn_top.specs.declared.words.Setting.TheVariants.{Fuel, Depth}
 use Rattle.sn_top.specs.declared.words.WordsFault.{WordsFault}
 use Rattle.sn_top.specs.declared.words.Verb.{Verb}
-use Rattle.sn_top.specs.declared.words.Verb.TheVariants.{Once, Print}
+use Rattle.sn_top.specs.declared.words.Verb.TheVariants.{Check, Once, Print}
 use Rattle.sn_top.specs.Words.{Given, IsInRange, behind, first_given, is_equals, is_nothing, is_option, is_word, made_of, named, nothing, number_of, once_of, option_name, option_value, print_of, read_on, set, setting_of, within}
 
 -- a `=` stands in the word
@@ -126,10 +127,10 @@ made_once fuel depth (source ∷ []) h k = tt
 made_once fuel depth (source ∷ (input ∷ [])) h k = made_if (is_nothing source || is_nothing input) _ (h.0, h.1, k.0, k.1)
 made_once fuel depth (source ∷ (input ∷ (more ∷ names))) h k = tt
 
-made_print : (names : List (List ℕ)) → IfSome (print_of names) IsInRange
-made_print [] = tt
-made_print (source ∷ []) = made_if (is_nothing source) _ tt
-made_print (source ∷ (input ∷ names)) = tt
+-- a command of a source alone has no numbers
+made_alone : (make : List ℕ → Command) → ((source : List ℕ) → IsInRange (make source)) → (source : Option (List ℕ)) → IfSome (option_map make source) IsInRange
+made_alone make h None = tt
+made_alone make h (Some source) = h source
 
 number_or : (most other : ℕ) (number : Option ℕ) → IsUpTo most other → IfSome number (IsUpTo most) → IsUpTo most (unwrap_or number other)
 number_or most other None o h = o
@@ -139,7 +140,8 @@ made : (verb : Verb) (o : Option Given) → IsSound o → IfSome (option_and_the
 made verb None h = tt
 made Once (Some given) h =
     made_once _ _ given.names (number_or 1_000_000_000 1_000_000 given.fuel (omega arith, omega arith) h.0) (number_or 2_000 1_000 given.depth (omega arith, omega arith) h.1)
-made Print (Some given) h = made_print given.names
+made Check (Some given) h = made_alone command.Check (λ source. tt) (source_alone given.names)
+made Print (Some given) h = made_alone command.Print (λ source. tt) (source_alone given.names)
 
 -- a command has its numbers in their ranges
 pub made_in_range : {E : Type 0} (verb other : Verb) (words : List (List ℕ)) (given : Given) (r : Result Command E) → read_on verb None nothing words ≡ Some given → IfOk r (λ command. made_of other given ≡ Some command) → IfOk r IsInRange

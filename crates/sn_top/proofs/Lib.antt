@@ -5,3 +5,6 @@ pub mod Served
 pub mod CommandLaws
 pub mod Printed
 pub mod Told
+pub mod Flowing
+pub mod Running
+pub mod Checking

@@ -42,7 +42,8 @@ module _ (source : File) (out : Sink) where
   text_unread same (Refused (LargeTree at)) why = absurd why
   text_unread same (Refused TooManyNames) why = absurd why
   text_unread same (Refused (Line fault)) why = absurd why
-  text_unread same (Refused NotBuilt) why = absurd why
+  text_unread same (Refused (Type fault at variant)) why = absurd why
+  text_unread same (Refused (Variants at)) why = absurd why
   text_unread same (Faulted fault) why = absurd why
   text_unread same (Unread Source) why = (why.1, same)
   text_unread same (Unread Input) why = cc
@@ -61,7 +62,8 @@ module _ (source : File) (out : Sink) where
     no_text same (Refused (LargeTree at)) why = absurd why
     no_text same (Refused TooManyNames) why = absurd why
     no_text same (Refused (Line fault)) why = absurd why
-    no_text same (Refused NotBuilt) why = absurd why
+    no_text same (Refused (Type fault at variant)) why = absurd why
+    no_text same (Refused (Variants at)) why = absurd why
     no_text same (Faulted fault) why = absurd why
     no_text same (Unread which) why = absurd why
     no_text same Memory why = inl same

@@ -77,18 +77,3 @@ not_ended (Some fault) is = cc
 pub added_more : (names : List (List ℕ)) (before yielded : List Item) (x : Item) (new : Transcript)
     → Shows names (map modelled ((before ++ yielded) ++ x ∷ [])) new → Shows names (map modelled (before ++ (yielded ++ x ∷ []))) new
 added_more names before yielded x new shows = subst (λ (items : List Item). Shows names (map modelled items) new) (append_assoc before yielded (x ∷ [])) shows
-
--- a text that is written piece by piece: what was held, and what a piece adds
-module _ (first before now : Option (List ℕ)) (done line more rest whole : List ℕ) (was : before ≡ appended first done) (split : line ++ more ≡ rest) (left : done ++ rest ≡ whole) where
-  pub rest_left : (done ++ line) ++ more ≡ whole
-  rest_left = append_assoc done line more ∙ ap (λ (bytes : List ℕ). done ++ bytes) split ∙ left
-
-  pub held_more : now ≡ appended before line → now ≡ appended first (done ++ line)
-  held_more got = got ∙ ap (λ (h : Option (List ℕ)). appended h line) was ∙ appended_twice first done line
-
-  pub piece_cut : AppendsPrefix before now line → AppendsPrefix first now whole
-  piece_cut part = subst (AppendsPrefix first now) rest_left (prefix_before first now (done ++ line) more (prefix_after first before now done line was part))
-
--- the last piece
-pub last_cut : (first before now : Option (List ℕ)) (done rest whole : List ℕ) → before ≡ appended first done → done ++ rest ≡ whole → AppendsPrefix before now rest → AppendsPrefix first now whole
-last_cut first before now done rest whole was left part = subst (AppendsPrefix first now) left (prefix_after first before now done rest was part)

@@ -41,9 +41,11 @@ module _ (command : Command) (outside : Outside) where
   unread (Refused (LargeTree at)) stopped line is = cc
   unread (Refused TooManyNames) stopped line is = cc
   unread (Refused (Line (wrong.BadLine n))) stopped told is = cc
+  unread (Refused (Line (wrong.Untyped n))) stopped told is = cc
   unread (Refused (Line (wrong.Twice n kind name))) stopped told is = cc
   unread (Refused (Line (wrong.TooMany n))) stopped told is = cc
-  unread (Refused NotBuilt) stopped line is = cc
+  unread (Refused (Type fault at variant)) stopped line is = cc
+  unread (Refused (Variants at)) stopped line is = cc
   unread (Faulted fault) stopped line is = cc
   unread (Unread which) stopped line is = record { which = which; why = stopped.0; out_same = stopped.1; err_got = line }
   unread Memory stopped line is = cc
@@ -57,9 +59,11 @@ module _ (command : Command) (outside : Outside) where
   cut_short (Refused (LargeTree at)) stopped line is = cc
   cut_short (Refused TooManyNames) stopped line is = cc
   cut_short (Refused (Line (wrong.BadLine n))) stopped told is = cc
+  cut_short (Refused (Line (wrong.Untyped n))) stopped told is = cc
   cut_short (Refused (Line (wrong.Twice n kind name))) stopped told is = cc
   cut_short (Refused (Line (wrong.TooMany n))) stopped told is = cc
-  cut_short (Refused NotBuilt) stopped line is = cc
+  cut_short (Refused (Type fault at variant)) stopped line is = cc
+  cut_short (Refused (Variants at)) stopped line is = cc
   cut_short (Faulted fault) stopped line is = cc
   cut_short (Unread which) stopped line is = cc
   cut_short Memory stopped line is = record { out_got = stopped; err_got = line }
@@ -73,9 +77,11 @@ module _ (command : Command) (outside : Outside) where
   unwritten (Refused (LargeTree at)) stopped line is = cc
   unwritten (Refused TooManyNames) stopped line is = cc
   unwritten (Refused (Line (wrong.BadLine n))) stopped told is = cc
+  unwritten (Refused (Line (wrong.Untyped n))) stopped told is = cc
   unwritten (Refused (Line (wrong.Twice n kind name))) stopped told is = cc
   unwritten (Refused (Line (wrong.TooMany n))) stopped told is = cc
-  unwritten (Refused NotBuilt) stopped line is = cc
+  unwritten (Refused (Type fault at variant)) stopped line is = cc
+  unwritten (Refused (Variants at)) stopped line is = cc
   unwritten (Faulted fault) stopped line is = cc
   unwritten (Unread which) stopped line is = cc
   unwritten Memory stopped line is = cc

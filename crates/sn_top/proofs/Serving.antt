@@ -1,10 +1,12 @@
 -- From what each step of a run gave to why it stopped, and what it printed.
-use Rattle.std.proofs.Common.{◌≡◌, ℕ, ◌<◌, ◌≤◌, List, length, Option, None, Some, refl, sym, ap, subst, arith, inl, inr}
+use Rattle.std.proofs.Common.{◌≡◌, ℕ, ◌<◌, ◌≤◌, List, length, Option, None, Some, refl, sym, ap, subst, ◌∙◌, arith, inl, inr}
 use Rattle.std.specs.Prelude.{Ok, IfSome, ◌⊎◌}
 use Rattle.sn_io.specs.Causes.{Rose}
-use Rattle.sn_io.specs.Told.{AppendsPrefix}
+use Rattle.sn_io.specs.Told.{appended, AppendsPrefix}
+use Rattle.sn_net.specs.declared.net.Claim.{Claim}
+use Rattle.sn_input.specs.declared.input.Input.{Input as RecordFile}
+use Rattle.sn_output.specs.Printed.{ending, printed}
 use Rattle.sn_top.specs.declared.load.Program.{Program}
-use Rattle.sn_top.specs.declared.transcript.Transcript.{Transcript}
 use Rattle.sn_top.specs.declared.status.Which.TheVariants.{Source, Input}
 use Rattle.sn_top.specs.declared.status.Refusal.TheVariants.{TooLarge, Source as SourceAt, NoMain, TooDeep, LargeTree, TooManyNames, Type, Variants, Line}
 use Rattle.sn_top.specs.declared.status.Refusal.{Refusal}
@@ -13,7 +15,8 @@ use Rattle.sn_top.specs.declared.status.Stop.TheVariants.{Refused, Faulted, Unre
 use Rattle.sn_top.specs.declared.serve.TheConstants.{SOURCE_LIMIT, INPUT_LIMIT}
 use Rattle.sn_top.specs.Seen.{Sink, File, SinkFailed, WhyUnread}
 use Rattle.sn_record.specs.declared.item.Fault.{Fault}
-use Rattle.sn_top.specs.Load.{Limits, HasManyNames, HasNoRoute, HasWrongLine, IsAnswer, IsLoaded, WhyNoAnswer}
+use Rattle.sn_top.specs.Load.{Limits, HasManyNames, HasWrongLine, IsLoaded, IsTypedFile, stream_of}
+use Rattle.sn_top.specs.Runs.{HasBegun, HasRun, WhyNotRun}
 use Rattle.sn_top.specs.Scope.{WhyUnloaded, WhyNoProgram}
 use Rattle.sn_top.specs.Answer.{IsAccepted, IsRefusedInput, IsRefusedSource, Printout, Prints, Finds, WhyStopped}
 
@@ -40,7 +43,8 @@ module _ (limits : Limits) (source input : File) (out : Sink) (same : out.now �
   source_unread (Refused (LargeTree at)) why = absurd why
   source_unread (Refused TooManyNames) why = absurd why
   source_unread (Refused (Line fault)) why = absurd why
-  source_unread (Refused NotBuilt) why = absurd why
+  source_unread (Refused (Type fault at variant)) why = absurd why
+  source_unread (Refused (Variants at)) why = absurd why
   source_unread (Faulted fault) why = absurd why
   source_unread (Unread Source) why = (why.1, same)
   source_unread (Unread Input) why = cc
@@ -64,7 +68,8 @@ module _ (limits : Limits) (source input : File) (out : Sink) (same : out.now �
         (told_source (λ t. IsRefusedSource TooManyNames t ⊎ IsRefusedInput input.told HasManyNames t) (inl (read.within, why)), same)
     not_loaded (Refused (Line fault)) why = absurd why
     not_loaded (Faulted fault) why = absurd why
-    not_loaded (Refused NotBuilt) why = absurd why
+    not_loaded (Refused (Type fault at variant)) why = (refused_source (Type fault at variant) why, same)
+    not_loaded (Refused (Variants at)) why = (refused_source (Variants at) why, same)
     not_loaded (Unread which) why = absurd why
     not_loaded Memory why = inl same
     not_loaded Write why = absurd why
@@ -85,7 +90,8 @@ module _ (limits : Limits) (source input : File) (out : Sink) (same : out.now �
       input_unread between told later now (Refused (LargeTree at)) why = absurd why
       input_unread between told later now (Refused TooManyNames) why = absurd why
       input_unread between told later now (Refused (Line fault)) why = absurd why
-      input_unread between told later now (Refused NotBuilt) why = absurd why
+      input_unread between told later now (Refused (Type fault at variant)) why = absurd why
+      input_unread between told later now (Refused (Variants at)) why = absurd why
       input_unread between told later now (Faulted fault) why = absurd why
       input_unread between told later now (Unread Source) why = cc
       input_unread between told later now (Unread Input) why =
@@ -94,51 +100,49 @@ module _ (limits : Limits) (source input : File) (out : Sink) (same : out.now �
       input_unread between told later now Memory why = inl same
       input_unread between told later now Write why = absurd why
 
-      module _ (more : List ℕ) (has : HasBytes input INPUT_LIMIT more) where
-        refused_input : (Why : Program → List ℕ → Type 0) → Why program more → IsRefusedInput input.told Why bytes
-        refused_input Why why =
-            (program, accepted bytes program is read.within, of_told input.told more (λ m. (length m ≤ INPUT_LIMIT) × Why program m) has.told (has.within, why))
+-- what a run of a loaded program printed is what is found of its source and its input
+module _ (limits : Limits) (source input : File) (out : Sink) (bytes : List ℕ) (read : HasBytes source SOURCE_LIMIT bytes) (program : Program) (is : IsLoaded bytes program) (more : List ℕ) (has : HasBytes input INPUT_LIMIT more) where
+  told_source : (P : List ℕ → Type 0) → P bytes → IfSome source.told P
+  told_source P p = of_told source.told bytes P read.told p
 
-        pub no_answer : (why : Stop) → WhyNoAnswer limits program more why → WhyStopped limits source input out why
-        no_answer (Refused (TooLarge which)) why = absurd why
-        no_answer (Refused (SourceAt fault at)) why = absurd why
-        no_answer (Refused NoMain) why = absurd why
-        no_answer (Refused (TooDeep at)) why = absurd why
-        no_answer (Refused (LargeTree at)) why = absurd why
-        no_answer (Refused TooManyNames) why = (
-          told_source (λ t. IsRefusedSource TooManyNames t ⊎ IsRefusedInput input.told HasManyNames t) (inr (refused_input HasManyNames why)),
-          same,
-        )
-        no_answer (Refused (Line fault)) why = (told_source (IsRefusedInput input.told (HasWrongLine fault)) (refused_input (HasWrongLine fault) why), same)
-        no_answer (Faulted fault) why = absurd why
-        no_answer (Refused NotBuilt) why = (told_source (IsRefusedInput input.told (HasNoRoute limits)) (refused_input (HasNoRoute limits) why), same)
-        no_answer (Unread which) why = absurd why
-        no_answer Memory why = inl same
-        no_answer Write why = absurd why
+  refused_input : (Why : List (List ℕ) → Claim → List ℕ → Type 0) → Why program.names program.claim more → IsRefusedInput input.told Why bytes
+  refused_input Why why =
+      (program, accepted bytes program is read.within, of_told input.told more (λ m. (length m ≤ INPUT_LIMIT) × Why program.names program.claim m) has.told (has.within, why))
 
-module _ (limits : Limits) (source input : File) (bytes : List ℕ) (read : HasBytes source SOURCE_LIMIT bytes) (program : Program) (is : IsLoaded bytes program) (more : List ℕ) (has : HasBytes input INPUT_LIMIT more)
-    (p : Transcript) (answer : IsAnswer limits program more p) where
-  -- what was printed, and the fault that ends it
-  abbrev pub shown : Printout
-  shown = record { bytes = p.text; ending = p.fault }
+  -- what is printed of a record file, and the fault that ends it
+  abbrev pub shown : RecordFile → Printout
+  shown file = record { bytes = printed file.names (stream_of limits program file); ending = ending (stream_of limits program file) }
 
-  prints : Prints limits program more shown
-  prints = record {
-    within = has.within;
-    input = answer.input;
-    routed = answer.routed;
-    bytes_are = answer.shown.text;
-    ending_is = answer.shown.fault;
-  }
-
-  pub finds_shown : Finds limits source.told input.told (Ok shown)
-  finds_shown =
-      of_told source.told bytes (λ t. (q : Program) × IsAccepted t q × IfSome input.told (λ m. Prints limits q m shown)) read.told
-      (program, accepted bytes program is read.within, of_told input.told more (λ m. Prints limits program m shown) has.told prints)
+  finds_shown : (file : RecordFile) → IsTypedFile program.names program.claim more file → Finds limits source.told input.told (Ok (shown file))
+  finds_shown file typed =
+      told_source (λ t. (q : Program) × IsAccepted t q × IfSome input.told (λ m. Prints limits q m (shown file)))
+      (program, accepted bytes program is read.within, of_told input.told more (λ m. Prints limits program m (shown file)) has.told
+      (record { within = has.within; input = file; typed = typed; bytes_are = refl; ending_is = refl }))
 
   -- what is found, by how it ends
-  pub finds_ending : (fault : Option Fault) → p.fault ≡ fault → Finds limits source.told input.told (Ok (record { bytes = p.text; ending = fault }))
-  finds_ending fault same = subst (λ e. Finds limits source.told input.told (Ok (record { bytes = p.text; ending = e }))) same finds_shown
+  pub finds_run : (fault ended : Option Fault) → HasRun limits program more out fault → fault ≡ ended
+      → (p : List ℕ) × Finds limits source.told input.told (Ok (record { bytes = p; ending = ended })) × (out.now ≡ appended out.before p)
+  finds_run fault ended run is_ended = (
+    printed run.input.names (stream_of limits program run.input),
+    subst (λ (e : Option Fault). Finds limits source.told input.told (Ok (record { bytes = printed run.input.names (stream_of limits program run.input); ending = e }))) (sym run.ended ∙ is_ended) (finds_shown run.input run.typed),
+    run.got,
+  )
 
-  pub not_written : (out : Sink) → AppendsPrefix out.before out.now p.text → SinkFailed out → WhyStopped limits source input out Write
-  not_written out part failed = (failed, (shown, finds_shown, part))
+  begun : HasBegun limits program more out → (p : Printout) × Finds limits source.told input.told (Ok p) × AppendsPrefix out.before out.now p.bytes
+  begun has = (shown has.input, finds_shown has.input has.typed, has.got)
+
+  pub not_run : (why : Stop) → WhyNotRun limits program more out why → WhyStopped limits source input out why
+  not_run (Refused (TooLarge which)) why = absurd why.0
+  not_run (Refused (SourceAt fault at)) why = absurd why.0
+  not_run (Refused NoMain) why = absurd why.0
+  not_run (Refused (TooDeep at)) why = absurd why.0
+  not_run (Refused (LargeTree at)) why = absurd why.0
+  not_run (Refused TooManyNames) why = (told_source (λ t. IsRefusedSource TooManyNames t ⊎ IsRefusedInput input.told HasManyNames t) (inr (refused_input HasManyNames why.0)), why.1)
+  not_run (Refused (Type fault at variant)) why = absurd why.0
+  not_run (Refused (Variants at)) why = absurd why.0
+  not_run (Refused (Line fault)) why = (told_source (IsRefusedInput input.told (HasWrongLine fault)) (refused_input (HasWrongLine fault) why.0), why.1)
+  not_run (Faulted fault) why = absurd why
+  not_run (Unread which) why = absurd why
+  not_run Memory (inl same) = inl same
+  not_run Memory (inr has) = inr (begun has)
+  not_run Write why = (why.0, begun why.1)

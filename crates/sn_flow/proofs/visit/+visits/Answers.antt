@@ -7,7 +7,7 @@ use Rattle.std.specs.FinMap.{empty}
 use Rattle.sn_record.specs.LabelSet.{Labels}
 use Rattle.sn_net.specs.declared.net.Net.TheViews.{the_lemmas}
 use Rattle.sn_net.specs.Face.{variant_of}
-use Rattle.sn_net.specs.WellFormed.{IsWellFormed}
+use Rattle.sn_net.specs.WellFormed.{FitsBoxes}
 use Rattle.sn_net.proofs.net.Net.TheLaws.{the_size}
 use Rattle.sn_typing.specs.Outline.{Choice, Component, Series, Split, Star, Outline, branch_of, is_guarded, outline, template_variant}
 use Rattle.sn_flow.specs.Chosen.{chosen_of}
@@ -219,7 +219,7 @@ visit_choice-bounds-faces-i t c = omega (arith, as_many c.args.boxes.now c.args.
 
 pub visit_choice-visit_all-requires : goal.visit_choice-visit_all-requires
 visit_choice-visit_all-requires t c =
-    (search (rules, the_lemmas, c.loop-i-test.true), subst (IsWellFormed c.args.boxes.now) (sym c.index-branches-i.is) (All-get_or (IsWellFormed c.args.boxes.now) c.args.branches.now c.loop-i.i c.index-branches-i.result c.loop-i-test.true c.requires.formed))
+    (search (rules, the_lemmas, c.loop-i-test.true), subst (FitsBoxes c.args.boxes.now) (sym c.index-branches-i.is) (All-get_or (FitsBoxes c.args.boxes.now) c.args.branches.now c.loop-i.i c.index-branches-i.result c.loop-i-test.true c.requires.formed))
 
 pub visit_choice-put_part-requires : goal.visit_choice-put_part-requires
 visit_choice-put_part-requires t c = omega (arith, c.requires.sound.few, c.loop-i-test.true)

@@ -47,13 +47,25 @@ fn gives_commands(rt: HostRuntime) -> Result<(), Fail> {
 }
 
 #[test]
+fn gives_commands_of_a_source(rt: HostRuntime) -> Result<(), Fail> {
+    let alloc = rt.alloc();
+    let source = Seq::from_slice(alloc, b"s")?;
+    assert!(rt; read(alloc, &["check", "s"])? == Ok(Command::Check { source }));
+    let source = Seq::from_slice(alloc, b"s")?;
+    assert!(rt; read(alloc, &["print", "--", "s"])? == Ok(Command::Print { source }));
+    Ok(())
+}
+
+#[test]
 fn refuses_words(rt: HostRuntime) -> Result<(), Fail> {
-    let table: [&[&str]; 18] = [
+    let table: [&[&str]; 20] = [
         &[],
         &["once", "s"],
         &["once", "s", "i", "t"],
         &["once", "--x", "s", "i"],
         &["once", "s", ""],
+        &["check", "s", "t"],
+        &["check", "--depth=5", "s"],
         &["print", "s", "t"],
         &["print", "s", "--fuel", "5"],
         &["once", "s", "i", "--fuel"],

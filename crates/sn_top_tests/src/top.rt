@@ -85,7 +85,7 @@ fn boxes_and_filters_answer_in_series(rt: HostRuntime) -> Result<(), Fail> {
             b"{b=1, <t>=7}\n{<t>=7}\n",
             b"",
         ),
-        (SOURCE, b"{c=1}", Status::NotBuilt, b"", b"not built\n"),
+        (SOURCE, b"{c=1}", Status::Input, b"", b"input: Untyped 1\n"),
         (
             b"net main",
             INPUT,
@@ -210,7 +210,7 @@ fn the_first_refusal_of_names_comes(rt: HostRuntime) -> Result<(), Fail> {
     Ok(())
 }
 
-const CELL: &[u8] = b"net main ({a} | {b} -> {a,b}) connect [|{a},{b}|];";
+const CELL: &[u8] = b"net main ({a} | {b} -> {a} | {b}) connect [|{a},{b}|];";
 
 const CHOICE: &[u8] = b"net main ({a} -> {x}) connect [{a} -> {x=a}] || [{a,b} -> {x=b}];";
 
@@ -256,9 +256,9 @@ fn networks_of_every_form_answer(rt: HostRuntime) -> Result<(), Fail> {
         (
             SPLIT,
             b"{a=1, <k>=0}\n{a=2}",
-            Status::NotBuilt,
+            Status::Input,
             b"",
-            b"not built\n",
+            b"input: Untyped 2\n",
         ),
     ];
     for (source, input, status, out, err) in table {
@@ -295,19 +295,59 @@ fn missing_and_large_files_are_told(rt: HostRuntime) -> Result<(), Fail> {
     Ok(())
 }
 
-fn print(alloc: Global, source: &[u8]) -> Result<Served, Memory> {
-    let name = Seq::from_slice(alloc, b"s")?;
+/// Does a command that reads the source `s` alone.
+fn serve_source(alloc: Global, command: &Command, source: &[u8]) -> Result<Served, Memory>
+    requires { IsInRange command.now }
+{
     let mut files = files(alloc, source, b"")?;
     let mut out = sink(alloc, 7)?;
     let mut err = sink(alloc, 64)?;
-    let status = serve_plain(
-        alloc,
-        &Command::Print { source: name },
-        &mut files,
-        &mut out,
-        &mut err,
-    );
+    let status = serve_plain(alloc, command, &mut files, &mut out, &mut err);
     Ok(Served { status, out, err })
+}
+
+fn print(alloc: Global, source: &[u8]) -> Result<Served, Memory> {
+    let name = Seq::from_slice(alloc, b"s")?;
+    serve_source(alloc, &Command::Print { source: name }, source)
+}
+
+fn check(alloc: Global, source: &[u8]) -> Result<Served, Memory> {
+    let name = Seq::from_slice(alloc, b"s")?;
+    serve_source(alloc, &Command::Check { source: name }, source)
+}
+
+#[test]
+fn types_are_checked(rt: HostRuntime) -> Result<(), Fail> {
+    let table: [(&[u8], Status, &[u8], &[u8]); 7] = [
+        (SOURCE, Status::Ok, b"{a} -> {b}\n", b""),
+        (CELL, Status::Ok, b"{a} -> {a}\n{b} -> {b}\n", b""),
+        (CHOICE, Status::Ok, b"{a} -> {x}\n", b""),
+        (
+            b"net main ({a} -> {x}) connect [{b} -> {x=b}];",
+            Status::IllTyped,
+            b"",
+            b"type: NoRoute at 30 for {a}\n",
+        ),
+        (
+            b"net main ({a,<t>} -> {a}) connect [{a} -> {b=a}];",
+            Status::IllTyped,
+            b"",
+            b"type: BadOutput at 4 for {b, <t>}\n",
+        ),
+        // The claims are checked in the order of the nets' names.
+        (
+            b"net n ({a} -> {b}) connect []; net main ({a} -> {x}) connect [{b} -> {x=b}];",
+            Status::IllTyped,
+            b"",
+            b"type: BadOutput at 4 for {a}\n",
+        ),
+        (b"net", Status::Source, b"", b"source: Unexpected at 3\n"),
+    ];
+    for (source, status, out, err) in table {
+        let served = check(rt.alloc(), source)?;
+        assert!(rt; served.is(status, out, err));
+    }
+    Ok(())
 }
 
 #[test]

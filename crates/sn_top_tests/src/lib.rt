@@ -1,0 +1,8 @@
+//! The tests of the top calls and of the words that they are given. They stand apart from those of the other libraries, which need
+//! not be proved again where the top calls change.
+#![tactic(auto)]
+
+#[cfg(test)]
+mod top;
+#[cfg(test)]
+mod words;
