@@ -35,7 +35,7 @@ fn tell_type(alloc: Global, names: &Names, fault: TypeFault, at: u32, variant: &
 {
     let mut text = Seq::new(alloc);
     match push_variant(alloc, &mut text, variant, names) {
-        Ok(()) => Stop::Refused(Refusal::Type(fault, at, text)),
+        Ok(()) => Stop::Refused(Refusal::IllTyped(fault, at, text)),
         Err(_) => Stop::Memory,
     }
 }
