@@ -1,16 +1,15 @@
 -- From what was read, resolved and checked to what is loaded, and from a record file to its records.
-use Rattle.std.proofs.Common.{◌≡◌, ℕ, ◌+◌, ◌<◌, ◌≤◌, Bool, true, false, cond, ◌↔◌, IsTrue, List, [], ◌∷◌, ◌++◌, length, map, take, get_or, ◌||◌, not, refl, sym, ap, ◌∙◌, subst, inl, inr, arith}
-use Rattle.std.specs.Prelude.{None, Some, Option, Ok, Err, Result, ◌⊎◌, slice_get, nat_lt}
-use Rattle.std.specs.List.{All, Contains, position, position_or_len, list_any}
+use Rattle.std.proofs.Common.{◌≡◌, ℕ, ◌+◌, ◌<◌, ◌≤◌, Bool, true, false, ◌↔◌, IsTrue, List, [], ◌∷◌, ◌++◌, length, take, get_or, not, refl, sym, ap, ◌∙◌, subst, inl, inr, arith}
+use Rattle.std.specs.Prelude.{None, Some, Ok, Err, Result, ◌⊎◌, slice_get}
+use Rattle.std.specs.List.{All, position, position_or_len}
 use Rattle.std.specs.Option.{option_and_then}
 use Rattle.std.specs.FinMap as finite
 use Rattle.std.proofs.lemmas.Bool.Decides.{nat_tests}
-use Rattle.std.proofs.lemmas.List.{length-map, length_push}
-use Rattle.std.proofs.lemmas.List.Elements.{All-get_or, All-map, All-more, All-from_get_or}
+use Rattle.std.proofs.lemmas.List.{length_push}
 use Rattle.std.proofs.lemmas.List.Quantifiers.{position-Some}
 use Rattle.std.proofs.lemmas.List.Sums.{fails_before_first, position_or_len_is}
 use Rattle.std.specs.Cmp.{both_ways}
-use Rattle.std.proofs.lemmas.Option.{get_or_from_slice_get, slice_get_within, slice_get-get_or}
+use Rattle.std.proofs.lemmas.Option.{slice_get-get_or}
 use Rattle.sn_ast.specs.declared.declaration.Program.{Program as Tree}
 use Rattle.sn_lexer.specs.Answer.{LexesAs, IsFault}
 use Rattle.sn_lexer.specs.declared.token.LexFault.{LexFault}
@@ -38,13 +37,12 @@ use Rattle.sn_scope.specs.declared.resolution.ScopeFault.{ScopeFault}
 use Rattle.sn_scope.specs.declared.resolution.ScopeFault.TheVariants as scope
 use Rattle.sn_top.specs.declared.load.Program.{Program}
 use Rattle.sn_top.specs.declared.status.Refusal.TheVariants.{TooLarge, Source as SourceAt, NoMain, TooDeep, LargeTree, TooManyNames, IllTyped, Variants, Line}
-use Rattle.sn_top.specs.declared.status.TypeFault.TheVariants as type
 use Rattle.sn_top.specs.declared.status.LineFault.TheVariants as wrong
 use Rattle.sn_top.specs.declared.status.Stop.{Stop}
 use Rattle.sn_top.specs.declared.status.Stop.TheVariants.{Refused, Faulted, Unread, Memory, Write}
 use Rattle.sn_top.specs.Source.{IsSource, lex_stop, parse_stop}
-use Rattle.sn_top.specs.Scope.{IsMain, RefusesClaim, TellsRefusal, TellsType, WhyRefused, WhyUnloaded, scope_stop}
-use Rattle.sn_top.specs.Load.{IsLoaded, IsTypedFile, WhyUnreadable, input_stop, is_of_type, untyped_line}
+use Rattle.sn_top.specs.Scope.{IsMain, RefusesClaim, TellsRefusal, WhyRefused, WhyUnloaded, scope_stop}
+use Rattle.sn_top.specs.Load.{IsLoaded, IsTypedFile, WhyUnreadable, input_stop, is_of_type}
 
 -- the first claim that is refused
 module _ (parts : Parts) (i : ℕ) (claim : Claim) (here : claim ≡ get_or parts.claims i claim) (below : i < length parts.claims) (earlier : All (IsAccepted parts.boxes) (take i parts.claims)) where

@@ -26,7 +26,7 @@ use Rattle.sn_model.specs.Run.{boxes_of, depth_of, fuel_of, net_of, setting_of}
 use Rattle.sn_input.specs.declared.input.Input.{Input}
 use Rattle.sn_model.specs.Typed.{FitsNet}
 use Rattle.sn_io.specs.Told.{appended, AppendsPrefix}
-use Rattle.sn_io.proofs.Told.{appended_none, appended_twice, prefix_after, prefix_before}
+use Rattle.sn_io.proofs.Told.{appended_twice, prefix_after, prefix_before}
 use Rattle.sn_output.specs.Line.{line}
 use Rattle.sn_output.specs.Printed.{printed, ending}
 use Rattle.sn_top.specs.declared.load.Program.{Program}
@@ -91,7 +91,7 @@ module _ (names : List (List ℕ)) (stream : List ModelItem) (before : List Item
         let follows = printed_first names given later in (
           follows.0,
           all_printed ∙ ap (λ bytes. printed names (map modelled before) ++ bytes) (ap (printed names) fed ∙ follows.1 ∙ ap (λ t. t ++ follows.0) (sym shown))
-          ∙ sym (append_assoc (printed names (map modelled before)) text follows.0),
+              ∙ sym (append_assoc (printed names (map modelled before)) text follows.0),
         )
 
     -- the lines of the items were cut off

@@ -1,5 +1,5 @@
 -- From what each step of a run gave to why it stopped, and what it printed.
-use Rattle.std.proofs.Common.{◌≡◌, ℕ, ◌<◌, ◌≤◌, List, length, Option, None, Some, refl, sym, ap, subst, ◌∙◌, arith, inl, inr}
+use Rattle.std.proofs.Common.{◌≡◌, ℕ, ◌<◌, ◌≤◌, List, length, Option, None, Some, refl, sym, subst, ◌∙◌, arith, inl, inr}
 use Rattle.std.specs.Prelude.{Ok, IfSome, ◌⊎◌}
 use Rattle.sn_io.specs.Causes.{Rose}
 use Rattle.sn_io.specs.Told.{appended, AppendsPrefix}
@@ -13,7 +13,7 @@ use Rattle.sn_top.specs.declared.status.Refusal.{Refusal}
 use Rattle.sn_top.specs.declared.status.Stop.{Stop}
 use Rattle.sn_top.specs.declared.status.Stop.TheVariants.{Refused, Faulted, Unread, Memory, Write}
 use Rattle.sn_top.specs.declared.serve.TheConstants.{SOURCE_LIMIT, INPUT_LIMIT}
-use Rattle.sn_top.specs.Seen.{Sink, File, SinkFailed, WhyUnread}
+use Rattle.sn_top.specs.Seen.{Sink, File, WhyUnread}
 use Rattle.sn_record.specs.declared.item.Fault.{Fault}
 use Rattle.sn_top.specs.Load.{Limits, HasManyNames, HasWrongLine, IsLoaded, IsTypedFile, stream_of}
 use Rattle.sn_top.specs.Runs.{HasBegun, HasRun, WhyNotRun}
@@ -115,9 +115,12 @@ module _ (limits : Limits) (source input : File) (out : Sink) (bytes : List ℕ)
 
   finds_shown : (file : RecordFile) → IsTypedFile program.names program.claim more file → Finds limits source.told input.told (Ok (shown file))
   finds_shown file typed =
-      of_source (λ t. (q : Program) × IsAccepted t q × IfSome input.told (λ m. Prints limits q m (shown file)))
-      (program, accepted bytes program is read.within, of_told input.told more (λ m. Prints limits program m (shown file)) has.told
-      (record { within = has.within; input = file; typed = typed; bytes_are = refl; ending_is = refl }))
+      of_source (λ t. (q : Program) × IsAccepted t q × IfSome input.told (λ m. Prints limits q m (shown file))) (
+        program,
+        accepted bytes program is read.within,
+        of_told input.told more (λ m. Prints limits program m (shown file)) has.told
+            (record { within = has.within; input = file; typed = typed; bytes_are = refl; ending_is = refl }),
+      )
 
   -- what is found, by how it ends
   pub finds_run : (fault ended : Option Fault) → HasRun limits program more out fault → fault ≡ ended

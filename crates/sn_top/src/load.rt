@@ -130,12 +130,7 @@ fn first_untyped(variants: &[LabelSet], records: &[Record]) -> Option<usize>
 }
 
 /// The records of an input, and the names of its labels, the new ones at the end of those that are known.
-pub fn read_input(
-    alloc: Global,
-    names: Names,
-    claim: &Claim,
-    bytes: &[u8],
-) -> Result<Input, Stop>
+pub fn read_input(alloc: Global, names: Names, claim: &Claim, bytes: &[u8]) -> Result<Input, Stop>
     requires { length bytes.now ≤ INPUT_LIMIT }
     ensures read { IfOk result (IsTypedFile names claim.now bytes.now) }
     ensures ended { IfErr result (WhyUnreadable names claim.now bytes.now) }

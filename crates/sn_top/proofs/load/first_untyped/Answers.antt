@@ -1,4 +1,4 @@
-use Rattle.std.proofs.Common.{◌≡◌, Bool, get_or, not, sym, ap, ◌∙◌, arith}
+use Rattle.std.proofs.Common.{not, sym, ap, ◌∙◌, arith}
 use Rattle.std.specs.FinMap as finite
 use Rattle.sn_record.specs.Record.{Entries}
 use Rattle.sn_top.specs.Load.{is_of_type}

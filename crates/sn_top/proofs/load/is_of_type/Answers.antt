@@ -1,6 +1,5 @@
-use Rattle.std.proofs.Common.{◌≡◌, ◌||◌, Bool, true, false, get_or, sym, ap, ap₂, ◌∙◌}
+use Rattle.std.proofs.Common.{◌||◌, Bool, sym, ap, ap₂, ◌∙◌}
 use Rattle.std.proofs.lemmas.List.Folds.{list_any_at, list_any_more}
-use Rattle.sn_record.specs.LabelSet.{Labels}
 use Rattle.sn_record.specs.Record.{is_match}
 use Rattle.sn_top.proofs.Loading.{match_test}
 use Rattle.sn_top.proofs.load.is_of_type.Goals as goal

@@ -1,5 +1,4 @@
-use Rattle.std.proofs.Common.{◌≡◌, refl, arith}
-use Rattle.sn_top.specs.Load.{Limits, limits_of}
+use Rattle.sn_top.specs.Load.{limits_of}
 use Rattle.sn_top.specs.Seen.{Sink, seen_sink}
 use Rattle.sn_top.proofs.Running.{has_not_run, has_run, records_typed, run_typed}
 use Rattle.sn_top.proofs.transcript.run_program.Goals as goal
