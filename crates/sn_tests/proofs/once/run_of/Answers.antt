@@ -15,5 +15,5 @@ single_fits f closed =
     ∣ subst (IsWellFormed []) (rolls-Filter f)
     (record { closed = All-nil IsClosedBox; sound = every_made-Net (IsSound []) (Net-F.Filter f) (Net-F.Filter f) refl closed }) ∣₁
 
-pub new-requires-2-clause-formed : goal.new-requires-2-clause-formed
-new-requires-2-clause-formed c = subst (λ boxes. FitsBoxes boxes (FilterLeaf c.args.filter)) (sym c.new.ensures) (single_fits c.args.filter c.requires)
+pub new-requires-clause-formed : goal.new-requires-clause-formed
+new-requires-clause-formed c = subst (λ boxes. FitsBoxes boxes (FilterLeaf c.args.filter)) (sym c.new-boxes.ensures) (single_fits c.args.filter c.requires)
