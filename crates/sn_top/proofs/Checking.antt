@@ -1,10 +1,10 @@
 -- From what each step of a check gave to why it stopped, and what it printed.
-use Rattle.std.proofs.Common.{◌≡◌, ℕ, List, refl, inl}
+use Rattle.std.proofs.Common.{◌≡◌, ℕ, List, None, refl, inl}
 use Rattle.std.specs.Prelude.{Ok, IfSome}
 use Rattle.sn_io.specs.Told.{AppendsPrefix}
 use Rattle.sn_top.specs.declared.load.Program.{Program}
 use Rattle.sn_top.specs.declared.status.Which.TheVariants.{Source, Input}
-use Rattle.sn_top.specs.declared.status.Refusal.TheVariants.{TooLarge, Source as SourceAt, NoMain, TooDeep, LargeTree, TooManyNames, Type, Variants, Line}
+use Rattle.sn_top.specs.declared.status.Refusal.TheVariants.{TooLarge, Source as SourceAt, NoMain, TooDeep, LargeTree, TooManyNames, IllTyped, Variants, Line}
 use Rattle.sn_top.specs.declared.status.Refusal.{Refusal}
 use Rattle.sn_top.specs.declared.status.Stop.{Stop}
 use Rattle.sn_top.specs.declared.status.Stop.TheVariants.{Refused, Faulted, Unread, Memory, Write}
@@ -25,7 +25,7 @@ module _ (source : File) (out : Sink) where
   types_unread same (Refused (TooDeep at)) why = absurd why
   types_unread same (Refused (LargeTree at)) why = absurd why
   types_unread same (Refused TooManyNames) why = absurd why
-  types_unread same (Refused (Type fault at variant)) why = absurd why
+  types_unread same (Refused (IllTyped fault at variant)) why = absurd why
   types_unread same (Refused (Variants at)) why = absurd why
   types_unread same (Refused (Line fault)) why = absurd why
   types_unread same (Faulted fault) why = absurd why
@@ -45,7 +45,7 @@ module _ (source : File) (out : Sink) where
     not_checked same (Refused (TooDeep at)) why = (refused (TooDeep at) why, same)
     not_checked same (Refused (LargeTree at)) why = (refused (LargeTree at) why, same)
     not_checked same (Refused TooManyNames) why = (refused TooManyNames why, same)
-    not_checked same (Refused (Type fault at variant)) why = (refused (Type fault at variant) why, same)
+    not_checked same (Refused (IllTyped fault at variant)) why = (refused (IllTyped fault at variant) why, same)
     not_checked same (Refused (Variants at)) why = (refused (Variants at) why, same)
     not_checked same (Refused (Line fault)) why = absurd why
     not_checked same (Faulted fault) why = absurd why

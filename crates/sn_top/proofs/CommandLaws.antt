@@ -16,7 +16,7 @@ use Rattle.sn_top.specs.declared.words.Setting.TheVariants.{Fuel, Depth}
 use Rattle.sn_top.specs.declared.words.WordsFault.{WordsFault}
 use Rattle.sn_top.specs.declared.words.Verb.{Verb}
 use Rattle.sn_top.specs.declared.words.Verb.TheVariants.{Check, Once, Print}
-use Rattle.sn_top.specs.Words.{Given, IsInRange, behind, first_given, is_equals, is_nothing, is_option, is_word, made_of, named, nothing, number_of, once_of, option_name, option_value, print_of, read_on, set, setting_of, within}
+use Rattle.sn_top.specs.Words.{Given, IsInRange, behind, first_given, is_equals, is_nothing, is_option, is_word, made_of, named, nothing, number_of, once_of, option_name, option_value, read_on, set, setting_of, source_alone, within}
 
 -- a `=` stands in the word
 pub value_found : (word value : List ℕ) → position_or_len is_equals word < length word → value ≡ after_first is_equals word → Some value ≡ option_value word

@@ -1,13 +1,13 @@
 -- What can come out for one variant of the input, and the lines that say it.
-use Rattle.std.proofs.Common.{◌≡◌, ℕ, zero, suc, ◌<◌, List, [], ◌∷◌, ◌++◌, length, refl, sym, ap, ◌∙◌, subst, append-nil, append_assoc, arith}
-use Rattle.std.specs.Prelude.{Ok, Err, Result, codes}
+use Rattle.std.proofs.Common.{◌≡◌, ℕ, zero, suc, List, [], ◌∷◌, ◌++◌, refl, sym, ap, ◌∙◌, subst, append-nil, append_assoc, arith}
+use Rattle.std.specs.Prelude.{Err, codes}
 use Rattle.std.specs.List.{Contains}
 use Rattle.sn_record.specs.LabelSet.{Labels}
 use Rattle.sn_types.specs.RecordType.{minimal}
 use Rattle.sn_typing.specs.Outline.{Outline, outline}
 use Rattle.sn_typing.specs.Flow.{Safe}
 use Rattle.sn_typing.specs.Reached.{Turn}
-use Rattle.sn_typing.specs.Accepted.{AreFew, IsAccepted, IsBounded, IsReached}
+use Rattle.sn_typing.specs.Accepted.{IsAccepted, IsBounded, IsReached}
 use Rattle.sn_typing.proofs.Routes.{reached_routed}
 use Rattle.sn_flow.specs.Verdicts.{FlowFound, IsFlowOf, IsUnrouted}
 use Rattle.sn_flow.specs.declared.fault.FlowFault.{FlowFault}
@@ -65,7 +65,7 @@ line_pushed program v flow before named opened typed all more comes name arrow t
       line,
       record { flow = flow; comes = comes; text = more; is_type = text; line_is = refl },
       end ∙ ap (λ t. t ++ codes "\n") (type ∙ ap (λ t. t ++ more) (arrow ∙ ap (λ t. t ++ codes " -> ") name))
-      ∙ append_assoc ((before ++ variant) ++ codes " -> ") more (codes "\n")
-      ∙ append_assoc (before ++ variant) (codes " -> ") (more ++ codes "\n")
-      ∙ append_assoc before variant (codes " -> " ++ (more ++ codes "\n")),
+          ∙ append_assoc ((before ++ variant) ++ codes " -> ") more (codes "\n")
+          ∙ append_assoc (before ++ variant) (codes " -> ") (more ++ codes "\n")
+          ∙ append_assoc before variant (codes " -> " ++ (more ++ codes "\n")),
     )

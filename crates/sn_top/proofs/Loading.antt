@@ -1,15 +1,15 @@
 -- From what was read, resolved and checked to what is loaded, and from a record file to its records.
-use Rattle.std.proofs.Common.{◌≡◌, ℕ, ◌+◌, ◌<◌, ◌≤◌, Bool, true, false, cond, IsTrue, List, [], ◌∷◌, ◌++◌, length, map, take, get_or, ◌||◌, not, refl, sym, ap, ◌∙◌, subst, inl, inr, arith}
-use Rattle.std.specs.Prelude.{None, Some, Option, Ok, Err, Result, ◌⊎◌, slice_get, nat_lt}
-use Rattle.std.specs.List.{All, Contains, position, position_or_len, list_any}
+use Rattle.std.proofs.Common.{◌≡◌, ℕ, ◌+◌, ◌<◌, ◌≤◌, Bool, true, false, ◌↔◌, IsTrue, List, [], ◌∷◌, ◌++◌, length, take, get_or, not, refl, sym, ap, ◌∙◌, subst, inl, inr, arith}
+use Rattle.std.specs.Prelude.{None, Some, Ok, Err, Result, ◌⊎◌, slice_get}
+use Rattle.std.specs.List.{All, position, position_or_len}
 use Rattle.std.specs.Option.{option_and_then}
 use Rattle.std.specs.FinMap as finite
 use Rattle.std.proofs.lemmas.Bool.Decides.{nat_tests}
-use Rattle.std.proofs.lemmas.List.{length-map, length_push}
-use Rattle.std.proofs.lemmas.List.Elements.{All-get_or, All-map, All-more, All-from_get_or}
+use Rattle.std.proofs.lemmas.List.{length_push}
 use Rattle.std.proofs.lemmas.List.Quantifiers.{position-Some}
-use Rattle.std.proofs.lemmas.List.Sums.{fails_before_first}
-use Rattle.std.proofs.lemmas.Option.{get_or_from_slice_get, slice_get_within, slice_get-get_or}
+use Rattle.std.proofs.lemmas.List.Sums.{fails_before_first, position_or_len_is}
+use Rattle.std.specs.Cmp.{both_ways}
+use Rattle.std.proofs.lemmas.Option.{slice_get-get_or}
 use Rattle.sn_ast.specs.declared.declaration.Program.{Program as Tree}
 use Rattle.sn_lexer.specs.Answer.{LexesAs, IsFault}
 use Rattle.sn_lexer.specs.declared.token.LexFault.{LexFault}
@@ -19,7 +19,8 @@ use Rattle.sn_parser.specs.Answer.{Faults}
 use Rattle.sn_parser.specs.declared.parsing.ParseFault.{ParseFault}
 use Rattle.sn_parser.specs.declared.parsing.ParseFault.TheVariants as parse_fault
 use Rattle.sn_record.specs.LabelSet.{Labels}
-use Rattle.sn_record.specs.Record.{Entries, is_match}
+use Rattle.sn_record.specs.Record.{Entries, Matches, is_match}
+use Rattle.sn_record.proofs.Scores.{is_match-Matches}
 use Rattle.sn_net.specs.declared.net.Claim.{Claim}
 use Rattle.sn_net.specs.WellFormed.{FitsBoxes}
 use Rattle.sn_typing.specs.Accepted.{IsAccepted}
@@ -35,14 +36,13 @@ use Rattle.sn_scope.specs.declared.resolved.Parts.{Parts}
 use Rattle.sn_scope.specs.declared.resolution.ScopeFault.{ScopeFault}
 use Rattle.sn_scope.specs.declared.resolution.ScopeFault.TheVariants as scope
 use Rattle.sn_top.specs.declared.load.Program.{Program}
-use Rattle.sn_top.specs.declared.status.Refusal.TheVariants.{TooLarge, Source as SourceAt, NoMain, TooDeep, LargeTree, TooManyNames, Type, Variants, Line}
-use Rattle.sn_top.specs.declared.status.TypeFault.TheVariants as type
+use Rattle.sn_top.specs.declared.status.Refusal.TheVariants.{TooLarge, Source as SourceAt, NoMain, TooDeep, LargeTree, TooManyNames, IllTyped, Variants, Line}
 use Rattle.sn_top.specs.declared.status.LineFault.TheVariants as wrong
 use Rattle.sn_top.specs.declared.status.Stop.{Stop}
 use Rattle.sn_top.specs.declared.status.Stop.TheVariants.{Refused, Faulted, Unread, Memory, Write}
 use Rattle.sn_top.specs.Source.{IsSource, lex_stop, parse_stop}
-use Rattle.sn_top.specs.Scope.{IsMain, RefusesClaim, TellsRefusal, TellsType, WhyRefused, WhyUnloaded, scope_stop}
-use Rattle.sn_top.specs.Load.{IsLoaded, IsTypedFile, WhyUnreadable, input_stop, is_of_type, untyped_line}
+use Rattle.sn_top.specs.Scope.{IsMain, RefusesClaim, TellsRefusal, WhyRefused, WhyUnloaded, scope_stop}
+use Rattle.sn_top.specs.Load.{IsLoaded, IsTypedFile, WhyUnreadable, input_stop, is_of_type}
 
 -- the first claim that is refused
 module _ (parts : Parts) (i : ℕ) (claim : Claim) (here : claim ≡ get_or parts.claims i claim) (below : i < length parts.claims) (earlier : All (IsAccepted parts.boxes) (take i parts.claims)) where
@@ -94,7 +94,7 @@ module _ (bytes : List ℕ) where
       not_accepted (Refused (TooDeep at)) why = absurd why
       not_accepted (Refused (LargeTree at)) why = absurd why
       not_accepted (Refused TooManyNames) why = absurd why
-      not_accepted (Refused (Type fault at variant)) why = record { parts = parts; resolved = record { tree = tree; read = read; is = is }; so = why }
+      not_accepted (Refused (IllTyped fault at variant)) why = record { parts = parts; resolved = record { tree = tree; read = read; is = is }; so = why }
       not_accepted (Refused (Variants at)) why = record { parts = parts; resolved = record { tree = tree; read = read; is = is }; so = why }
       not_accepted (Refused (Line fault)) why = absurd why
       not_accepted (Faulted fault) why = absurd why
@@ -110,6 +110,21 @@ module _ (bytes : List ℕ) where
         formed = fits;
       }
 
+-- the test of a match, as it is told
+pub match_test : (r : Entries) (v : Labels) (b : Bool) → IsTrue b ↔ Matches r v → is_match r v ≡ b
+match_test r v b told = both_ways (is_match r v) b (λ t. told.1 ((is_match-Matches r v).0 t)) (λ t. (is_match-Matches r v).1 (told.0 t))
+
+-- the first place that passes a test
+pub first_at : {X : Type 0} (p : X → Bool) (xs : List X) (i : ℕ) (d : X) → i < length xs → ((k : ℕ) → k < i → p (get_or xs k d) ≡ false) → p (get_or xs i d) ≡ true → Some i ≡ position p xs
+first_at p xs i d below earlier passes =
+    let at : position_or_len p xs ≡ i = position_or_len_is p xs i d (omega arith) earlier (λ l. passes) in
+    grind (arith, nat_tests)
+
+pub none_at : {X : Type 0} (p : X → Bool) (xs : List X) (d : X) → ((k : ℕ) → k < length xs → p (get_or xs k d) ≡ false) → None ≡ position p xs
+none_at p xs d fail =
+    let at : position_or_len p xs ≡ length xs = position_or_len_is p xs (length xs) d (omega arith) fail (λ l. absurd (omega arith)) in
+    grind (arith, nat_tests)
+
 -- as many lines as records
 abbrev AreAsMany : Result Input InputFault → Type 0
 AreAsMany (Ok input) = length input.lines ≡ length input.records
@@ -120,8 +135,8 @@ as_many_more xs ys x y same = length_push xs x ∙ ap (λ n. n + 1) same ∙ sym
 
 as_many_read : (n : ℕ) (input : Input) (lines : List (List ℕ)) (result : Result Input InputFault) → Reads n input lines result → length input.lines ≡ length input.records → AreAsMany result
 as_many_read n input lines result end same = same
-as_many_read n input lines result (blank {n'} {input'} {line} {lines'} {result'} is more) same = as_many_read (n' + 1) input' lines' result' more same
-as_many_read n input lines result (taken {n'} {input'} {line} {entries} {lines'} {result'} is more) same =
+as_many_read n input lines result (blank {n = n'} {input = input'} {line = line} {lines = lines'} {result = result'} is more) same = as_many_read (n' + 1) input' lines' result' more same
+as_many_read n input lines result (taken {n = n'} {input = input'} {line = line} {entries = entries} {lines = lines'} {result = result'} is more) same =
     as_many_read (n' + 1) (with_record input' n' entries) lines' result' more (as_many_more input'.lines input'.records _ _ same)
 as_many_read n input lines result (refused is) same = tt
 

@@ -12,7 +12,7 @@ use Rattle.sn_parser.specs.declared.parsing.ParseFault.TheVariants as parse_faul
 use Rattle.sn_top.specs.declared.serve.TheConstants.{SOURCE_LIMIT}
 use Rattle.sn_top.specs.declared.status.Which.TheVariants.{Source, Input}
 use Rattle.sn_top.specs.declared.status.Refusal.{Refusal}
-use Rattle.sn_top.specs.declared.status.Refusal.TheVariants.{TooLarge, Source as SourceAt, NoMain, TooDeep, LargeTree, TooManyNames, Type, Variants, Line}
+use Rattle.sn_top.specs.declared.status.Refusal.TheVariants.{TooLarge, Source as SourceAt, NoMain, TooDeep, LargeTree, TooManyNames, IllTyped, Variants, Line}
 use Rattle.sn_top.specs.declared.status.Stop.{Stop}
 use Rattle.sn_top.specs.declared.status.Stop.TheVariants.{Refused, Faulted, Unread, Memory, Write}
 use Rattle.sn_top.specs.Answer.{FindsText, whole, WhyUnprinted}
@@ -42,7 +42,7 @@ module _ (source : File) (out : Sink) where
   text_unread same (Refused (LargeTree at)) why = absurd why
   text_unread same (Refused TooManyNames) why = absurd why
   text_unread same (Refused (Line fault)) why = absurd why
-  text_unread same (Refused (Type fault at variant)) why = absurd why
+  text_unread same (Refused (IllTyped fault at variant)) why = absurd why
   text_unread same (Refused (Variants at)) why = absurd why
   text_unread same (Faulted fault) why = absurd why
   text_unread same (Unread Source) why = (why.1, same)
@@ -62,7 +62,7 @@ module _ (source : File) (out : Sink) where
     no_text same (Refused (LargeTree at)) why = absurd why
     no_text same (Refused TooManyNames) why = absurd why
     no_text same (Refused (Line fault)) why = absurd why
-    no_text same (Refused (Type fault at variant)) why = absurd why
+    no_text same (Refused (IllTyped fault at variant)) why = absurd why
     no_text same (Refused (Variants at)) why = absurd why
     no_text same (Faulted fault) why = absurd why
     no_text same (Unread which) why = absurd why

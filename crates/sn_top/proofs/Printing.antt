@@ -1,13 +1,11 @@
 -- What is printed of items that come one after another.
 use Rattle.std.proofs.Common.{◌≡◌, ℕ, List, [], ◌∷◌, ◌++◌, map, refl, sym, ap, ap₂, ◌∙◌, subst, append-nil, append_assoc}
-use Rattle.std.specs.Prelude.{Bool, true, false, Option, None, Some, is_some}
+use Rattle.std.specs.Prelude.{true, false, Option, None, Some, is_some}
 use Rattle.sn_record.specs.declared.item.Fault.{Fault}
 use Rattle.sn_record.specs.declared.item.Item.{Item}
 use Rattle.sn_record.specs.declared.item.Item.TheVariants as item
 use Rattle.sn_record.specs.Record.{Entries}
-use Rattle.sn_io.specs.Told.{appended, AppendsPrefix}
-use Rattle.sn_io.proofs.Told.{appended_twice, prefix_after, prefix_before}
-use Rattle.sn_net.specs.Item.{ModelItem, modelled}
+use Rattle.sn_net.specs.Item.{modelled}
 use Rattle.sn_output.specs.Line.{line}
 use Rattle.sn_output.specs.Printed.{printed, ending}
 use Rattle.sn_top.specs.Shown.{Shows}

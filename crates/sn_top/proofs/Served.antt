@@ -6,7 +6,7 @@ use Rattle.sn_io.proofs.Told.{appended_none}
 use Rattle.sn_top.specs.declared.words.Command.{Command}
 use Rattle.sn_top.specs.declared.status.Status.{Status}
 use Rattle.sn_top.specs.declared.status.Status.TheVariants as status
-use Rattle.sn_top.specs.declared.status.Refusal.TheVariants.{TooLarge, Source as SourceAt, NoMain, TooDeep, LargeTree, TooManyNames, Type, Variants, Line}
+use Rattle.sn_top.specs.declared.status.Refusal.TheVariants.{TooLarge, Source as SourceAt, NoMain, TooDeep, LargeTree, TooManyNames, IllTyped, Variants, Line}
 use Rattle.sn_top.specs.declared.status.Stop.{Stop}
 use Rattle.sn_top.specs.declared.status.Stop.TheVariants.{Refused, Faulted, Unread, Memory, Write}
 use Rattle.sn_top.specs.declared.status.LineFault.TheVariants as wrong
@@ -44,7 +44,7 @@ module _ (command : Command) (outside : Outside) where
   unread (Refused (Line (wrong.Untyped n))) stopped told is = cc
   unread (Refused (Line (wrong.Twice n kind name))) stopped told is = cc
   unread (Refused (Line (wrong.TooMany n))) stopped told is = cc
-  unread (Refused (Type fault at variant)) stopped line is = cc
+  unread (Refused (IllTyped fault at variant)) stopped line is = cc
   unread (Refused (Variants at)) stopped line is = cc
   unread (Faulted fault) stopped line is = cc
   unread (Unread which) stopped line is = record { which = which; why = stopped.0; out_same = stopped.1; err_got = line }
@@ -62,7 +62,7 @@ module _ (command : Command) (outside : Outside) where
   cut_short (Refused (Line (wrong.Untyped n))) stopped told is = cc
   cut_short (Refused (Line (wrong.Twice n kind name))) stopped told is = cc
   cut_short (Refused (Line (wrong.TooMany n))) stopped told is = cc
-  cut_short (Refused (Type fault at variant)) stopped line is = cc
+  cut_short (Refused (IllTyped fault at variant)) stopped line is = cc
   cut_short (Refused (Variants at)) stopped line is = cc
   cut_short (Faulted fault) stopped line is = cc
   cut_short (Unread which) stopped line is = cc
@@ -80,7 +80,7 @@ module _ (command : Command) (outside : Outside) where
   unwritten (Refused (Line (wrong.Untyped n))) stopped told is = cc
   unwritten (Refused (Line (wrong.Twice n kind name))) stopped told is = cc
   unwritten (Refused (Line (wrong.TooMany n))) stopped told is = cc
-  unwritten (Refused (Type fault at variant)) stopped line is = cc
+  unwritten (Refused (IllTyped fault at variant)) stopped line is = cc
   unwritten (Refused (Variants at)) stopped line is = cc
   unwritten (Faulted fault) stopped line is = cc
   unwritten (Unread which) stopped line is = cc

@@ -1,5 +1,5 @@
 -- From what each step of a run gave to why it stopped, and what it printed.
-use Rattle.std.proofs.Common.{◌≡◌, ℕ, ◌<◌, ◌≤◌, List, length, Option, None, Some, refl, sym, ap, subst, ◌∙◌, arith, inl, inr}
+use Rattle.std.proofs.Common.{◌≡◌, ℕ, ◌<◌, ◌≤◌, List, length, Option, None, Some, refl, sym, subst, ◌∙◌, arith, inl, inr}
 use Rattle.std.specs.Prelude.{Ok, IfSome, ◌⊎◌}
 use Rattle.sn_io.specs.Causes.{Rose}
 use Rattle.sn_io.specs.Told.{appended, AppendsPrefix}
@@ -8,12 +8,12 @@ use Rattle.sn_input.specs.declared.input.Input.{Input as RecordFile}
 use Rattle.sn_output.specs.Printed.{ending, printed}
 use Rattle.sn_top.specs.declared.load.Program.{Program}
 use Rattle.sn_top.specs.declared.status.Which.TheVariants.{Source, Input}
-use Rattle.sn_top.specs.declared.status.Refusal.TheVariants.{TooLarge, Source as SourceAt, NoMain, TooDeep, LargeTree, TooManyNames, Type, Variants, Line}
+use Rattle.sn_top.specs.declared.status.Refusal.TheVariants.{TooLarge, Source as SourceAt, NoMain, TooDeep, LargeTree, TooManyNames, IllTyped, Variants, Line}
 use Rattle.sn_top.specs.declared.status.Refusal.{Refusal}
 use Rattle.sn_top.specs.declared.status.Stop.{Stop}
 use Rattle.sn_top.specs.declared.status.Stop.TheVariants.{Refused, Faulted, Unread, Memory, Write}
 use Rattle.sn_top.specs.declared.serve.TheConstants.{SOURCE_LIMIT, INPUT_LIMIT}
-use Rattle.sn_top.specs.Seen.{Sink, File, SinkFailed, WhyUnread}
+use Rattle.sn_top.specs.Seen.{Sink, File, WhyUnread}
 use Rattle.sn_record.specs.declared.item.Fault.{Fault}
 use Rattle.sn_top.specs.Load.{Limits, HasManyNames, HasWrongLine, IsLoaded, IsTypedFile, stream_of}
 use Rattle.sn_top.specs.Runs.{HasBegun, HasRun, WhyNotRun}
@@ -43,7 +43,7 @@ module _ (limits : Limits) (source input : File) (out : Sink) (same : out.now �
   source_unread (Refused (LargeTree at)) why = absurd why
   source_unread (Refused TooManyNames) why = absurd why
   source_unread (Refused (Line fault)) why = absurd why
-  source_unread (Refused (Type fault at variant)) why = absurd why
+  source_unread (Refused (IllTyped fault at variant)) why = absurd why
   source_unread (Refused (Variants at)) why = absurd why
   source_unread (Faulted fault) why = absurd why
   source_unread (Unread Source) why = (why.1, same)
@@ -68,7 +68,7 @@ module _ (limits : Limits) (source input : File) (out : Sink) (same : out.now �
         (told_source (λ t. IsRefusedSource TooManyNames t ⊎ IsRefusedInput input.told HasManyNames t) (inl (read.within, why)), same)
     not_loaded (Refused (Line fault)) why = absurd why
     not_loaded (Faulted fault) why = absurd why
-    not_loaded (Refused (Type fault at variant)) why = (refused_source (Type fault at variant) why, same)
+    not_loaded (Refused (IllTyped fault at variant)) why = (refused_source (IllTyped fault at variant) why, same)
     not_loaded (Refused (Variants at)) why = (refused_source (Variants at) why, same)
     not_loaded (Unread which) why = absurd why
     not_loaded Memory why = inl same
@@ -90,7 +90,7 @@ module _ (limits : Limits) (source input : File) (out : Sink) (same : out.now �
       input_unread between told later now (Refused (LargeTree at)) why = absurd why
       input_unread between told later now (Refused TooManyNames) why = absurd why
       input_unread between told later now (Refused (Line fault)) why = absurd why
-      input_unread between told later now (Refused (Type fault at variant)) why = absurd why
+      input_unread between told later now (Refused (IllTyped fault at variant)) why = absurd why
       input_unread between told later now (Refused (Variants at)) why = absurd why
       input_unread between told later now (Faulted fault) why = absurd why
       input_unread between told later now (Unread Source) why = cc
@@ -102,8 +102,8 @@ module _ (limits : Limits) (source input : File) (out : Sink) (same : out.now �
 
 -- what a run of a loaded program printed is what is found of its source and its input
 module _ (limits : Limits) (source input : File) (out : Sink) (bytes : List ℕ) (read : HasBytes source SOURCE_LIMIT bytes) (program : Program) (is : IsLoaded bytes program) (more : List ℕ) (has : HasBytes input INPUT_LIMIT more) where
-  told_source : (P : List ℕ → Type 0) → P bytes → IfSome source.told P
-  told_source P p = of_told source.told bytes P read.told p
+  of_source : (P : List ℕ → Type 0) → P bytes → IfSome source.told P
+  of_source P p = of_told source.told bytes P read.told p
 
   refused_input : (Why : List (List ℕ) → Claim → List ℕ → Type 0) → Why program.names program.claim more → IsRefusedInput input.told Why bytes
   refused_input Why why =
@@ -115,9 +115,12 @@ module _ (limits : Limits) (source input : File) (out : Sink) (bytes : List ℕ)
 
   finds_shown : (file : RecordFile) → IsTypedFile program.names program.claim more file → Finds limits source.told input.told (Ok (shown file))
   finds_shown file typed =
-      told_source (λ t. (q : Program) × IsAccepted t q × IfSome input.told (λ m. Prints limits q m (shown file)))
-      (program, accepted bytes program is read.within, of_told input.told more (λ m. Prints limits program m (shown file)) has.told
-      (record { within = has.within; input = file; typed = typed; bytes_are = refl; ending_is = refl }))
+      of_source (λ t. (q : Program) × IsAccepted t q × IfSome input.told (λ m. Prints limits q m (shown file))) (
+        program,
+        accepted bytes program is read.within,
+        of_told input.told more (λ m. Prints limits program m (shown file)) has.told
+            (record { within = has.within; input = file; typed = typed; bytes_are = refl; ending_is = refl }),
+      )
 
   -- what is found, by how it ends
   pub finds_run : (fault ended : Option Fault) → HasRun limits program more out fault → fault ≡ ended
@@ -137,10 +140,10 @@ module _ (limits : Limits) (source input : File) (out : Sink) (bytes : List ℕ)
   not_run (Refused NoMain) why = absurd why.0
   not_run (Refused (TooDeep at)) why = absurd why.0
   not_run (Refused (LargeTree at)) why = absurd why.0
-  not_run (Refused TooManyNames) why = (told_source (λ t. IsRefusedSource TooManyNames t ⊎ IsRefusedInput input.told HasManyNames t) (inr (refused_input HasManyNames why.0)), why.1)
-  not_run (Refused (Type fault at variant)) why = absurd why.0
+  not_run (Refused TooManyNames) why = (of_source (λ t. IsRefusedSource TooManyNames t ⊎ IsRefusedInput input.told HasManyNames t) (inr (refused_input HasManyNames why.0)), why.1)
+  not_run (Refused (IllTyped fault at variant)) why = absurd why.0
   not_run (Refused (Variants at)) why = absurd why.0
-  not_run (Refused (Line fault)) why = (told_source (IsRefusedInput input.told (HasWrongLine fault)) (refused_input (HasWrongLine fault) why.0), why.1)
+  not_run (Refused (Line fault)) why = (of_source (IsRefusedInput input.told (HasWrongLine fault)) (refused_input (HasWrongLine fault) why.0), why.1)
   not_run (Faulted fault) why = absurd why
   not_run (Unread which) why = absurd why
   not_run Memory (inl same) = inl same

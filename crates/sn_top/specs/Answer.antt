@@ -8,7 +8,7 @@ use Rattle.sn_top.specs.declared.status.Status.TheVariants as status
 use Rattle.sn_top.specs.declared.status.Which.{Which}
 use Rattle.sn_top.specs.declared.status.Which.TheVariants.{Source, Input}
 use Rattle.sn_top.specs.declared.status.Refusal.{Refusal}
-use Rattle.sn_top.specs.declared.status.Refusal.TheVariants.{TooLarge, Source as SourceAt, NoMain, TooDeep, LargeTree, TooManyNames, Type, Variants, Line}
+use Rattle.sn_top.specs.declared.status.Refusal.TheVariants.{TooLarge, Source as SourceAt, NoMain, TooDeep, LargeTree, TooManyNames, IllTyped, Variants, Line}
 use Rattle.sn_top.specs.declared.status.Stop.{Stop}
 use Rattle.sn_top.specs.declared.status.Stop.TheVariants as stop
 use Rattle.sn_top.specs.declared.serve.TheConstants.{SOURCE_LIMIT, INPUT_LIMIT}
@@ -65,7 +65,7 @@ Finds limits source input (Err (TooDeep at)) = IfSome source (IsRefusedSource (T
 Finds limits source input (Err (LargeTree at)) = IfSome source (IsRefusedSource (LargeTree at))
 Finds limits source input (Err TooManyNames) = IfSome source (λ bytes. IsRefusedSource TooManyNames bytes ⊎ IsRefusedInput input HasManyNames bytes)
 Finds limits source input (Err (Line fault)) = IfSome source (IsRefusedInput input (HasWrongLine fault))
-Finds limits source input (Err (Type fault at variant)) = IfSome source (IsRefusedSource (Type fault at variant))
+Finds limits source input (Err (IllTyped fault at variant)) = IfSome source (IsRefusedSource (IllTyped fault at variant))
 Finds limits source input (Err (Variants at)) = IfSome source (IsRefusedSource (Variants at))
 Finds limits source input (Err (TooLarge Input)) = IfSome source (λ bytes. (program : Program) × IsAccepted bytes program × IfSome input (λ more. INPUT_LIMIT < length more))
 Finds limits source input (Ok p) = IfSome source (λ bytes. (program : Program) × IsAccepted bytes program × IfSome input (λ more. Prints limits program more p))
@@ -79,7 +79,7 @@ FindsText source (Err NoMain) = ⊥
 FindsText source (Err (TooDeep at)) = IfSome source (λ bytes. (length bytes ≤ SOURCE_LIMIT) × FindsSource bytes (Err (TooDeep at)))
 FindsText source (Err (LargeTree at)) = ⊥
 FindsText source (Err TooManyNames) = ⊥
-FindsText source (Err (Type fault at variant)) = ⊥
+FindsText source (Err (IllTyped fault at variant)) = ⊥
 FindsText source (Err (Variants at)) = ⊥
 FindsText source (Err (Line fault)) = ⊥
 FindsText source (Ok p) = IfSome source (λ bytes. (length bytes ≤ SOURCE_LIMIT) × FindsSource bytes (Ok p.bytes) × (p.ending ≡ None))
@@ -93,7 +93,7 @@ FindsTypes source (Err NoMain) = IfSome source (IsRefusedSource NoMain)
 FindsTypes source (Err (TooDeep at)) = IfSome source (IsRefusedSource (TooDeep at))
 FindsTypes source (Err (LargeTree at)) = IfSome source (IsRefusedSource (LargeTree at))
 FindsTypes source (Err TooManyNames) = IfSome source (IsRefusedSource TooManyNames)
-FindsTypes source (Err (Type fault at variant)) = IfSome source (IsRefusedSource (Type fault at variant))
+FindsTypes source (Err (IllTyped fault at variant)) = IfSome source (IsRefusedSource (IllTyped fault at variant))
 FindsTypes source (Err (Variants at)) = IfSome source (IsRefusedSource (Variants at))
 FindsTypes source (Err (Line fault)) = ⊥
 FindsTypes source (Ok p) = IfSome source (λ bytes. (program : Program) × IsAccepted bytes program × HasFlows program program.claim.input p.bytes × (p.ending ≡ None))

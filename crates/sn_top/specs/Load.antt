@@ -95,7 +95,7 @@ WhyNoRecords names claim bytes refusal.NoMain = ⊥
 WhyNoRecords names claim bytes (refusal.TooDeep at) = ⊥
 WhyNoRecords names claim bytes (refusal.LargeTree at) = ⊥
 WhyNoRecords names claim bytes refusal.TooManyNames = HasManyNames names claim bytes
-WhyNoRecords names claim bytes (refusal.Type fault at variant) = ⊥
+WhyNoRecords names claim bytes (refusal.IllTyped fault at variant) = ⊥
 WhyNoRecords names claim bytes (refusal.Variants at) = ⊥
 WhyNoRecords names claim bytes (refusal.Line fault) = HasWrongLine fault names claim bytes
 

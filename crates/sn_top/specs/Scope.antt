@@ -17,7 +17,7 @@ use Rattle.sn_top.specs.Source.{IsRefused, IsSource, IsWrong}
 use Rattle.sn_parser.specs.declared.parsing.ParseFault.TheVariants as parse_fault
 use Rattle.sn_top.specs.declared.load.Program.{Program}
 use Rattle.sn_top.specs.declared.status.Refusal.{Refusal}
-use Rattle.sn_top.specs.declared.status.Refusal.TheVariants.{TooLarge, Source as SourceAt, NoMain, TooDeep, LargeTree, TooManyNames, Type, Variants, Line}
+use Rattle.sn_top.specs.declared.status.Refusal.TheVariants.{TooLarge, Source as SourceAt, NoMain, TooDeep, LargeTree, TooManyNames, IllTyped, Variants, Line}
 use Rattle.sn_top.specs.declared.status.SourceFault.{SourceFault}
 use Rattle.sn_top.specs.declared.status.SourceFault.TheVariants.{BadUtf8, BadChar, NumberTooWide, TextOpen, Unexpected, Unknown, Twice, Arity, GuardTag}
 use Rattle.sn_top.specs.declared.status.TypeFault.{TypeFault}
@@ -62,7 +62,7 @@ IsIllTyped parts type.BadOutput at text = (v : Labels) × RefusesClaim parts (fl
 
 -- that types are wrong at a place is told with the variant printed, but for want of memory
 abbrev pub TellsType : List (List ℕ) → TypeFault → ℕ → Labels → Stop → Type 0
-TellsType names fault at v why = (why ≡ stop.Refused (Type fault at (variant_text names v))) ⊎ (why ≡ stop.Memory)
+TellsType names fault at v why = (why ≡ stop.Refused (IllTyped fault at (variant_text names v))) ⊎ (why ≡ stop.Memory)
 
 -- so is the refusal of a claim
 abbrev pub TellsRefusal : List (List ℕ) → FlowFault → Stop → Type 0
@@ -85,7 +85,7 @@ WhyRefused parts (stop.Refused NoMain) = ⊥
 WhyRefused parts (stop.Refused (TooDeep at)) = ⊥
 WhyRefused parts (stop.Refused (LargeTree at)) = ⊥
 WhyRefused parts (stop.Refused TooManyNames) = ⊥
-WhyRefused parts (stop.Refused (Type fault at variant)) = IsIllTyped parts fault at variant
+WhyRefused parts (stop.Refused (IllTyped fault at variant)) = IsIllTyped parts fault at variant
 WhyRefused parts (stop.Refused (Variants at)) = RefusesClaim parts (flow_fault.TooManyVariants at)
 WhyRefused parts (stop.Refused (Line fault)) = ⊥
 WhyRefused parts (stop.Faulted fault) = ⊥
@@ -124,7 +124,7 @@ WhyNoProgram bytes NoMain = IsUnresolved bytes scope.NoMain
 WhyNoProgram bytes (TooDeep at) = IsRefused bytes (parse_fault.TooDeep at)
 WhyNoProgram bytes (LargeTree at) = IsUnresolved bytes (scope.TooLarge at)
 WhyNoProgram bytes TooManyNames = IsUnresolved bytes scope.TooManyNames
-WhyNoProgram bytes (Type fault at variant) = ResolvesTo bytes (λ parts. IsIllTyped parts fault at variant)
+WhyNoProgram bytes (IllTyped fault at variant) = ResolvesTo bytes (λ parts. IsIllTyped parts fault at variant)
 WhyNoProgram bytes (Variants at) = ResolvesTo bytes (λ parts. RefusesClaim parts (flow_fault.TooManyVariants at))
 WhyNoProgram bytes (Line fault) = ⊥
 

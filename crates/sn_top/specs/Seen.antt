@@ -5,7 +5,7 @@ use Rattle.sn_io.specs.Told.{appended, AppendsPrefix}
 use Rattle.sn_top.specs.declared.status.Which.{Which}
 use Rattle.sn_top.specs.declared.status.Stop.{Stop}
 use Rattle.sn_top.specs.declared.status.Stop.TheVariants as stop
-use Rattle.sn_top.specs.declared.status.Refusal.TheVariants.{TooLarge, Source as SourceAt, NoMain, TooDeep, LargeTree, TooManyNames, Type, Variants, Line}
+use Rattle.sn_top.specs.declared.status.Refusal.TheVariants.{TooLarge, Source as SourceAt, NoMain, TooDeep, LargeTree, TooManyNames, IllTyped, Variants, Line}
 
 -- a sink: what it holds, where it is told, and its count of faults
 pub record Sink : Type 0 where
@@ -45,7 +45,7 @@ WhyUnread which limit file (stop.Refused NoMain) = ⊥
 WhyUnread which limit file (stop.Refused (TooDeep at)) = ⊥
 WhyUnread which limit file (stop.Refused (LargeTree at)) = ⊥
 WhyUnread which limit file (stop.Refused TooManyNames) = ⊥
-WhyUnread which limit file (stop.Refused (Type fault at variant)) = ⊥
+WhyUnread which limit file (stop.Refused (IllTyped fault at variant)) = ⊥
 WhyUnread which limit file (stop.Refused (Variants at)) = ⊥
 WhyUnread which limit file (stop.Refused (Line fault)) = ⊥
 WhyUnread which limit file (stop.Faulted fault) = ⊥

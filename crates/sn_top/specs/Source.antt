@@ -10,7 +10,7 @@ use Rattle.sn_parser.specs.declared.parsing.ParseFault.{ParseFault}
 use Rattle.sn_parser.specs.declared.parsing.ParseFault.TheVariants as parse_fault
 use Rattle.sn_print.specs.Declarations.{program_text}
 use Rattle.sn_top.specs.declared.status.Refusal.{Refusal}
-use Rattle.sn_top.specs.declared.status.Refusal.TheVariants.{TooLarge, Source as SourceAt, NoMain, TooDeep, LargeTree, TooManyNames, Type, Variants, Line}
+use Rattle.sn_top.specs.declared.status.Refusal.TheVariants.{TooLarge, Source as SourceAt, NoMain, TooDeep, LargeTree, TooManyNames, IllTyped, Variants, Line}
 use Rattle.sn_top.specs.declared.status.SourceFault.{SourceFault}
 use Rattle.sn_top.specs.declared.status.SourceFault.TheVariants.{BadUtf8, BadChar, NumberTooWide, TextOpen, Unexpected, Unknown, Twice, Arity, GuardTag}
 use Rattle.sn_top.specs.declared.status.Stop.{Stop}
@@ -55,7 +55,7 @@ FindsSource bytes (Err NoMain) = ⊥
 FindsSource bytes (Err (TooDeep at)) = IsRefused bytes (parse_fault.TooDeep at)
 FindsSource bytes (Err (LargeTree at)) = ⊥
 FindsSource bytes (Err TooManyNames) = ⊥
-FindsSource bytes (Err (Type fault at variant)) = ⊥
+FindsSource bytes (Err (IllTyped fault at variant)) = ⊥
 FindsSource bytes (Err (Variants at)) = ⊥
 FindsSource bytes (Err (Line fault)) = ⊥
 

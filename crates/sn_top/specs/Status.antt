@@ -9,7 +9,7 @@ use Rattle.sn_top.specs.declared.status.Status.TheVariants as status
 use Rattle.sn_top.specs.declared.status.Which.{Which}
 use Rattle.sn_top.specs.declared.status.Which.TheVariants.{Source, Input}
 use Rattle.sn_top.specs.declared.status.Refusal.{Refusal}
-use Rattle.sn_top.specs.declared.status.Refusal.TheVariants.{TooLarge, Source as SourceAt, NoMain, TooDeep, LargeTree, TooManyNames, Type, Variants, Line}
+use Rattle.sn_top.specs.declared.status.Refusal.TheVariants.{TooLarge, Source as SourceAt, NoMain, TooDeep, LargeTree, TooManyNames, IllTyped, Variants, Line}
 use Rattle.sn_top.specs.declared.status.LineFault.{LineFault}
 use Rattle.sn_top.specs.declared.status.LineFault.TheVariants as line
 use Rattle.sn_top.specs.declared.status.SourceFault.{SourceFault}
@@ -46,7 +46,7 @@ refusal_status NoMain = status.Source
 refusal_status (TooDeep at) = status.Limit
 refusal_status (LargeTree at) = status.Limit
 refusal_status TooManyNames = status.Limit
-refusal_status (Type fault at variant) = status.IllTyped
+refusal_status (IllTyped fault at variant) = status.IllTyped
 refusal_status (Variants at) = status.Limit
 refusal_status (Line fault) = line_status fault
 
@@ -97,7 +97,7 @@ refusal_label NoMain = codes "source: NoMain"
 refusal_label (TooDeep at) = codes "limit: TooDeep at "
 refusal_label (LargeTree at) = codes "limit: TooLarge at "
 refusal_label TooManyNames = codes "limit: Names"
-refusal_label (Type fault at variant) = type_label fault
+refusal_label (IllTyped fault at variant) = type_label fault
 refusal_label (Variants at) = codes "limit: Variants at "
 refusal_label (Line fault) = line_label fault
 
@@ -122,7 +122,7 @@ refusal_name NoMain source input = []
 refusal_name (TooDeep at) source input = decimal at
 refusal_name (LargeTree at) source input = decimal at
 refusal_name TooManyNames source input = []
-refusal_name (Type fault at variant) source input = decimal at
+refusal_name (IllTyped fault at variant) source input = decimal at
 refusal_name (Variants at) source input = decimal at
 refusal_name (Line fault) source input = decimal (line_number fault)
 
@@ -141,7 +141,7 @@ refusal_place NoMain = 0
 refusal_place (TooDeep at) = at
 refusal_place (LargeTree at) = at
 refusal_place TooManyNames = 0
-refusal_place (Type fault at variant) = at
+refusal_place (IllTyped fault at variant) = at
 refusal_place (Variants at) = at
 refusal_place (Line fault) = line_number fault
 
@@ -161,7 +161,7 @@ line_detail (line.TooMany n) = []
 
 -- the label, or the variant for which types are wrong
 abbrev pub refusal_detail : Refusal → List ℕ
-refusal_detail (Type fault at variant) = codes " for " ++ variant
+refusal_detail (IllTyped fault at variant) = codes " for " ++ variant
 refusal_detail (Line fault) = line_detail fault
 refusal_detail refusal = []
 

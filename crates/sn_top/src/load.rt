@@ -35,7 +35,7 @@ fn tell_type(alloc: Global, names: &Names, fault: TypeFault, at: u32, variant: &
 {
     let mut text = Seq::new(alloc);
     match push_variant(alloc, &mut text, variant, names) {
-        Ok(()) => Stop::Refused(Refusal::Type(fault, at, text)),
+        Ok(()) => Stop::Refused(Refusal::IllTyped(fault, at, text)),
         Err(_) => Stop::Memory,
     }
 }
@@ -130,12 +130,7 @@ fn first_untyped(variants: &[LabelSet], records: &[Record]) -> Option<usize>
 }
 
 /// The records of an input, and the names of its labels, the new ones at the end of those that are known.
-pub fn read_input(
-    alloc: Global,
-    names: Names,
-    claim: &Claim,
-    bytes: &[u8],
-) -> Result<Input, Stop>
+pub fn read_input(alloc: Global, names: Names, claim: &Claim, bytes: &[u8]) -> Result<Input, Stop>
     requires { length bytes.now ≤ INPUT_LIMIT }
     ensures read { IfOk result (IsTypedFile names claim.now bytes.now) }
     ensures ended { IfErr result (WhyUnreadable names claim.now bytes.now) }

@@ -197,7 +197,7 @@ pub enum Refusal {
     /// The labels have too many different names.
     TooManyNames,
     /// The types of a net are wrong at the place, for records of the variant, which is printed.
-    Type(TypeFault, u32, Text),
+    IllTyped(TypeFault, u32, Text),
     /// Too many variants flow in the net whose name stands there.
     Variants(u32),
     /// A line of the input is wrong.
@@ -323,7 +323,7 @@ impl Stop {
             Stop::Refused(Refusal::TooDeep(_)) => Status::Limit,
             Stop::Refused(Refusal::LargeTree(_)) => Status::Limit,
             Stop::Refused(Refusal::TooManyNames) => Status::Limit,
-            Stop::Refused(Refusal::Type(_, _, _)) => Status::IllTyped,
+            Stop::Refused(Refusal::IllTyped(_, _, _)) => Status::IllTyped,
             Stop::Refused(Refusal::Variants(_)) => Status::Limit,
             Stop::Refused(Refusal::Line(fault)) => fault.status(),
             Stop::Faulted(_) => Status::Fault,
@@ -341,7 +341,7 @@ impl Stop {
             Stop::Refused(Refusal::Source(_, at)) => *at,
             Stop::Refused(Refusal::TooDeep(at)) => *at,
             Stop::Refused(Refusal::LargeTree(at)) => *at,
-            Stop::Refused(Refusal::Type(_, at, _)) => *at,
+            Stop::Refused(Refusal::IllTyped(_, at, _)) => *at,
             Stop::Refused(Refusal::Variants(at)) => *at,
             Stop::Refused(Refusal::Line(fault)) => fault.number(),
             Stop::Faulted(fault) => fault.place,
@@ -360,7 +360,7 @@ impl Stop {
             Stop::Refused(Refusal::TooDeep(_)) => b"limit: TooDeep at ",
             Stop::Refused(Refusal::LargeTree(_)) => b"limit: TooLarge at ",
             Stop::Refused(Refusal::TooManyNames) => b"limit: Names",
-            Stop::Refused(Refusal::Type(fault, _, _)) => fault.label(),
+            Stop::Refused(Refusal::IllTyped(fault, _, _)) => fault.label(),
             Stop::Refused(Refusal::Variants(_)) => b"limit: Variants at ",
             Stop::Refused(Refusal::Line(fault)) => fault.label(),
             Stop::Faulted(fault) => ending_label(fault.kind),
@@ -381,7 +381,7 @@ impl Stop {
             Stop::Refused(Refusal::Source(_, _))
             | Stop::Refused(Refusal::TooDeep(_))
             | Stop::Refused(Refusal::LargeTree(_))
-            | Stop::Refused(Refusal::Type(_, _, _))
+            | Stop::Refused(Refusal::IllTyped(_, _, _))
             | Stop::Refused(Refusal::Variants(_))
             | Stop::Refused(Refusal::Line(_))
             | Stop::Faulted(_) => place,
@@ -394,7 +394,7 @@ impl Stop {
         ensures { result.0.now ++ (result.1.now ++ result.2.now) ≡ stop_detail self.now }
     {
         match self {
-            Stop::Refused(Refusal::Type(_, _, variant)) => (b" for ", variant.as_slice(), b""),
+            Stop::Refused(Refusal::IllTyped(_, _, variant)) => (b" for ", variant.as_slice(), b""),
             Stop::Refused(Refusal::Line(LineFault::Twice(_, Kind::Field, name))) => {
                 (b" ", name.as_slice(), b"")
             }

@@ -25,7 +25,9 @@ fn flow_of(alloc: Global, program: &Program, variant: &LabelSet) -> Result<Seq<L
     match flow(alloc, &program.claim.net, &program.boxes, variant) {
         Ok(variants) => Ok(variants),
         Err(FlowFault::Memory) => Err(Memory),
-        Err(_) => unreachable!(),
+        Err(FlowFault::NoRoute(_, _)) => unreachable!(),
+        Err(FlowFault::BadOutput(_, _)) => unreachable!(),
+        Err(FlowFault::TooManyVariants(_)) => unreachable!(),
     }
 }
 

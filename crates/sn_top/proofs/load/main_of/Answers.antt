@@ -1,4 +1,4 @@
-use Rattle.std.proofs.Common.{◌≡◌, ◌<◌, All, get_or, length, Some, refl, sym, ap, ◌∙◌, subst}
+use Rattle.std.proofs.Common.{◌≡◌, ◌<◌, All, get_or, length, Some, sym, ap, ◌∙◌, subst}
 use Rattle.std.proofs.lemmas.Option.{slice_get-get_or}
 use Rattle.sn_net.specs.WellFormed.{FitsBoxes}
 use Rattle.sn_net.specs.declared.net.Claim.{Claim}
@@ -6,14 +6,15 @@ use Rattle.sn_typing.specs.Accepted.{IsAccepted}
 use Rattle.sn_scope.specs.Resolution.{parts_of}
 use Rattle.sn_scope.specs.declared.resolved.Parts.{Parts}
 use Rattle.sn_top.proofs.load.main_of.Goals as goal
+use Rattle.sn_top.proofs.load.main_of.Goals.{After-drop-claims}
 
 -- the claim that was taken out is the main one
-taken_at : (c : goal.After-swap_remove-claim) → c.swap_remove-claim.result ≡ get_or (parts_of c.args.resolved).claims (parts_of c.args.resolved).main c.swap_remove-claim.result
+taken_at : (c : After-drop-claims) → c.swap_remove-claim.result ≡ get_or (parts_of c.args.resolved).claims (parts_of c.args.resolved).main c.swap_remove-claim.result
 taken_at c =
     let claim : Claim = c.swap_remove-claim.result in
     c.swap_remove-claim.ensures.value ∙ ap (λ cs. get_or cs c.into_parts-names.result.main claim) c.into_vec-claims.ensures ∙ ap (λ (p : Parts). get_or p.claims p.main claim) c.into_parts-names.ensures.parts
 
-main_below : (c : goal.After-swap_remove-claim) → (parts_of c.args.resolved).main < length (parts_of c.args.resolved).claims
+main_below : (c : After-drop-claims) → (parts_of c.args.resolved).main < length (parts_of c.args.resolved).claims
 main_below c = subst (λ (p : Parts). p.main < length p.claims) c.into_parts-names.ensures.parts c.into_parts-names.ensures.main
 
 pub returns-clause-main : goal.returns-clause-main

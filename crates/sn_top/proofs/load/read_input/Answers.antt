@@ -1,4 +1,25 @@
-use Rattle.std.proofs.Common.{◌≡◌, Some, None, ap, sym, subst, ◌∙◌}
-use Rattle.std.proofs.lemmas.Result.{err_from_is_err_and}
-use Rattle.sn_top.proofs.Loading.{line_there, not_read, typed, untyped}
+use Rattle.std.proofs.Common.{◌≡◌, List, Some, None, not, ap₂, sym, ◌∙◌}
+use Rattle.std.specs.List.{position}
+use Rattle.sn_record.specs.LabelSet.{Labels}
+use Rattle.sn_record.specs.Record.{Entries}
+use Rattle.sn_top.specs.Load.{is_of_type}
+use Rattle.sn_top.proofs.Loading.{line_there, typed, untyped}
 use Rattle.sn_top.proofs.load.read_input.Goals as goal
+
+pub at-requires : goal.at-requires
+at-requires c =
+    let first : position (λ (r : Entries). not (is_of_type c.args.claim.now.input r)) c.in_ok-input.input.records ≡ Some c.in-Some.i =
+    ap₂ (λ (vs : List Labels) (rs : List Entries). position (λ r. not (is_of_type vs r)) rs) (sym c.as_slice.ensures) (sym c.as_slice-2.ensures) ∙ sym c.first_untyped.ensures ∙ c.in-Some.is in
+    line_there c.args.names c.args.claim.now c.args.bytes.now c.in_ok-input.input c.in_ok-input.ensures.answer c.in-Some.i first
+
+pub returns-in-Some-clause-ended : goal.returns-in-Some-clause-ended
+returns-in-Some-clause-ended c =
+    let first : position (λ (r : Entries). not (is_of_type c.args.claim.now.input r)) c.in_ok-input.input.records ≡ Some c.in-Some.i =
+    ap₂ (λ (vs : List Labels) (rs : List Entries). position (λ r. not (is_of_type vs r)) rs) (sym c.as_slice.ensures) (sym c.as_slice-2.ensures) ∙ sym c.first_untyped.ensures ∙ c.in-Some.is in
+    untyped c.args.names c.args.claim.now c.args.bytes.now c.in_ok-input.input c.in_ok-input.ensures.answer c.in-Some.i c.at.result.now first c.at.ensures
+
+pub returns-in-None-clause-read : goal.returns-in-None-clause-read
+returns-in-None-clause-read c =
+    let none : position (λ (r : Entries). not (is_of_type c.args.claim.now.input r)) c.in_ok-input.input.records ≡ None =
+    ap₂ (λ (vs : List Labels) (rs : List Entries). position (λ r. not (is_of_type vs r)) rs) (sym c.as_slice.ensures) (sym c.as_slice-2.ensures) ∙ sym c.first_untyped.ensures ∙ c.in-None.is in
+    typed c.args.names c.args.claim.now c.args.bytes.now c.in_ok-input.input c.in_ok-input.ensures.answer none

@@ -1,6 +1,5 @@
 use Rattle.std.proofs.Common.{refl}
 use Rattle.std.proofs.lemmas.Result.{err_from_is_err_and}
-use Rattle.std.specs.Prelude.{inl}
 use Rattle.sn_io.specs.Told.{AppendsPrefix}
 use Rattle.sn_top.specs.Seen.{File, Sink, seen_file, seen_sink}
 use Rattle.sn_top.specs.Load.{IsLoaded}

@@ -1,7 +1,7 @@
-use Rattle.std.proofs.Common.{◌≡◌, Some, None, map, refl, sym, ap, ◌∙◌, subst}
-use Rattle.std.specs.Prelude.{IfSome, Err}
+use Rattle.std.proofs.Common.{◌≡◌, Some, None, refl, subst}
+use Rattle.std.specs.Prelude.{IfSome}
 use Rattle.std.proofs.lemmas.Result.{err_from_is_err_and}
-use Rattle.sn_top.specs.Seen.{File, Sink, seen_file, seen_sink, SinkFailed}
+use Rattle.sn_top.specs.Seen.{File, Sink, seen_file, seen_sink}
 use Rattle.sn_top.specs.Load.{limits_of, IsLoaded}
 use Rattle.sn_top.proofs.Serving.{source_unread, not_loaded, input_unread, not_run, finds_run, HasBytes}
 use Rattle.sn_top.proofs.serve.run_once.Goals as goal
