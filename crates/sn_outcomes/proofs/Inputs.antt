@@ -1,31 +1,22 @@
--- An input gives a program one thing: what is printed, or one refusal.
-use Rattle.std.proofs.Common.{ℕ, List, ◌≡◌, refl, sym, ◌∙◌, ap}
-use Rattle.std.specs.Prelude.{Result, Ok, Err, Option, Some, None}
+-- An input gives a claim one thing: the records of its input type, or one refusal.
+use Rattle.std.proofs.Common.{ℕ, List, ◌≡◌, refl, sym, ◌∙◌, ap, Bool, true, false}
+use Rattle.std.specs.Prelude.{Result, Ok, Err, Option, Some, None, IsTrue, not, slice_get}
+use Rattle.std.specs.List.{All, position}
+use Rattle.std.specs.Option.{option_and_then}
+use Rattle.std.specs.FinMap as finite
+use Rattle.std.proofs.lemmas.List.Quantifiers.{position-Some}
+use Rattle.sn_record.specs.Record.{Entries}
+use Rattle.sn_net.specs.declared.net.Claim.{Claim}
 use Rattle.sn_input.specs.Reading.{ReadsFile}
 use Rattle.sn_input.specs.declared.input.Input.{Input}
 use Rattle.sn_input.specs.declared.input.InputFault.{InputFault}
 use Rattle.sn_input.specs.declared.input.InputFault.TheVariants as input_fault
-use Rattle.sn_once.specs.Stuck.{first_stuck}
 use Rattle.sn_outcomes.proofs.RecordFiles.{file_read_once}
-use Rattle.sn_output.specs.Printed.{printed, ending}
-use Rattle.sn_top.specs.Answer.{Printout}
-use Rattle.sn_top.specs.Load.{Limits, HasWrongLine, IsRouted, WhyNoItems, stream_of}
-use Rattle.sn_top.specs.declared.load.Program.{Program}
+use Rattle.sn_top.specs.Load.{HasWrongLine, IsTypedFile, WhyNoRecords, is_of_type, untyped_line}
 use Rattle.sn_top.specs.declared.status.LineFault.{LineFault}
 use Rattle.sn_top.specs.declared.status.LineFault.TheVariants as line
 use Rattle.sn_top.specs.declared.status.Refusal.{Refusal}
-use Rattle.sn_top.specs.declared.status.Refusal.TheVariants.{TooLarge, Source, NoMain, TooDeep, LargeTree, TooManyNames, Line, NotBuilt}
-
-abbrev pub Found : Type 0
-Found = Result Printout Refusal
-
--- what comes of a stream: it is printed, unless a record lacks a route
-abbrev pub printout : Limits → Program → Input → Printout
-printout limits program input = record { bytes = printed input.names (stream_of limits program input); ending = ending (stream_of limits program input) }
-
-abbrev unless_stuck : Printout → Option ℕ → Found
-unless_stuck p None = Ok p
-unless_stuck p (Some place) = Err NotBuilt
+use Rattle.sn_top.specs.declared.status.Refusal.TheVariants.{TooLarge, Source, NoMain, TooDeep, LargeTree, TooManyNames, IllTyped, Variants, Line}
 
 -- the refusal of a record file; want of memory is none
 abbrev file_refusal : InputFault → Refusal
@@ -35,61 +26,81 @@ file_refusal (input_fault.TooMany n) = Line (line.TooMany n)
 file_refusal input_fault.TooManyNames = TooManyNames
 file_refusal input_fault.Memory = NoMain
 
+abbrev unless_untyped : Input → Option ℕ → Result Input Refusal
+unless_untyped input None = Ok input
+unless_untyped input (Some n) = Err (Line (line.Untyped n))
+
 -- what comes of what a record file is read as
-answer : Limits → Program → Result Input InputFault → Found
-answer limits program (Ok input) = unless_stuck (printout limits program input) (first_stuck (stream_of limits program input))
-answer limits program (Err fault) = Err (file_refusal fault)
+answer : Claim → Result Input InputFault → Result Input Refusal
+answer claim (Ok input) = unless_untyped input (untyped_line claim input)
+answer claim (Err fault) = Err (file_refusal fault)
 
-answer_ok : (limits : Limits) (program : Program) (input : Input) (stuck : Option ℕ) → first_stuck (stream_of limits program input) ≡ stuck →
-    answer limits program (Ok input) ≡ unless_stuck (printout limits program input) stuck
+answer_ok : (claim : Claim) (input : Input) (untyped : Option ℕ) → untyped_line claim input ≡ untyped → answer claim (Ok input) ≡ unless_untyped input untyped
 unfolding answer
-answer_ok limits program input stuck e = ap (unless_stuck (printout limits program input)) e
+answer_ok claim input untyped e = ap (unless_untyped input) e
 
-answer_wrong : (limits : Limits) (program : Program) (fault : InputFault) → answer limits program (Err fault) ≡ Err (file_refusal fault)
+answer_wrong : (claim : Claim) (fault : InputFault) → answer claim (Err fault) ≡ Err (file_refusal fault)
 unfolding answer
-answer_wrong limits program fault = refl
+answer_wrong claim fault = refl
 
 -- what is found of an input of these bytes
-pub record Comes (limits : Limits) (program : Program) (bytes : List ℕ) (found : Found) : Type 0 where
+pub record Comes (names : List (List ℕ)) (claim : Claim) (bytes : List ℕ) (found : Result Input Refusal) : Type 0 where
   read : Result Input InputFault
-  is_read : ReadsFile program.names bytes read
-  is : found ≡ answer limits program read
+  is_read : ReadsFile names bytes read
+  is : found ≡ answer claim read
 
-pub comes_once : (limits : Limits) (program : Program) (bytes : List ℕ) (found other : Found) → Comes limits program bytes found → Comes limits program bytes other → found ≡ other
-comes_once limits program bytes found other x y = x.is ∙ ap (answer limits program) (file_read_once program.names bytes x.read y.read x.is_read y.is_read) ∙ sym y.is
+pub comes_once : (names : List (List ℕ)) (claim : Claim) (bytes : List ℕ) (found other : Result Input Refusal) → Comes names claim bytes found → Comes names claim bytes other → found ≡ other
+comes_once names claim bytes found other x y = x.is ∙ ap (answer claim) (file_read_once names bytes x.read y.read x.is_read y.is_read) ∙ sym y.is
 
-wrong_comes : (limits : Limits) (program : Program) (bytes : List ℕ) (fault : InputFault) → ReadsFile program.names bytes (Err fault) → Comes limits program bytes (Err (file_refusal fault))
-wrong_comes limits program bytes fault r = record { read = Err fault; is_read = r; is = sym (answer_wrong limits program fault) }
+-- where each record is of the type, none has a line that is not
+fails_not : (b : Bool) → IsTrue b → not b ≡ true → ⊥
+fails_not true is e = absurd cc
+fails_not false is e = absurd cc
 
-line_comes : (limits : Limits) (program : Program) (bytes : List ℕ) (fault : LineFault) → HasWrongLine fault program bytes → Comes limits program bytes (Err (Line fault))
-line_comes limits program bytes (line.BadLine n) f = wrong_comes limits program bytes (input_fault.BadLine n) f
-line_comes limits program bytes (line.Twice n kind name) f = wrong_comes limits program bytes (input_fault.Twice n kind name) f
-line_comes limits program bytes (line.TooMany n) f = wrong_comes limits program bytes (input_fault.TooMany n) f
+none_first : (claim : Claim) (records : List Entries) (first : Option ℕ) → All (λ r. IsTrue (is_of_type claim.input r)) records → position (λ r. not (is_of_type claim.input r)) records ≡ first → first ≡ None
+none_first claim records None all e = refl
+none_first claim records (Some i) all e =
+    let found = position-Some (λ r. not (is_of_type claim.input r)) records i finite.empty e in
+    absurd (fails_not _ (all i finite.empty found.0) found.1)
 
-pub refusal_comes : (limits : Limits) (program : Program) (bytes : List ℕ) (refusal : Refusal) → WhyNoItems limits program bytes refusal → Comes limits program bytes (Err refusal)
-refusal_comes limits program bytes (TooLarge which) f = absurd f
-refusal_comes limits program bytes (Source fault at) f = absurd f
-refusal_comes limits program bytes NoMain f = absurd f
-refusal_comes limits program bytes (TooDeep at) f = absurd f
-refusal_comes limits program bytes (LargeTree at) f = absurd f
-refusal_comes limits program bytes TooManyNames f = wrong_comes limits program bytes input_fault.TooManyNames f
-refusal_comes limits program bytes (Line fault) f = line_comes limits program bytes fault f
-refusal_comes limits program bytes NotBuilt f = record { read = Ok f.input; is_read = f.read; is = sym (answer_ok limits program f.input (Some f.place) f.stuck) }
+none_untyped : (claim : Claim) (input : Input) → All (λ r. IsTrue (is_of_type claim.input r)) input.records → untyped_line claim input ≡ None
+none_untyped claim input all = ap (option_and_then (slice_get input.lines)) (none_first claim input.records (position (λ r. not (is_of_type claim.input r)) input.records) all refl)
 
-pub routed_comes : (limits : Limits) (program : Program) (bytes : List ℕ) (input : Input) → IsRouted limits program bytes input → Comes limits program bytes (Ok (printout limits program input))
-routed_comes limits program bytes input r = record { read = Ok input; is_read = r.read; is = sym (answer_ok limits program input None r.routed) }
+module _ (names : List (List ℕ)) (claim : Claim) (bytes : List ℕ) where
+  wrong_comes : (fault : InputFault) → ReadsFile names bytes (Err fault) → Comes names claim bytes (Err (file_refusal fault))
+  wrong_comes fault r = record { read = Err fault; is_read = r; is = sym (answer_wrong claim fault) }
 
-pub same_input : (limits : Limits) (program : Program) (bytes : List ℕ) (input other : Input) → IsRouted limits program bytes input → IsRouted limits program bytes other → input ≡ other
-same_input limits program bytes input other r s =
-    let same = file_read_once program.names bytes (Ok input) (Ok other) r.read s.read in
-    cc
+  line_comes : (fault : LineFault) → HasWrongLine fault names claim bytes → Comes names claim bytes (Err (Line fault))
+  line_comes (line.BadLine n) f = wrong_comes (input_fault.BadLine n) f
+  line_comes (line.Twice n kind name) f = wrong_comes (input_fault.Twice n kind name) f
+  line_comes (line.Untyped n) f = record { read = Ok f.input; is_read = f.read; is = sym (answer_ok claim f.input (Some n) f.first) }
+  line_comes (line.TooMany n) f = wrong_comes (input_fault.TooMany n) f
 
-pub same_wrong_input : (limits : Limits) (program : Program) (bytes : List ℕ) (refusal other : Refusal) → WhyNoItems limits program bytes refusal → WhyNoItems limits program bytes other → refusal ≡ other
-same_wrong_input limits program bytes refusal other r s =
-    let same = comes_once limits program bytes (Err refusal) (Err other) (refusal_comes limits program bytes refusal r) (refusal_comes limits program bytes other s) in
-    cc
+  pub refusal_comes : (refusal : Refusal) → WhyNoRecords names claim bytes refusal → Comes names claim bytes (Err refusal)
+  refusal_comes (TooLarge which) f = absurd f
+  refusal_comes (Source fault at) f = absurd f
+  refusal_comes NoMain f = absurd f
+  refusal_comes (TooDeep at) f = absurd f
+  refusal_comes (LargeTree at) f = absurd f
+  refusal_comes TooManyNames f = wrong_comes input_fault.TooManyNames f
+  refusal_comes (IllTyped fault at variant) f = absurd f
+  refusal_comes (Variants at) f = absurd f
+  refusal_comes (Line fault) f = line_comes fault f
 
-pub routed_or_refused : (limits : Limits) (program : Program) (bytes : List ℕ) (input : Input) (refusal : Refusal) → IsRouted limits program bytes input → WhyNoItems limits program bytes refusal → ⊥
-routed_or_refused limits program bytes input refusal r s =
-    let same = comes_once limits program bytes (Ok (printout limits program input)) (Err refusal) (routed_comes limits program bytes input r) (refusal_comes limits program bytes refusal s) in
-    absurd cc
+  pub typed_comes : (input : Input) → IsTypedFile names claim bytes input → Comes names claim bytes (Ok input)
+  typed_comes input t = record { read = Ok input; is_read = t.read; is = sym (answer_ok claim input None (none_untyped claim input t.typed)) }
+
+  pub same_input : (input other : Input) → IsTypedFile names claim bytes input → IsTypedFile names claim bytes other → input ≡ other
+  same_input input other r s =
+      let same = comes_once names claim bytes (Ok input) (Ok other) (typed_comes input r) (typed_comes other s) in
+      cc
+
+  pub same_wrong_input : (refusal other : Refusal) → WhyNoRecords names claim bytes refusal → WhyNoRecords names claim bytes other → refusal ≡ other
+  same_wrong_input refusal other r s =
+      let same = comes_once names claim bytes (Err refusal) (Err other) (refusal_comes refusal r) (refusal_comes other s) in
+      cc
+
+  pub typed_or_refused : (input : Input) (refusal : Refusal) → IsTypedFile names claim bytes input → WhyNoRecords names claim bytes refusal → ⊥
+  typed_or_refused input refusal r s =
+      let same = comes_once names claim bytes (Ok input) (Err refusal) (typed_comes input r) (refusal_comes refusal s) in
+      absurd cc

@@ -8,7 +8,13 @@ pub mod Tokens
 pub mod RecordFiles
 pub mod Programs
 pub mod Sources
+pub mod Resolved
+pub mod Claims
 pub mod Loaded
 pub mod Inputs
+pub mod SortedTexts
+pub mod Flows
+pub mod Judging
 pub mod Commands
 pub mod SourceAlone
+pub mod Done

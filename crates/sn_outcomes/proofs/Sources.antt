@@ -13,7 +13,7 @@ use Rattle.sn_parser.specs.declared.parsing.ParseFault.TheVariants as parse
 use Rattle.sn_print.specs.Declarations.{program_text}
 use Rattle.sn_top.specs.Source.{IsSource, IsRefused, IsWrong, FindsSource}
 use Rattle.sn_top.specs.declared.status.Refusal.{Refusal}
-use Rattle.sn_top.specs.declared.status.Refusal.TheVariants.{TooLarge, Source as SourceAt, NoMain, TooDeep, LargeTree, TooManyNames, Line, NotBuilt}
+use Rattle.sn_top.specs.declared.status.Refusal.TheVariants.{TooLarge, Source as SourceAt, NoMain, TooDeep, LargeTree, TooManyNames, IllTyped, Variants, Line}
 use Rattle.sn_top.specs.declared.status.SourceFault.{SourceFault}
 use Rattle.sn_top.specs.declared.status.SourceFault.TheVariants.{BadUtf8, BadChar, NumberTooWide, TextOpen, Unexpected, Unknown, Twice, Arity, GuardTag}
 
@@ -98,8 +98,9 @@ finds_text bytes (Err NoMain) f = absurd f
 finds_text bytes (Err (TooDeep at)) f = refused_text bytes (TooDeep at) (deep_read bytes at f)
 finds_text bytes (Err (LargeTree at)) f = absurd f
 finds_text bytes (Err TooManyNames) f = absurd f
+finds_text bytes (Err (IllTyped fault at variant)) f = absurd f
+finds_text bytes (Err (Variants at)) f = absurd f
 finds_text bytes (Err (Line fault)) f = absurd f
-finds_text bytes (Err NotBuilt) f = absurd f
 
 pub text_once : (bytes : List ℕ) (found other : Result (List ℕ) Refusal) → FindsSource bytes found → FindsSource bytes other → found ≡ other
 text_once bytes found other f g =

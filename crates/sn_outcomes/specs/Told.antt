@@ -2,10 +2,10 @@
 use Rattle.std.specs.Prelude.{◌≡◌, ℕ, List, Some}
 use Rattle.sn_top.specs.Seen.{File}
 use Rattle.sn_top.specs.declared.status.Refusal.{Refusal}
-use Rattle.sn_top.specs.declared.status.Refusal.TheVariants.{TooLarge, Source as SourceAt, NoMain, TooDeep, LargeTree, TooManyNames, Line, NotBuilt}
+use Rattle.sn_top.specs.declared.status.Refusal.TheVariants.{TooLarge, Source as SourceAt, NoMain, TooDeep, LargeTree, TooManyNames, IllTyped, Variants, Line}
 use Rattle.sn_top.specs.declared.status.Which.TheVariants.{Source, Input}
 use Rattle.sn_top.specs.declared.words.Command.{Command}
-use Rattle.sn_top.specs.declared.words.Command.TheVariants.{Once, Print}
+use Rattle.sn_top.specs.declared.words.Command.TheVariants.{Check, Once, Print}
 
 -- the bytes of the file are told
 pub record IsTold (file : File) : Type 0 where
@@ -15,6 +15,7 @@ pub record IsTold (file : File) : Type 0 where
 -- those of each file that the command reads
 abbrev pub AreTold : Command → (List ℕ → File) → Type 0
 AreTold (Once source input fuel depth) file = IsTold (file source) × IsTold (file input)
+AreTold (Check source) file = IsTold (file source)
 AreTold (Print source) file = IsTold (file source)
 
 -- no input is refused so
@@ -26,5 +27,6 @@ IsOfSource NoMain = Unit {0}
 IsOfSource (TooDeep at) = Unit {0}
 IsOfSource (LargeTree at) = Unit {0}
 IsOfSource TooManyNames = ⊥
+IsOfSource (IllTyped fault at variant) = Unit {0}
+IsOfSource (Variants at) = Unit {0}
 IsOfSource (Line fault) = ⊥
-IsOfSource NotBuilt = ⊥

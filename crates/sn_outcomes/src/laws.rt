@@ -1,8 +1,9 @@
 //! Laws of outcomes, each as the contract of a function that does nothing.
 //!
 //! Each layer is said by a relation between what is read and what comes of it. These laws say that such a relation holds of
-//! one outcome alone, so that "this is found where this is so" can be read as "and nothing else is".
-ghost use Rattle.std.specs.Prelude.{◌≡◌, ◌≢◌, ℕ, List, Option, Some, Result, Err};
+//! one outcome alone, so that "this is found where this is so" can be read as "and nothing else is". The last law says when
+//! that outcome is no refusal.
+ghost use Rattle.std.specs.Prelude.{◌≡◌, ◌≢◌, ◌≤◌, ℕ, List, length, Option, Some, Result, Err};
 ghost use Rattle.sn_ast.specs.declared.declaration.Decl.{Decl as SomeDecl};
 ghost use Rattle.sn_ast.specs.declared.declaration.Program.{Program as SomeTree};
 ghost use Rattle.sn_ast.specs.declared.measure.Measured.{Measured as SomeMeasured};
@@ -14,19 +15,24 @@ ghost use Rattle.sn_lexer.specs.Answer.{IsFault as IsLexFault, LexesAs};
 ghost use Rattle.sn_lexer.specs.declared.token.LexFault.{LexFault as SomeLexFault};
 ghost use Rattle.sn_lexer.specs.declared.token.LexFault.TheVariants as lex_fault;
 ghost use Rattle.sn_lexer.specs.declared.token.Token.{Token as SomeToken};
+ghost use Rattle.sn_net.specs.declared.net.Claim.{Claim as SomeClaim};
 ghost use Rattle.sn_outcomes.specs.Told.{AreTold, IsOfSource};
+ghost use Rattle.sn_output.specs.Printed.{ending};
 ghost use Rattle.sn_parser.specs.Answer.{Faults, IsFault as IsParseFault, IsProgram as IsTree, Spell, Spells};
 ghost use Rattle.sn_parser.specs.declared.parsing.ParseFault.{ParseFault as SomeParseFault};
 ghost use Rattle.sn_parser.specs.declared.parsing.ParseFault.TheVariants as parse_fault;
-ghost use Rattle.sn_top.specs.Answer.{Finds, FindsFor, IsAnswered, Outside, Printout};
-ghost use Rattle.sn_top.specs.Load.{IsRouted, Limits, WhyNoItems};
+ghost use Rattle.sn_top.specs.Answer.{Finds, FindsFor, IsAccepted, IsAnswered, Outside, Printout, ending_status};
+ghost use Rattle.sn_top.specs.Load.{IsTypedFile, Limits, WhyNoRecords, limits_of, stream_of};
 ghost use Rattle.sn_top.specs.Scope.{IsProgram, WhyNoProgram};
 ghost use Rattle.sn_top.specs.Seen.{File};
-ghost use Rattle.sn_top.specs.Source.{FindsSource, IsSource};
+ghost use Rattle.sn_top.specs.Source.{FindsSource, HasText, IsSource};
 ghost use Rattle.sn_top.specs.declared.load.Program.{Program as SomeProgram};
+ghost use Rattle.sn_top.specs.declared.serve.TheConstants.{INPUT_LIMIT, SOURCE_LIMIT};
 ghost use Rattle.sn_top.specs.declared.status.Refusal.{Refusal as SomeRefusal};
 ghost use Rattle.sn_top.specs.declared.status.Status.{Status as SomeStatus};
+ghost use Rattle.sn_top.specs.declared.status.Status.TheVariants as status;
 ghost use Rattle.sn_top.specs.declared.words.Command.{Command as SomeCommand};
+ghost use Rattle.sn_top.specs.declared.words.Command.TheVariants.{Check, Once, Print};
 
 /// The bytes of a source give one list of tokens, or one refusal at one place, and never both. Want of memory is said of
 /// any source, and so it is left out, here and below.
@@ -68,7 +74,8 @@ pub fn source_is_read_once()
     ensures one_outcome { (bytes : List ℕ) (found other : Result (List ℕ) SomeRefusal) → FindsSource bytes found → FindsSource bytes other → found ≡ other }
 {}
 
-/// The bytes of a source give one program to run, with its names resolved, or one refusal, and never both.
+/// The bytes of a source give one program, with its names resolved and each claim accepted, or one refusal, and never both.
+/// Where types are wrong, the first claim that is refused is one, and so are its place and its variant.
 pub fn source_is_resolved_once()
     ensures one_program { (bytes : List ℕ) (program other : SomeProgram) → IsProgram bytes program → IsProgram bytes other → program ≡ other }
     ensures one_refusal { (bytes : List ℕ) (refusal other : SomeRefusal) → WhyNoProgram bytes refusal → WhyNoProgram bytes other → refusal ≡ other }
@@ -81,15 +88,15 @@ pub fn record_file_is_read_once()
         → found ≡ other }
 {}
 
-/// The bytes of an input give a program one list of records, each with its route through the network, or one refusal, and
+/// The bytes of an input give names and a claim one list of records, each of the claim's input type, or one refusal, and
 /// never both.
 pub fn input_is_answered_once()
-    ensures one_input { (limits : Limits) (program : SomeProgram) (bytes : List ℕ) (input other : SomeInput) → IsRouted limits program bytes input
-        → IsRouted limits program bytes other → input ≡ other }
-    ensures one_refusal { (limits : Limits) (program : SomeProgram) (bytes : List ℕ) (refusal other : SomeRefusal) → WhyNoItems limits program bytes refusal
-        → WhyNoItems limits program bytes other → refusal ≡ other }
-    ensures never_both { (limits : Limits) (program : SomeProgram) (bytes : List ℕ) (input : SomeInput) (refusal : SomeRefusal) → IsRouted limits program bytes input
-        → WhyNoItems limits program bytes refusal → ⊥ }
+    ensures one_input { (names : List (List ℕ)) (claim : SomeClaim) (bytes : List ℕ) (input other : SomeInput) → IsTypedFile names claim bytes input
+        → IsTypedFile names claim bytes other → input ≡ other }
+    ensures one_refusal { (names : List (List ℕ)) (claim : SomeClaim) (bytes : List ℕ) (refusal other : SomeRefusal) → WhyNoRecords names claim bytes refusal
+        → WhyNoRecords names claim bytes other → refusal ≡ other }
+    ensures never_both { (names : List (List ℕ)) (claim : SomeClaim) (bytes : List ℕ) (input : SomeInput) (refusal : SomeRefusal) → IsTypedFile names claim bytes input
+        → WhyNoRecords names claim bytes refusal → ⊥ }
 {}
 
 /// Of a command and its files one thing is found, and so there is one status, where the bytes of the files that it reads are
@@ -102,4 +109,18 @@ pub fn command_has_one_outcome()
         → IsAnswered command outside other → status ≡ other }
     ensures source_alone { (limits : Limits) (bytes : List ℕ) (input : Option (List ℕ)) (refusal : SomeRefusal) (other : Result Printout SomeRefusal) → IsOfSource refusal
         → Finds limits (Some bytes) input (Err refusal) → Finds limits (Some bytes) input other → other ≡ Err refusal }
+{}
+
+/// An accepted source and a record file of its input type are enough: where their bytes are told, no answer of a command is a
+/// refusal. A run ends as its stream does, whole or at a fault, a check ends well, and so does a printing, which needs only
+/// that the source has a text.
+pub fn accepted_commands_are_done()
+    ensures once { (outside : Outside) (source input : List ℕ) (fuel depth : ℕ) (bytes more : List ℕ) (program : SomeProgram) (records : SomeInput) (left : SomeStatus)
+        → (outside.file source).told ≡ Some bytes → (outside.file input).told ≡ Some more → IsAccepted bytes program
+        → length more ≤ INPUT_LIMIT → IsTypedFile program.names program.claim more records
+        → IsAnswered (Once source input fuel depth) outside left → left ≡ ending_status (ending (stream_of (limits_of fuel depth) program records)) }
+    ensures check { (outside : Outside) (source bytes : List ℕ) (program : SomeProgram) (left : SomeStatus) → (outside.file source).told ≡ Some bytes
+        → IsAccepted bytes program → IsAnswered (Check source) outside left → left ≡ status.Ok }
+    ensures print { (outside : Outside) (source bytes text : List ℕ) (left : SomeStatus) → (outside.file source).told ≡ Some bytes → length bytes ≤ SOURCE_LIMIT
+        → HasText bytes text → IsAnswered (Print source) outside left → left ≡ status.Ok }
 {}

@@ -1,0 +1,44 @@
+-- A command whose source is accepted is done, where the bytes of its files are told.
+use Rattle.std.proofs.Common.{ℕ, List, ◌≡◌, ◌≤◌, refl, sym, ◌∙◌, ap, subst, length}
+use Rattle.std.specs.Prelude.{Ok, Some, Option}
+use Rattle.sn_input.specs.declared.input.Input.{Input}
+use Rattle.sn_outcomes.proofs.Commands.{Lists, checked, finds_once, finds_text_once, printout}
+use Rattle.sn_outcomes.proofs.Judging.{goes_accepted}
+use Rattle.sn_output.specs.Printed.{ending}
+use Rattle.sn_top.specs.Answer.{Finds, FindsText, FindsTypes, IsAccepted, IsAnswered, Outside, ending_status, found_status, whole}
+use Rattle.sn_top.specs.Load.{IsTypedFile, limits_of, stream_of}
+use Rattle.sn_top.specs.Source.{HasText}
+use Rattle.sn_top.specs.declared.load.Program.{Program}
+use Rattle.sn_top.specs.declared.serve.TheConstants.{INPUT_LIMIT, SOURCE_LIMIT}
+use Rattle.sn_top.specs.declared.status.Status.{Status}
+use Rattle.sn_top.specs.declared.status.Status.TheVariants as status
+use Rattle.sn_top.specs.declared.words.Command.TheVariants.{Check, Once, Print}
+
+-- what an accepted source and a typed record file print is found
+once_found : (source input : Option (List ℕ)) (fuel depth : ℕ) (bytes more : List ℕ) (program : Program) (records : Input) → source ≡ Some bytes → input ≡ Some more → IsAccepted bytes program
+    → length more ≤ INPUT_LIMIT → IsTypedFile program.names program.claim more records → Finds (limits_of fuel depth) source input (Ok (printout (limits_of fuel depth) program records))
+once_found source input fuel depth bytes more program records s i accepted within typed =
+    let limits = limits_of fuel depth in
+    subst (λ (p : Option (List ℕ) × Option (List ℕ)). Finds limits p.0 p.1 (Ok (printout limits program records))) (λ j. (sym s j, sym i j))
+    (program, accepted, record { within = within; input = records; typed = typed; bytes_are = refl; ending_is = refl })
+
+pub once_done : (outside : Outside) (source input : List ℕ) (fuel depth : ℕ) (bytes more : List ℕ) (program : Program) (records : Input) (left : Status)
+    → (outside.file source).told ≡ Some bytes → (outside.file input).told ≡ Some more → IsAccepted bytes program → length more ≤ INPUT_LIMIT → IsTypedFile program.names program.claim more records
+    → IsAnswered (Once source input fuel depth) outside left → left ≡ ending_status (ending (stream_of (limits_of fuel depth) program records))
+once_done outside source input fuel depth bytes more program records left s i accepted within typed answered =
+    let limits = limits_of fuel depth in
+    let found = once_found (outside.file source).told (outside.file input).told fuel depth bytes more program records s i accepted within typed in
+    answered.status_is
+    ∙ ap found_status (finds_once limits bytes more (outside.file source).told (outside.file input).told answered.found (Ok (printout limits program records)) s i answered.finds found)
+
+pub check_done : (outside : Outside) (source bytes : List ℕ) (program : Program) (left : Status) → (outside.file source).told ≡ Some bytes → IsAccepted bytes program
+    → IsAnswered (Check source) outside left → left ≡ status.Ok
+check_done outside source bytes program left s accepted answered =
+    let lists = goes_accepted bytes Lists program answered.found accepted (checked bytes answered.found (subst (λ x. FindsTypes x answered.found) s answered.finds)) in
+    answered.status_is ∙ ap found_status lists.is
+
+pub print_done : (outside : Outside) (source bytes text : List ℕ) (left : Status) → (outside.file source).told ≡ Some bytes → length bytes ≤ SOURCE_LIMIT → HasText bytes text
+    → IsAnswered (Print source) outside left → left ≡ status.Ok
+print_done outside source bytes text left s within has answered =
+    let found : FindsText (outside.file source).told (Ok (whole text)) = subst (λ x. FindsText x (Ok (whole text))) (sym s) (within, has, refl) in
+    answered.status_is ∙ ap found_status (finds_text_once bytes (outside.file source).told answered.found (Ok (whole text)) s answered.finds found)
