@@ -4,8 +4,10 @@
 mod numbers;
 mod records;
 mod source;
+mod tally;
 #[cfg(test)]
 mod tests;
 
 pub use records::sample_records;
 pub use source::sample_source;
+pub use tally::Tally;

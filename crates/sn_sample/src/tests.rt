@@ -1,7 +1,9 @@
 use crate::records::sample_records;
 use crate::source::sample_source;
+use crate::tally::Tally;
+use sn_list::Seq;
 use sn_names::Names;
-use sn_record::{Item, Items, Kind, Label, Value};
+use sn_record::{Item, Items, Kind, Label, Record, Value};
 use std::alloc::Global;
 use std::test::Fail;
 
@@ -50,5 +52,53 @@ fn the_source_is_one_line(rt: HostRuntime) -> Result<(), Fail> {
     let source = sample_source();
     assert!(rt; source.starts_with(b"box twice ") && source.ends_with(b" !! <k>);"));
     assert!(rt; !source.contains(&b'\n'));
+    Ok(())
+}
+
+/// The record of the field `w`, and the tag `<s>`, by the numbers 0 and 1 of their names.
+fn with_integers(alloc: Global, w: i64, s: i64) -> Option<Record> {
+    let mut record = Record::new(alloc);
+    for (kind, id, n) in [(Kind::Field, 0, w), (Kind::Tag, 1, s)] {
+        record.set(Label { kind, id }, Value::Int(n)).ok()?;
+    }
+    Some(record)
+}
+
+/// The counters of records of these integers.
+fn counted(alloc: Global, integers: &[(i64, i64)]) -> Option<Tally> {
+    let mut names = Names::new(alloc).ok()?;
+    for name in [b"w", b"s"] {
+        names.number_of(name).ok()?;
+    }
+    let mut tally = Tally::new();
+    for (w, s) in integers {
+        let record = with_integers(alloc, *w, *s)?;
+        tally.count(&names, &record).ok()?;
+    }
+    tally
+        .count(&Names::new(alloc).ok()?, &Record::new(alloc))
+        .ok()?;
+    Some(tally)
+}
+
+#[test]
+fn counters_are_those_worked_out(rt: HostRuntime) -> Result<(), Fail> {
+    let wanted = Tally {
+        records: 3,
+        s: 156,
+        w: 2330,
+        mix: 1_207_946,
+    };
+    assert!(rt; counted(rt.alloc(), &[(1180, 36), (1150, 120)]) == Some(wanted));
+    let wanted = Tally {
+        records: 2,
+        s: 4_294_967_295,
+        w: 1,
+        mix: 0,
+    };
+    assert!(rt; counted(rt.alloc(), &[(4_294_967_297, -1)]) == Some(wanted));
+    let mut text = Seq::new(rt.alloc());
+    assert!(rt; wanted.push_line(&mut text).is_ok());
+    assert!(rt; text.as_slice() == b"records=2 s=4294967295 w=1 mix=0\n".as_slice());
     Ok(())
 }
