@@ -16,7 +16,7 @@ use Rattle.sn_net.specs.Item.{ModelItem, Rec}
 use Rattle.sn_model.specs.Meaning.{Setting, tree}
 use Rattle.sn_pass.specs.Flowing.{flows}
 use Rattle.sn_pass.specs.Keeping.{Keeping, child_of, left_of, right_of}
-use Rattle.sn_pass.specs.Passing.{GoesToBranch, IsChoiceOf, IsChosen, IsSplit, Passes, PassesAll}
+use Rattle.sn_pass.specs.Passing.{GoesToBranch, IsChosen, IsSplit, Passes, PassesAll}
 use Rattle.sn_pass.specs.declared.flowing.Flowing.{Flowing}
 use Rattle.sn_pass.proofs.Passed.{choice_goes, choice_passed, serial_passes, series_passes, split_goes, split_passed, star_passes, through_more}
 
@@ -62,9 +62,9 @@ pub is_series : (net left right l r : Net) → net ≡ Serial left right → l �
 is_series net left right l r is is_left is_right =
     subst (λ (n : Net). net ≡ Serial l n) (sym is_right) (subst (λ (n : Net). net ≡ Serial n right) (sym is_left) is)
 
-pub is_choice_of : (net : Net) (place : ℕ) (m : Merge) (branches nets : List Net) (faces sliced : List (List Labels)) → net ≡ Choice place m branches faces → nets ≡ branches → sliced ≡ faces → IsChoiceOf net place nets sliced
-is_choice_of net place m branches nets faces sliced is same_branches same_faces =
-    (m, subst (λ (fs : List (List Labels)). net ≡ Choice place m nets fs) (sym same_faces) (subst (λ (ns : List Net). net ≡ Choice place m ns faces) (sym same_branches) is))
+-- what a choice did with its faces as the code has them
+pub chosen_here : (place : ℕ) (sliced faces : List (List Labels)) (x : ModelItem) (out mid : List ModelItem) (chosen : Option (ℕ × Entries)) → sliced ≡ faces → IsChosen place sliced x out mid chosen → IsChosen place faces x out mid chosen
+chosen_here place sliced faces x out mid chosen same is_chosen = subst (λ (fs : List (List Labels)). IsChosen place fs x out mid chosen) same is_chosen
 
 module _ (s : Setting) where
   pub serial_arm : (left right : Net) (q later first second first_then second_then : Kept) (x : ModelItem) (between out grown none : List ModelItem)

@@ -67,16 +67,7 @@ pub fn pass(
             branches,
             faces,
             ..
-        } => pass_choice(
-            walk,
-            branches.as_slice(),
-            net,
-            *place,
-            faces.as_slice(),
-            kept,
-            item,
-            out,
-        ),
+        } => pass_choice(walk, branches, net, *place, faces, kept, item, out),
         Net::Star {
             place,
             body,
@@ -121,10 +112,10 @@ fn pass_series(
 #[cycle(pass)]
 fn pass_choice(
     walk: &Walk,
-    branches: &[Net],
+    branches: &Seq<Net>,
     choice: &Net,
     place: u32,
-    faces: &[Seq<LabelSet>],
+    faces: &Seq<Seq<LabelSet>>,
     kept: &mut Kept,
     item: Flowing,
     out: &mut Output,
@@ -134,11 +125,12 @@ fn pass_choice(
     requires parts { IsChoiceOf choice.now place branches.now faces.now }
     ensures { OnOk result (Passes (tree (setting_of walk.now.run.now) choice.now) (held kept.old) (held kept.new) (flows item) (given out.old) (given out.new)) }
 {
-    let (number, taken) = match choose(choice, place, faces, item, &mut out.given)? {
+    let (number, taken) = match choose(choice, place, faces.as_slice(), item, &mut out.given)? {
         Some(picked) => picked,
         None => return Ok(()),
     };
-    pass_branch(walk, &branches[number as usize], number, kept, taken, out)
+    let nets = branches.as_slice();
+    pass_branch(walk, &nets[number as usize], number, kept, taken, out)
 }
 
 /// An item through a split: a record goes through the replica for the value of its tag, and all else passes the replicas by.

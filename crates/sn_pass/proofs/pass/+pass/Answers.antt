@@ -1,9 +1,9 @@
 use Rattle.std.proofs.lemmas.List.{append-nil}
 use Rattle.std.proofs.Math.Nat.{max-le, le-max_left, le-max_right}
-use Rattle.std.proofs.Common.{◌≤◌, arith, max, take, false, ◌+◌, FitsSigned, w64, ◌-◌, ◌≡◌, ◌<◌, ◌++◌, ◌∷◌, [], append_assoc, List, refl, sym, ap, subst, ◌∙◌, map, rules}
+use Rattle.std.proofs.Common.{length, ◌≤◌, arith, max, take, false, ◌+◌, FitsSigned, w64, ◌-◌, ◌≡◌, ◌<◌, ◌++◌, ◌∷◌, [], append_assoc, List, refl, sym, ap, subst, ◌∙◌, map, rules}
 use Rattle.std.specs.Vec.Iter.{drain_items}
 use Rattle.sn_net.specs.WellFormed.{FitsBoxes}
-use Rattle.sn_pass.specs.Passing.{IsTapped, Passes, PassesAll}
+use Rattle.sn_pass.specs.Passing.{IsAtChoice, IsTapped, Passes, PassesAll}
 use Rattle.sn_net.specs.declared.net.Net.TheViews.{the_lemmas}
 use Rattle.sn_net.specs.declared.net.Net.{Net}
 use Rattle.sn_net.specs.declared.net.Net.TheVariants.{Split}
@@ -14,7 +14,7 @@ use Rattle.sn_pass.specs.declared.flowing.Flowing.{Flowing}
 use Rattle.sn_pass.specs.Levels.{entries}
 use Rattle.sn_pass.specs.Output.{given}
 use Rattle.sn_pass.specs.States.{at_value, held}
-use Rattle.sn_pass.proofs.Arms.{always_ok, both_ok, child_passes, choice_goes_to, choice_none, choice_some, goes_through, is_choice_of, is_series, passes_all_at, serial_arm, split_none, split_some, star_arm, whole_range}
+use Rattle.sn_pass.proofs.Arms.{always_ok, both_ok, child_passes, choice_goes_to, choice_none, choice_some, chosen_here, goes_through, is_series, passes_all_at, serial_arm, split_none, split_some, star_arm, whole_range}
 use Rattle.sn_pass.proofs.States.{held-Branches, held-Levels, replica_held}
 use Rattle.sn_pass.proofs.StarLoop.{IsSoFar, at_levels, enters_turned, leaves_turned, so_far_begins, so_far_ends, so_far_enters, so_far_leaves, top_within, turned_falls}
 use Rattle.std.proofs.lemmas.Int.{to_z-of_z}
@@ -77,8 +77,7 @@ pass-pass_choice-requires t c = (
     c.requires.formed,
     (
       c.requires.inputs,
-      is_choice_of c.args.net.now c.in-Choice.place c.in-Choice.merge c.in-Choice.branches c.as_slice-in-Choice.result.now c.in-Choice.faces c.as_slice-in-Choice-2.result.now c.in-Choice.is
-          c.as_slice-in-Choice.ensures c.as_slice-in-Choice-2.ensures,
+      (c.in-Choice.merge, c.in-Choice.is),
     ),
   ),
 )
@@ -132,36 +131,38 @@ pass_series-returns t c =
     c.in_ok-kept.ensures.left c.in_ok-kept.ensures.right
 
 pub pass_choice-choose-requires : goal.pass_choice-choose-requires
-pass_choice-choose-requires t c = at_choice (boxes_of c.args.walk.now.run.now) c.args.choice.now c.requires.formed c.args.place c.requires.parts.0 c.args.branches.now c.args.faces.now c.requires.parts.1
+pass_choice-choose-requires t c =
+    subst (IsAtChoice c.args.choice.now) (sym c.as_slice.ensures) (at_choice (boxes_of c.args.walk.now.run.now) c.args.choice.now c.requires.formed c.args.place c.requires.parts.0 c.args.branches.now c.args.faces.now c.requires.parts.1)
 
 pub pass_choice-returns-in-None : goal.pass_choice-returns-in-None
 pass_choice-returns-in-None t c =
-    choice_none (setting_of c.args.walk.now.run.now) c.args.choice.now c.args.place c.requires.parts.0 c.args.branches.now c.args.faces.now c.requires.parts.1 (held c.args.kept.now) (flows c.args.item) (given c.args.out.now) (map flows c.choose.new.out) c.in_ok-picked.field-0 c.in_ok-picked.ensures c.in-None.is
+    choice_none (setting_of c.args.walk.now.run.now) c.args.choice.now c.args.place c.requires.parts.0 c.args.branches.now c.args.faces.now c.requires.parts.1 (held c.args.kept.now) (flows c.args.item) (given c.args.out.now) (map flows c.choose.new.out) c.in_ok-picked.field-0 (chosen_here c.args.place c.as_slice.result.now c.args.faces.now (flows c.args.item) (given c.args.out.now) (map flows c.choose.new.out) c.in_ok-picked.field-0 c.as_slice.ensures c.in_ok-picked.ensures) c.in-None.is
 
-pub pass_choice-bounds-branches-number : goal.pass_choice-bounds-branches-number
-pass_choice-bounds-branches-number t c =
-    let goes = choice_goes_to (setting_of c.args.walk.now.run.now) c.args.choice.now c.args.place c.requires.parts.0 c.args.branches.now c.args.faces.now c.requires.parts.1 (held c.args.kept.now) (flows c.args.item) (given c.args.out.now) (map flows c.choose.new.out) c.in_ok-picked.field-0 c.in_ok-picked.ensures c.in-Some.picked c.in-Some.is in
-    branch_there (boxes_of c.args.walk.now.run.now) c.args.choice.now c.requires.formed c.args.place c.requires.parts.0 c.args.branches.now c.args.faces.now c.requires.parts.1 c.in-Some.picked.0 goes.there
+pub pass_choice-bounds-nets-number : goal.pass_choice-bounds-nets-number
+pass_choice-bounds-nets-number t c =
+    let goes = choice_goes_to (setting_of c.args.walk.now.run.now) c.args.choice.now c.args.place c.requires.parts.0 c.args.branches.now c.args.faces.now c.requires.parts.1 (held c.args.kept.now) (flows c.args.item) (given c.args.out.now) (map flows c.choose.new.out) c.in_ok-picked.field-0 (chosen_here c.args.place c.as_slice.result.now c.args.faces.now (flows c.args.item) (given c.args.out.now) (map flows c.choose.new.out) c.in_ok-picked.field-0 c.as_slice.ensures c.in_ok-picked.ensures) c.in-Some.picked c.in-Some.is in
+    subst (λ (ns : List Net). c.in-Some.picked.0 < length ns) (sym c.as_slice-nets.ensures) (branch_there (boxes_of c.args.walk.now.run.now) c.args.choice.now c.requires.formed c.args.place c.requires.parts.0 c.args.branches.now c.args.faces.now c.requires.parts.1 c.in-Some.picked.0 goes.there)
 
 pub pass_choice-pass_branch-requires : goal.pass_choice-pass_branch-requires
 pass_choice-pass_branch-requires t c =
-    let goes = choice_goes_to (setting_of c.args.walk.now.run.now) c.args.choice.now c.args.place c.requires.parts.0 c.args.branches.now c.args.faces.now c.requires.parts.1 (held c.args.kept.now) (flows c.args.item) (given c.args.out.now) (map flows c.choose.new.out) c.in_ok-picked.field-0 c.in_ok-picked.ensures c.in-Some.picked c.in-Some.is in
-    let below = branch_there (boxes_of c.args.walk.now.run.now) c.args.choice.now c.requires.formed c.args.place c.requires.parts.0 c.args.branches.now c.args.faces.now c.requires.parts.1 c.in-Some.picked.0 goes.there in (
-      search (rules, the_lemmas, below),
+    let goes = choice_goes_to (setting_of c.args.walk.now.run.now) c.args.choice.now c.args.place c.requires.parts.0 c.args.branches.now c.args.faces.now c.requires.parts.1 (held c.args.kept.now) (flows c.args.item) (given c.args.out.now) (map flows c.choose.new.out) c.in_ok-picked.field-0 (chosen_here c.args.place c.as_slice.result.now c.args.faces.now (flows c.args.item) (given c.args.out.now) (map flows c.choose.new.out) c.in_ok-picked.field-0 c.as_slice.ensures c.in_ok-picked.ensures) c.in-Some.picked c.in-Some.is in
+    let below = branch_there (boxes_of c.args.walk.now.run.now) c.args.choice.now c.requires.formed c.args.place c.requires.parts.0 c.args.branches.now c.args.faces.now c.requires.parts.1 c.in-Some.picked.0 goes.there in
+    let inside : c.in-Some.picked.0 < length c.as_slice-nets.result.now = subst (λ (ns : List Net). c.in-Some.picked.0 < length ns) (sym c.as_slice-nets.ensures) below in (
+      search (rules, the_lemmas, inside),
       (
-        branch_at_place (boxes_of c.args.walk.now.run.now) c.args.choice.now c.requires.formed c.args.place c.requires.parts.0 c.args.branches.now c.args.faces.now c.requires.parts.1 c.args.branches.now c.in-Some.picked.0 c.index-branches-number.result refl below c.index-branches-number.is,
+        branch_at_place (boxes_of c.args.walk.now.run.now) c.args.choice.now c.requires.formed c.args.place c.requires.parts.0 c.args.branches.now c.args.faces.now c.requires.parts.1 c.as_slice-nets.result.now c.in-Some.picked.0 c.index-nets-number.result c.as_slice-nets.ensures below c.index-nets-number.is,
         c.requires.inputs,
       ),
     )
 
 pub pass_choice-returns : goal.pass_choice-returns
 pass_choice-returns t c =
-    let goes = choice_goes_to (setting_of c.args.walk.now.run.now) c.args.choice.now c.args.place c.requires.parts.0 c.args.branches.now c.args.faces.now c.requires.parts.1 (held c.args.kept.now) (flows c.args.item) (given c.args.out.now) (map flows c.choose.new.out) c.in_ok-picked.field-0 c.in_ok-picked.ensures c.in-Some.picked c.in-Some.is in
-    let there = branch_stands (boxes_of c.args.walk.now.run.now) c.args.choice.now c.requires.formed c.args.place c.requires.parts.0 c.args.branches.now c.args.faces.now c.requires.parts.1 c.args.branches.now c.in-Some.picked.0 c.index-branches-number.result refl
-    (branch_there (boxes_of c.args.walk.now.run.now) c.args.choice.now c.requires.formed c.args.place c.requires.parts.0 c.args.branches.now c.args.faces.now c.requires.parts.1 c.in-Some.picked.0 goes.there) c.index-branches-number.is in
+    let goes = choice_goes_to (setting_of c.args.walk.now.run.now) c.args.choice.now c.args.place c.requires.parts.0 c.args.branches.now c.args.faces.now c.requires.parts.1 (held c.args.kept.now) (flows c.args.item) (given c.args.out.now) (map flows c.choose.new.out) c.in_ok-picked.field-0 (chosen_here c.args.place c.as_slice.result.now c.args.faces.now (flows c.args.item) (given c.args.out.now) (map flows c.choose.new.out) c.in_ok-picked.field-0 c.as_slice.ensures c.in_ok-picked.ensures) c.in-Some.picked c.in-Some.is in
+    let there = branch_stands (boxes_of c.args.walk.now.run.now) c.args.choice.now c.requires.formed c.args.place c.requires.parts.0 c.args.branches.now c.args.faces.now c.requires.parts.1 c.as_slice-nets.result.now c.in-Some.picked.0 c.index-nets-number.result c.as_slice-nets.ensures
+    (branch_there (boxes_of c.args.walk.now.run.now) c.args.choice.now c.requires.formed c.args.place c.requires.parts.0 c.args.branches.now c.args.faces.now c.requires.parts.1 c.in-Some.picked.0 goes.there) c.index-nets-number.is in
     both_ok c.pass_branch.result _ _ _
-    (choice_some (setting_of c.args.walk.now.run.now) c.args.choice.now c.args.place c.requires.parts.0 c.args.branches.now c.args.faces.now c.requires.parts.1 (held c.args.kept.now) (flows c.args.item) (given c.args.out.now) (map flows c.choose.new.out) c.in_ok-picked.field-0 c.in_ok-picked.ensures
-    c.in-Some.picked c.index-branches-number.result (held c.pass_branch.new.kept) (given c.pass_branch.new.out) c.in-Some.is there) c.pass_branch.ensures.passes c.pass_branch.ensures.others
+    (choice_some (setting_of c.args.walk.now.run.now) c.args.choice.now c.args.place c.requires.parts.0 c.args.branches.now c.args.faces.now c.requires.parts.1 (held c.args.kept.now) (flows c.args.item) (given c.args.out.now) (map flows c.choose.new.out) c.in_ok-picked.field-0 (chosen_here c.args.place c.as_slice.result.now c.args.faces.now (flows c.args.item) (given c.args.out.now) (map flows c.choose.new.out) c.in_ok-picked.field-0 c.as_slice.ensures c.in_ok-picked.ensures)
+    c.in-Some.picked c.index-nets-number.result (held c.pass_branch.new.kept) (given c.pass_branch.new.out) c.in-Some.is there) c.pass_branch.ensures.passes c.pass_branch.ensures.others
 
 pub pass_split-split-requires : goal.pass_split-split-requires
 pass_split-split-requires t c = at_split (boxes_of c.args.walk.now.run.now) c.args.whole.now c.requires.formed c.args.place c.requires.parts.0 c.args.body.now c.args.tag c.requires.parts.1
