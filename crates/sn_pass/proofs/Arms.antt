@@ -57,31 +57,36 @@ pub passes_all_at : (t : Network) (before after : Kept) (xs ys out start grown :
 passes_all_at t before after xs ys out start grown items same step =
     subst (λ (zs : List ModelItem). PassesAll t before after zs start grown) items (subst (λ (zs : List ModelItem). PassesAll t before after xs zs grown) same step)
 
-module _ (s : Setting) where
-  pub serial_arm : (net left right l r : Net) (q later first second first_then second_then : Kept) (x : ModelItem) (between out grown none : List ModelItem)
-      → net ≡ Serial left right → l ≡ left → r ≡ right → first ≡ left_of q → second ≡ right_of q → none ≡ []
-      → Passes (tree s l) first first_then x none between → PassesAll (tree s r) second second_then between out grown
-      → left_of later ≡ first_then → right_of later ≡ second_then
-      → Passes (tree s net) q later x out grown
-  serial_arm net left right l r q later first second first_then second_then x between out grown none is is_left is_right of_left of_right empty step through put_left put_right =
-      subst (λ (n : Net). Passes (tree s n) q later x out grown) (sym is)
-      (series_passes s left right q later x out grown
-      (serial_passes (tree s left) (tree s right) q later first second first_then second_then x between out grown of_left of_right
-      (subst (λ (ys : List ModelItem). Passes (tree s left) first first_then x ys between) empty (subst (λ (n : Net). Passes (tree s n) first first_then x none between) is_left step))
-      (subst (λ (n : Net). PassesAll (tree s n) second second_then between out grown) is_right through)
-      put_left put_right))
+-- what a network is, with the parts that the code has by equations
+pub is_series : (net left right l r : Net) → net ≡ Serial left right → l ≡ left → r ≡ right → net ≡ Serial l r
+is_series net left right l r is is_left is_right =
+    subst (λ (n : Net). net ≡ Serial l n) (sym is_right) (subst (λ (n : Net). net ≡ Serial n right) (sym is_left) is)
 
-  module _ (net : Net) (place : ℕ) (m : Merge) (branches : List Net) (faces sliced : List (List Labels)) (is : net ≡ Choice place m branches faces) (same : sliced ≡ faces)
-      (q : Kept) (x : ModelItem) (out mid : List ModelItem) (chosen : Option (ℕ × Entries)) (is_chosen : IsChosen place sliced x out mid chosen) where
+-- what a choice did with its faces as the code has them
+pub chosen_here : (place : ℕ) (sliced faces : List (List Labels)) (x : ModelItem) (out mid : List ModelItem) (chosen : Option (ℕ × Entries)) → sliced ≡ faces → IsChosen place sliced x out mid chosen → IsChosen place faces x out mid chosen
+chosen_here place sliced faces x out mid chosen same is_chosen = subst (λ (fs : List (List Labels)). IsChosen place fs x out mid chosen) same is_chosen
+
+module _ (s : Setting) where
+  pub serial_arm : (left right : Net) (q later first second first_then second_then : Kept) (x : ModelItem) (between out grown none : List ModelItem)
+      → first ≡ left_of q → second ≡ right_of q → none ≡ []
+      → Passes (tree s left) first first_then x none between → PassesAll (tree s right) second second_then between out grown
+      → left_of later ≡ first_then → right_of later ≡ second_then
+      → Passes (tree s (Serial left right)) q later x out grown
+  serial_arm left right q later first second first_then second_then x between out grown none of_left of_right empty step through put_left put_right =
+      series_passes s left right q later x out grown
+      (serial_passes (tree s left) (tree s right) q later first second first_then second_then x between out grown of_left of_right
+      (subst (λ (ys : List ModelItem). Passes (tree s left) first first_then x ys between) empty step) through put_left put_right)
+
+  module _ (net : Net) (place : ℕ) (m : Merge) (branches : List Net) (faces : List (List Labels)) (is : net ≡ Choice place m branches faces)
+      (q : Kept) (x : ModelItem) (out mid : List ModelItem) (chosen : Option (ℕ × Entries)) (is_chosen : IsChosen place faces x out mid chosen) where
     pub choice_none : chosen ≡ None → Passes (tree s net) q q x out mid
     choice_none none =
         subst (λ (n : Net). Passes (tree s n) q q x out mid) (sym is)
-        (choice_passed s place m branches faces q x out mid
-        (subst (λ (fs : List (List Labels)). IsChosen place fs x out mid None) same (subst (λ (o : Option (ℕ × Entries)). IsChosen place sliced x out mid o) none is_chosen)))
+        (choice_passed s place m branches faces q x out mid (subst (λ (o : Option (ℕ × Entries)). IsChosen place faces x out mid o) none is_chosen))
 
     pub choice_goes_to : (picked : ℕ × Entries) → chosen ≡ Some picked → GoesToBranch faces x picked.0 picked.1 out mid
     choice_goes_to picked some =
-        subst (λ (fs : List (List Labels)). IsChosen place fs x out mid (Some picked)) same (subst (λ (o : Option (ℕ × Entries)). IsChosen place sliced x out mid o) some is_chosen)
+        subst (λ (o : Option (ℕ × Entries)). IsChosen place faces x out mid o) some is_chosen
 
     pub choice_some : (picked : ℕ × Entries) (branch : Net) (later : Kept) (grown : List ModelItem) → chosen ≡ Some picked → slice_get branches picked.0 ≡ Some branch
         → Passes (tree s branch) (child_of q (Branch picked.0)) (child_of later (Branch picked.0)) (Rec picked.1) mid grown
@@ -98,14 +103,13 @@ module _ (s : Setting) where
         subst (λ (n : Net). Passes (tree s n) q q x out mid) (sym is)
         (split_passed s place m body id q x out mid (subst (λ (o : Option (ℤ × Entries)). IsSplit place id x out mid o) none is_split))
 
-    pub split_some : (picked : ℤ × Entries) (b : Net) (later : Kept) (grown : List ModelItem) → chosen ≡ Some picked → b ≡ body
-        → Passes (tree s b) (child_of q (Value picked.0)) (child_of later (Value picked.0)) (Rec picked.1) mid grown
+    pub split_some : (picked : ℤ × Entries) (later : Kept) (grown : List ModelItem) → chosen ≡ Some picked
+        → Passes (tree s body) (child_of q (Value picked.0)) (child_of later (Value picked.0)) (Rec picked.1) mid grown
         → ((k : ℤ) → int_eq k picked.0 ≡ false → child_of later (Value k) ≡ child_of q (Value k))
         → Passes (tree s net) q later x out grown
-    split_some picked b later grown some is_body step others =
+    split_some picked later grown some step others =
         subst (λ (n : Net). Passes (tree s n) q later x out grown) (sym is)
-        (split_goes s place m body id picked.0 q later _ _ x picked.1 out mid grown (subst (λ (o : Option (ℤ × Entries)). IsSplit place id x out mid o) some is_split) refl
-        (subst (λ (n : Net). Passes (tree s n) (child_of q (Value picked.0)) (child_of later (Value picked.0)) (Rec picked.1) mid grown) is_body step) refl others)
+        (split_goes s place m body id picked.0 q later _ _ x picked.1 out mid grown (subst (λ (o : Option (ℤ × Entries)). IsSplit place id x out mid o) some is_split) refl step refl others)
 
   pub star_arm : (net body b : Net) (place : ℕ) (m : Merge) (exit : Labels) (guard : Option TagExpr) (q later : Kept) (x : ModelItem) (out grown : List ModelItem)
       → net ≡ Star place m body exit guard → b ≡ body

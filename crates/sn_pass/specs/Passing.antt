@@ -11,7 +11,9 @@ use Rattle.sn_net.specs.Dispatchers.{Network, level_key, passed_by, stream_key}
 use Rattle.sn_net.specs.Item.{ModelItem, Rec}
 use Rattle.sn_net.specs.Routable.{IsDispatcher}
 use Rattle.sn_net.specs.Route.{choice_key, of_record, record_key, split_key, tap_key}
+use Rattle.sn_net.specs.declared.net.Merge.{Merge}
 use Rattle.sn_net.specs.declared.net.Net.{Net}
+use Rattle.sn_net.specs.declared.net.Net.TheVariants.{Choice, Split}
 use Rattle.sn_net.specs.declared.net.Net.TheViews.{out-Net}
 use Rattle.sn_pass.specs.Keeping.{Keeping, Same, keeping}
 use Rattle.sn_pass.specs.Levels.{goes_inside}
@@ -84,3 +86,11 @@ pub record IsAtSplit (net : Net) (id : ℕ) : Type 0 where
 pub record IsAtStar (net : Net) (place : ℕ) (exit : Labels) (guard : Option TagExpr) : Type 0 where
   pub dispatches : IsDispatcher (out-Net net)
   pub keys : (r : Entries) → record_key (out-Net net) r ≡ tap_key place exit guard r
+
+-- the network is a choice at this place of these branches with these faces, merged in one way or the other
+abbrev pub IsChoiceOf : Net → ℕ → List Net → List (List Labels) → Type 0
+IsChoiceOf net place branches faces = (m : Merge) × (net ≡ Choice place m branches faces)
+
+-- a split at this place into replicas of this body by this tag
+abbrev pub IsSplitOf : Net → ℕ → Net → ℕ → Type 0
+IsSplitOf net place body id = (m : Merge) × (net ≡ Split place m body id)

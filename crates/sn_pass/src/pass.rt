@@ -3,6 +3,7 @@ ghost use Rattle.std.specs.Prelude.{◌≡◌, ◌≢◌, ℕ, ℤ, OnOk, false,
 ghost use Rattle.std.specs.Ordering.{int_eq};
 ghost use Rattle.sn_streams.specs.Keys.Key.{Branch, Value};
 ghost use Rattle.sn_net.specs.declared.net.Merge.{Merge as SomeMerge};
+ghost use Rattle.sn_net.specs.declared.net.Net.TheVariants.{Serial};
 ghost use Rattle.sn_net.specs.WellFormed.{FitsBoxes};
 ghost use Rattle.sn_net.specs.Dispatchers.{level};
 ghost use Rattle.sn_net.specs.Item as model;
@@ -12,7 +13,7 @@ ghost use Rattle.sn_pass.specs.Flowing.{flows};
 ghost use Rattle.sn_pass.specs.Inputs.{HasInputs};
 ghost use Rattle.sn_pass.specs.Keeping.{child_of};
 ghost use Rattle.sn_pass.specs.Output.{given};
-ghost use Rattle.sn_pass.specs.Passing.{IsAtStar, Passes, PassesAll};
+ghost use Rattle.sn_pass.specs.Passing.{IsAtStar, IsChoiceOf, IsSplitOf, Passes, PassesAll};
 ghost use Rattle.sn_pass.specs.States.{held};
 
 use crate::dispatch::{choose, split, tap};
@@ -59,33 +60,14 @@ pub fn pass(
             )
         }
         Net::Serial { left, right } => {
-            let (mut first, mut second) = into_parts(replace(kept, Kept::Fresh));
-            let before = out.begin(walk.alloc);
-            pass(walk, left.get(), &mut first, item, out)?;
-            let between = out.end(before);
-            pass_each(walk, right.get(), &mut second, between, out)?;
-            *kept = of_parts(walk.alloc, first, second)?;
-            Ok(())
+            pass_series(walk, left.get(), right.get(), kept, item, out)
         }
         Net::Choice {
             place,
             branches,
             faces,
             ..
-        } => {
-            let (number, taken) = match choose(
-                net,
-                *place,
-                faces.as_slice(),
-                item,
-                &mut out.given,
-            )? {
-                Some(picked) => picked,
-                None => return Ok(()),
-            };
-            let nets = branches.as_slice();
-            pass_branch(walk, &nets[number as usize], number, kept, taken, out)
-        }
+        } => pass_choice(walk, branches, net, *place, faces, kept, item, out),
         Net::Star {
             place,
             body,
@@ -98,14 +80,81 @@ pub fn pass(
             body,
             tag,
             ..
-        } => {
-            let (value, taken) = match split(net, *place, *tag, item, &mut out.given)? {
-                Some(picked) => picked,
-                None => return Ok(()),
-            };
-            pass_replica(walk, body.get(), value, kept, taken, out)
-        }
+        } => pass_split(walk, body.get(), net, *place, *tag, kept, item, out),
     }
+}
+
+/// An item through two networks in series: what the left one gives goes through the right one.
+#[cycle(pass)]
+fn pass_series(
+    walk: &Walk,
+    left: &Net,
+    right: &Net,
+    kept: &mut Kept,
+    item: Flowing,
+    out: &mut Output,
+) -> Result<(), Memory>
+    requires left { FitsBoxes (boxes_of walk.now.run.now) left.now }
+    requires right { FitsBoxes (boxes_of walk.now.run.now) right.now }
+    requires inputs { HasInputs walk.now }
+    ensures { OnOk result (Passes (tree (setting_of walk.now.run.now) (Serial left.now right.now)) (held kept.old) (held kept.new) (flows item) (given out.old) (given out.new)) }
+{
+    let (mut first, mut second) = into_parts(replace(kept, Kept::Fresh));
+    let before = out.begin(walk.alloc);
+    pass(walk, left, &mut first, item, out)?;
+    let between = out.end(before);
+    pass_each(walk, right, &mut second, between, out)?;
+    *kept = of_parts(walk.alloc, first, second)?;
+    Ok(())
+}
+
+/// An item through a choice: a record goes through the branch that it matches best, and all else passes the branches by.
+#[cycle(pass)]
+fn pass_choice(
+    walk: &Walk,
+    branches: &Seq<Net>,
+    choice: &Net,
+    place: u32,
+    faces: &Seq<Seq<LabelSet>>,
+    kept: &mut Kept,
+    item: Flowing,
+    out: &mut Output,
+) -> Result<(), Memory>
+    requires formed { FitsBoxes (boxes_of walk.now.run.now) choice.now }
+    requires inputs { HasInputs walk.now }
+    requires parts { IsChoiceOf choice.now place branches.now faces.now }
+    ensures { OnOk result (Passes (tree (setting_of walk.now.run.now) choice.now) (held kept.old) (held kept.new) (flows item) (given out.old) (given out.new)) }
+{
+    let (number, taken) = match choose(choice, place, faces.as_slice(), item, &mut out.given)? {
+        Some(picked) => picked,
+        None => return Ok(()),
+    };
+    let nets = branches.as_slice();
+    pass_branch(walk, &nets[number as usize], number, kept, taken, out)
+}
+
+/// An item through a split: a record goes through the replica for the value of its tag, and all else passes the replicas by.
+#[cycle(pass)]
+fn pass_split(
+    walk: &Walk,
+    body: &Net,
+    whole: &Net,
+    place: u32,
+    tag: u32,
+    kept: &mut Kept,
+    item: Flowing,
+    out: &mut Output,
+) -> Result<(), Memory>
+    requires formed { FitsBoxes (boxes_of walk.now.run.now) whole.now }
+    requires inputs { HasInputs walk.now }
+    requires parts { IsSplitOf whole.now place body.now tag }
+    ensures { OnOk result (Passes (tree (setting_of walk.now.run.now) whole.now) (held kept.old) (held kept.new) (flows item) (given out.old) (given out.new)) }
+{
+    let (value, taken) = match split(whole, place, tag, item, &mut out.given)? {
+        Some(picked) => picked,
+        None => return Ok(()),
+    };
+    pass_replica(walk, body, value, kept, taken, out)
 }
 
 /// Items through a network, one behind the other.

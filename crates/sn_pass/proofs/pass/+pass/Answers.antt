@@ -1,17 +1,20 @@
 use Rattle.std.proofs.lemmas.List.{append-nil}
-use Rattle.std.proofs.Common.{take, false, ◌+◌, FitsSigned, w64, ◌-◌, ◌≡◌, ◌<◌, ◌++◌, ◌∷◌, [], append_assoc, List, length, refl, sym, ap, subst, ◌∙◌, map, rules}
+use Rattle.std.proofs.Math.Nat.{max-le, le-max_left, le-max_right}
+use Rattle.std.proofs.Common.{length, ◌≤◌, arith, max, take, false, ◌+◌, FitsSigned, w64, ◌-◌, ◌≡◌, ◌<◌, ◌++◌, ◌∷◌, [], append_assoc, List, refl, sym, ap, subst, ◌∙◌, map, rules}
 use Rattle.std.specs.Vec.Iter.{drain_items}
 use Rattle.sn_net.specs.WellFormed.{FitsBoxes}
 use Rattle.sn_pass.specs.Passing.{IsAtChoice, IsTapped, Passes, PassesAll}
 use Rattle.sn_net.specs.declared.net.Net.TheViews.{the_lemmas}
 use Rattle.sn_net.specs.declared.net.Net.{Net}
+use Rattle.sn_net.specs.declared.net.Net.TheVariants.{Split}
+use Rattle.sn_net.proofs.net.Net.TheLaws.{the_size}
 use Rattle.sn_model.specs.Meaning.{tree}
 use Rattle.sn_pass.specs.Flowing.{flows}
 use Rattle.sn_pass.specs.declared.flowing.Flowing.{Flowing}
 use Rattle.sn_pass.specs.Levels.{entries}
 use Rattle.sn_pass.specs.Output.{given}
 use Rattle.sn_pass.specs.States.{at_value, held}
-use Rattle.sn_pass.proofs.Arms.{always_ok, both_ok, child_passes, choice_goes_to, choice_none, choice_some, goes_through, passes_all_at, serial_arm, split_none, split_some, star_arm, whole_range}
+use Rattle.sn_pass.proofs.Arms.{always_ok, both_ok, child_passes, choice_goes_to, choice_none, choice_some, chosen_here, goes_through, is_series, passes_all_at, serial_arm, split_none, split_some, star_arm, whole_range}
 use Rattle.sn_pass.proofs.States.{held-Branches, held-Levels, replica_held}
 use Rattle.sn_pass.proofs.StarLoop.{IsSoFar, at_levels, enters_turned, leaves_turned, so_far_begins, so_far_ends, so_far_enters, so_far_leaves, top_within, turned_falls}
 use Rattle.std.proofs.lemmas.Int.{to_z-of_z}
@@ -23,7 +26,7 @@ use Rattle.sn_net.specs.declared.net.Merge.{Merge}
 use Rattle.sn_net.specs.declared.net.Merge.TheVariants.{Det}
 use Rattle.sn_pass.specs.Waiting.{stack_of}
 use Rattle.sn_pass.specs.declared.waiting.Waiting.{Waiting}
-use Rattle.std.specs.Prelude.{Option}
+use Rattle.std.specs.Prelude.{OnOk, Option}
 use Rattle.std.specs.Ordering.{int_eq}
 use Rattle.sn_pass.specs.Held.{LevelsOf}
 use Rattle.sn_pass.specs.Keeping.{child_of, left_of, right_of}
@@ -45,79 +48,39 @@ pass-pass_box-requires t c = record {
 pub pass-pass_filter-requires : goal.pass-pass_filter-requires
 pass-pass_filter-requires t c = filter_closed (boxes_of c.args.walk.now.run.now) c.in-Filter.filter (subst (FitsBoxes (boxes_of c.args.walk.now.run.now)) c.in-Filter.is c.requires.formed)
 
-pub pass-pass-requires : goal.pass-pass-requires
-pass-pass-requires t c = (
-  search (rules, the_lemmas),
+pub pass-pass_series-requires : goal.pass-pass_series-requires
+pass-pass_series-requires t c = (
+  (
+      let left : the_size c.get.result.now < the_size c.args.net.now = search (rules, the_lemmas) in
+      let right : the_size c.get-in-Serial.result.now < the_size c.args.net.now = search (rules, the_lemmas) in
+      let most : max (the_size c.get.result.now) (the_size c.get-in-Serial.result.now) ≤ the_size c.args.net.now - 1 = max-le (omega (arith, left)) (omega (arith, right)) in
+      omega (arith, left, most)
+      ),
   (
     left_fits (boxes_of c.args.walk.now.run.now) c.args.net.now c.requires.formed c.in-Serial.left c.in-Serial.right c.get.result.now c.in-Serial.is c.get.ensures,
-    c.requires.inputs,
+    (
+      right_fits (boxes_of c.args.walk.now.run.now) c.args.net.now c.requires.formed c.in-Serial.left c.in-Serial.right c.get-in-Serial.result.now c.in-Serial.is c.get-in-Serial.ensures,
+      c.requires.inputs,
+    ),
   ),
 )
 
-pub pass-pass_each-requires : goal.pass-pass_each-requires
-pass-pass_each-requires t c = (
+pub pass-returns-in-Serial : goal.pass-returns-in-Serial
+pass-returns-in-Serial t c =
+    subst (λ (net : Net). OnOk c.pass_series.result (Passes (tree (setting_of c.args.walk.now.run.now) net) (held c.args.kept.now) (held c.pass_series.new.kept) (flows c.args.item) (given c.args.out.now) (given c.pass_series.new.out)))
+    (sym (is_series c.args.net.now c.in-Serial.left c.in-Serial.right c.get.result.now c.get-in-Serial.result.now c.in-Serial.is c.get.ensures c.get-in-Serial.ensures)) c.pass_series.ensures
+
+pub pass-pass_choice-requires : goal.pass-pass_choice-requires
+pass-pass_choice-requires t c = (
   search (rules, the_lemmas),
   (
-    right_fits (boxes_of c.args.walk.now.run.now) c.args.net.now c.requires.formed c.in-Serial.left c.in-Serial.right c.get-in-Serial.result.now c.in-Serial.is c.get-in-Serial.ensures,
-    c.requires.inputs,
+    c.requires.formed,
+    (
+      c.requires.inputs,
+      (c.in-Choice.merge, c.in-Choice.is),
+    ),
   ),
 )
-
-pub pass-returns-in_ok-kept-in-Serial : goal.pass-returns-in_ok-kept-in-Serial
-pass-returns-in_ok-kept-in-Serial t c =
-    serial_arm (setting_of c.args.walk.now.run.now) c.args.net.now c.in-Serial.left c.in-Serial.right c.get.result.now c.get-in-Serial.result.now (held c.args.kept.now) (held c.in_ok-kept-in-Serial.field-0)
-    (held c.into_parts-first.result.0) (held c.into_parts-first.result.1) (held c.pass.new.kept) (held c.pass_each.new.kept) (flows c.args.item)
-    (given c.pass.new.out) (given c.args.out.now) (given c.pass_each.new.out) (given c.begin-before.new.self)
-    c.in-Serial.is c.get.ensures c.get-in-Serial.ensures (c.into_parts-first.ensures.left ∙ ap (λ (k : Kept). left_of (held k)) c.replace.ensures.value)
-    (c.into_parts-first.ensures.right ∙ ap (λ (k : Kept). right_of (held k)) c.replace.ensures.value) (ap (map flows) c.begin-before.ensures.anew)
-    c.in_ok-pass-in-Serial.ensures
-    (passes_all_at (tree (setting_of c.args.walk.now.run.now) c.get-in-Serial.result.now) (held c.into_parts-first.result.1) (held c.pass_each.new.kept) _ _ _ _ (given c.pass_each.new.out)
-    (ap (map flows) c.end-between.ensures.since) (ap (map flows) (c.end-between.ensures.back ∙ c.begin-before.ensures.before)) c.in_ok-pass_each-in-Serial.ensures)
-    c.in_ok-kept-in-Serial.ensures.left c.in_ok-kept-in-Serial.ensures.right
-
-pub pass-choose-requires : goal.pass-choose-requires
-pass-choose-requires t c =
-    subst (IsAtChoice c.args.net.now) (sym c.as_slice-in-Choice.ensures)
-    (at_choice (boxes_of c.args.walk.now.run.now) c.args.net.now c.requires.formed c.in-Choice.place c.in-Choice.merge c.in-Choice.branches c.in-Choice.faces c.in-Choice.is)
-
-pub pass-returns-in-None : goal.pass-returns-in-None
-pass-returns-in-None t c =
-    choice_none (setting_of c.args.walk.now.run.now) c.args.net.now c.in-Choice.place c.in-Choice.merge c.in-Choice.branches c.in-Choice.faces c.as_slice-in-Choice.result.now c.in-Choice.is c.as_slice-in-Choice.ensures
-    (held c.args.kept.now) (flows c.args.item) (given c.args.out.now) (map flows c.choose.new.out) c.in_ok-picked-in-Choice.field-0 c.in_ok-picked-in-Choice.ensures c.in-None.is
-
-pub pass-bounds-nets-number : goal.pass-bounds-nets-number
-pass-bounds-nets-number t c =
-    let goes = choice_goes_to (setting_of c.args.walk.now.run.now) c.args.net.now c.in-Choice.place c.in-Choice.merge c.in-Choice.branches c.in-Choice.faces c.as_slice-in-Choice.result.now c.in-Choice.is c.as_slice-in-Choice.ensures
-    (held c.args.kept.now) (flows c.args.item) (given c.args.out.now) (map flows c.choose.new.out) c.in_ok-picked-in-Choice.field-0 c.in_ok-picked-in-Choice.ensures c.in-Some.picked c.in-Some.is in
-    subst (λ (ns : List Net). c.in-Some.picked.0 < length ns) (sym c.as_slice-nets.ensures)
-    (branch_there (boxes_of c.args.walk.now.run.now) c.args.net.now c.requires.formed c.in-Choice.place c.in-Choice.merge c.in-Choice.branches c.in-Choice.faces c.in-Choice.is c.in-Some.picked.0 goes.there)
-
-pub pass-pass_branch-requires : goal.pass-pass_branch-requires
-pass-pass_branch-requires t c =
-    let goes = choice_goes_to (setting_of c.args.walk.now.run.now) c.args.net.now c.in-Choice.place c.in-Choice.merge c.in-Choice.branches c.in-Choice.faces c.as_slice-in-Choice.result.now c.in-Choice.is c.as_slice-in-Choice.ensures
-    (held c.args.kept.now) (flows c.args.item) (given c.args.out.now) (map flows c.choose.new.out) c.in_ok-picked-in-Choice.field-0 c.in_ok-picked-in-Choice.ensures c.in-Some.picked c.in-Some.is in
-    let below = branch_there (boxes_of c.args.walk.now.run.now) c.args.net.now c.requires.formed c.in-Choice.place c.in-Choice.merge c.in-Choice.branches c.in-Choice.faces c.in-Choice.is c.in-Some.picked.0 goes.there in
-    let inside : c.in-Some.picked.0 < length c.as_slice-nets.result.now = subst (λ (ns : List Net). c.in-Some.picked.0 < length ns) (sym c.as_slice-nets.ensures) below in (
-      search (rules, the_lemmas, inside),
-      (
-        branch_at_place (boxes_of c.args.walk.now.run.now) c.args.net.now c.requires.formed c.in-Choice.place c.in-Choice.merge c.in-Choice.branches c.in-Choice.faces c.in-Choice.is c.as_slice-nets.result.now
-            c.in-Some.picked.0 c.index-nets-number.result c.as_slice-nets.ensures below c.index-nets-number.is,
-        c.requires.inputs,
-      ),
-    )
-
-pub pass-returns-in-Some : goal.pass-returns-in-Some
-pass-returns-in-Some t c =
-    let goes = choice_goes_to (setting_of c.args.walk.now.run.now) c.args.net.now c.in-Choice.place c.in-Choice.merge c.in-Choice.branches c.in-Choice.faces c.as_slice-in-Choice.result.now c.in-Choice.is c.as_slice-in-Choice.ensures
-    (held c.args.kept.now) (flows c.args.item) (given c.args.out.now) (map flows c.choose.new.out) c.in_ok-picked-in-Choice.field-0 c.in_ok-picked-in-Choice.ensures c.in-Some.picked c.in-Some.is in
-    let there = branch_stands (boxes_of c.args.walk.now.run.now) c.args.net.now c.requires.formed c.in-Choice.place c.in-Choice.merge c.in-Choice.branches c.in-Choice.faces c.in-Choice.is c.as_slice-nets.result.now
-    c.in-Some.picked.0 c.index-nets-number.result c.as_slice-nets.ensures
-    (branch_there (boxes_of c.args.walk.now.run.now) c.args.net.now c.requires.formed c.in-Choice.place c.in-Choice.merge c.in-Choice.branches c.in-Choice.faces c.in-Choice.is c.in-Some.picked.0 goes.there)
-    c.index-nets-number.is in
-    both_ok c.pass_branch.result _ _ _
-    (choice_some (setting_of c.args.walk.now.run.now) c.args.net.now c.in-Choice.place c.in-Choice.merge c.in-Choice.branches c.in-Choice.faces c.as_slice-in-Choice.result.now c.in-Choice.is c.as_slice-in-Choice.ensures
-    (held c.args.kept.now) (flows c.args.item) (given c.args.out.now) (map flows c.choose.new.out) c.in_ok-picked-in-Choice.field-0 c.in_ok-picked-in-Choice.ensures
-    c.in-Some.picked c.index-nets-number.result (held c.pass_branch.new.kept) (given c.pass_branch.new.out) c.in-Some.is there) c.pass_branch.ensures.passes c.pass_branch.ensures.others
 
 pub pass-pass_star-requires : goal.pass-pass_star-requires
 pass-pass_star-requires t c = (
@@ -137,31 +100,94 @@ pass-returns-in-Star t c =
     (star_arm (setting_of c.args.walk.now.run.now) c.args.net.now c.in-Star.body c.get-in-Star.result.now c.in-Star.place c.in-Star.merge c.in-Star.exit c.in-Star.guard (held c.args.kept.now) (held c.pass_star.new.kept)
     (flows c.args.item) (given c.args.out.now) (given c.pass_star.new.out) c.in-Star.is c.get-in-Star.ensures) c.pass_star.ensures
 
-pub pass-split-requires : goal.pass-split-requires
-pass-split-requires t c = at_split (boxes_of c.args.walk.now.run.now) c.args.net.now c.requires.formed c.in-Split.place c.in-Split.merge c.in-Split.body c.in-Split.tag c.in-Split.is
-
-pub pass-returns-in-None-2 : goal.pass-returns-in-None-2
-pass-returns-in-None-2 t c =
-    split_none (setting_of c.args.walk.now.run.now) c.args.net.now c.in-Split.body c.in-Split.place c.in-Split.merge c.in-Split.tag c.in-Split.is
-    (held c.args.kept.now) (flows c.args.item) (given c.args.out.now) (map flows c.split.new.out) c.in_ok-picked-in-Split.field-0 c.in_ok-picked-in-Split.ensures c.in-None-2.is
-
-pub pass-pass_replica-requires : goal.pass-pass_replica-requires
-pass-pass_replica-requires t c = (
+pub pass-pass_split-requires : goal.pass-pass_split-requires
+pass-pass_split-requires t c = (
   search (rules, the_lemmas),
   (
-    split_body_fits (boxes_of c.args.walk.now.run.now) c.args.net.now c.requires.formed c.in-Split.place c.in-Split.merge c.in-Split.body c.get-in-Split.result.now c.in-Split.tag c.in-Split.is c.get-in-Split.ensures,
+    c.requires.formed,
+    (
+      c.requires.inputs,
+      (c.in-Split.merge, subst (λ (body : Net). c.args.net.now ≡ Split c.in-Split.place c.in-Split.merge body c.in-Split.tag) (sym c.get-in-Split.ensures) c.in-Split.is),
+    ),
+  ),
+)
+
+pub pass_series-pass-requires : goal.pass_series-pass-requires
+pass_series-pass-requires t c = (omega (arith, le-max_left (the_size c.args.left.now) (the_size c.args.right.now)), (c.requires.left, c.requires.inputs))
+
+pub pass_series-pass_each-requires : goal.pass_series-pass_each-requires
+pass_series-pass_each-requires t c = (omega (arith, le-max_right (the_size c.args.left.now) (the_size c.args.right.now)), (c.requires.right, c.requires.inputs))
+
+pub pass_series-returns : goal.pass_series-returns
+pass_series-returns t c =
+    serial_arm (setting_of c.args.walk.now.run.now) c.args.left.now c.args.right.now (held c.args.kept.now) (held c.in_ok-kept.field-0)
+    (held c.into_parts-first.result.0) (held c.into_parts-first.result.1) (held c.pass.new.kept) (held c.pass_each.new.kept) (flows c.args.item)
+    (given c.pass.new.out) (given c.args.out.now) (given c.pass_each.new.out) (given c.begin-before.new.self)
+    (c.into_parts-first.ensures.left ∙ ap (λ (k : Kept). left_of (held k)) c.replace.ensures.value)
+    (c.into_parts-first.ensures.right ∙ ap (λ (k : Kept). right_of (held k)) c.replace.ensures.value) (ap (map flows) c.begin-before.ensures.anew)
+    c.in_ok-pass.ensures
+    (passes_all_at (tree (setting_of c.args.walk.now.run.now) c.args.right.now) (held c.into_parts-first.result.1) (held c.pass_each.new.kept) _ _ _ _ (given c.pass_each.new.out)
+    (ap (map flows) c.end-between.ensures.since) (ap (map flows) (c.end-between.ensures.back ∙ c.begin-before.ensures.before)) c.in_ok-pass_each.ensures)
+    c.in_ok-kept.ensures.left c.in_ok-kept.ensures.right
+
+pub pass_choice-choose-requires : goal.pass_choice-choose-requires
+pass_choice-choose-requires t c =
+    subst (IsAtChoice c.args.choice.now) (sym c.as_slice.ensures) (at_choice (boxes_of c.args.walk.now.run.now) c.args.choice.now c.requires.formed c.args.place c.requires.parts.0 c.args.branches.now c.args.faces.now c.requires.parts.1)
+
+pub pass_choice-returns-in-None : goal.pass_choice-returns-in-None
+pass_choice-returns-in-None t c =
+    choice_none (setting_of c.args.walk.now.run.now) c.args.choice.now c.args.place c.requires.parts.0 c.args.branches.now c.args.faces.now c.requires.parts.1 (held c.args.kept.now) (flows c.args.item) (given c.args.out.now) (map flows c.choose.new.out) c.in_ok-picked.field-0 (chosen_here c.args.place c.as_slice.result.now c.args.faces.now (flows c.args.item) (given c.args.out.now) (map flows c.choose.new.out) c.in_ok-picked.field-0 c.as_slice.ensures c.in_ok-picked.ensures) c.in-None.is
+
+pub pass_choice-bounds-nets-number : goal.pass_choice-bounds-nets-number
+pass_choice-bounds-nets-number t c =
+    let goes = choice_goes_to (setting_of c.args.walk.now.run.now) c.args.choice.now c.args.place c.requires.parts.0 c.args.branches.now c.args.faces.now c.requires.parts.1 (held c.args.kept.now) (flows c.args.item) (given c.args.out.now) (map flows c.choose.new.out) c.in_ok-picked.field-0 (chosen_here c.args.place c.as_slice.result.now c.args.faces.now (flows c.args.item) (given c.args.out.now) (map flows c.choose.new.out) c.in_ok-picked.field-0 c.as_slice.ensures c.in_ok-picked.ensures) c.in-Some.picked c.in-Some.is in
+    subst (λ (ns : List Net). c.in-Some.picked.0 < length ns) (sym c.as_slice-nets.ensures) (branch_there (boxes_of c.args.walk.now.run.now) c.args.choice.now c.requires.formed c.args.place c.requires.parts.0 c.args.branches.now c.args.faces.now c.requires.parts.1 c.in-Some.picked.0 goes.there)
+
+pub pass_choice-pass_branch-requires : goal.pass_choice-pass_branch-requires
+pass_choice-pass_branch-requires t c =
+    let goes = choice_goes_to (setting_of c.args.walk.now.run.now) c.args.choice.now c.args.place c.requires.parts.0 c.args.branches.now c.args.faces.now c.requires.parts.1 (held c.args.kept.now) (flows c.args.item) (given c.args.out.now) (map flows c.choose.new.out) c.in_ok-picked.field-0 (chosen_here c.args.place c.as_slice.result.now c.args.faces.now (flows c.args.item) (given c.args.out.now) (map flows c.choose.new.out) c.in_ok-picked.field-0 c.as_slice.ensures c.in_ok-picked.ensures) c.in-Some.picked c.in-Some.is in
+    let below = branch_there (boxes_of c.args.walk.now.run.now) c.args.choice.now c.requires.formed c.args.place c.requires.parts.0 c.args.branches.now c.args.faces.now c.requires.parts.1 c.in-Some.picked.0 goes.there in
+    let inside : c.in-Some.picked.0 < length c.as_slice-nets.result.now = subst (λ (ns : List Net). c.in-Some.picked.0 < length ns) (sym c.as_slice-nets.ensures) below in (
+      search (rules, the_lemmas, inside),
+      (
+        branch_at_place (boxes_of c.args.walk.now.run.now) c.args.choice.now c.requires.formed c.args.place c.requires.parts.0 c.args.branches.now c.args.faces.now c.requires.parts.1 c.as_slice-nets.result.now c.in-Some.picked.0 c.index-nets-number.result c.as_slice-nets.ensures below c.index-nets-number.is,
+        c.requires.inputs,
+      ),
+    )
+
+pub pass_choice-returns : goal.pass_choice-returns
+pass_choice-returns t c =
+    let goes = choice_goes_to (setting_of c.args.walk.now.run.now) c.args.choice.now c.args.place c.requires.parts.0 c.args.branches.now c.args.faces.now c.requires.parts.1 (held c.args.kept.now) (flows c.args.item) (given c.args.out.now) (map flows c.choose.new.out) c.in_ok-picked.field-0 (chosen_here c.args.place c.as_slice.result.now c.args.faces.now (flows c.args.item) (given c.args.out.now) (map flows c.choose.new.out) c.in_ok-picked.field-0 c.as_slice.ensures c.in_ok-picked.ensures) c.in-Some.picked c.in-Some.is in
+    let there = branch_stands (boxes_of c.args.walk.now.run.now) c.args.choice.now c.requires.formed c.args.place c.requires.parts.0 c.args.branches.now c.args.faces.now c.requires.parts.1 c.as_slice-nets.result.now c.in-Some.picked.0 c.index-nets-number.result c.as_slice-nets.ensures
+    (branch_there (boxes_of c.args.walk.now.run.now) c.args.choice.now c.requires.formed c.args.place c.requires.parts.0 c.args.branches.now c.args.faces.now c.requires.parts.1 c.in-Some.picked.0 goes.there) c.index-nets-number.is in
+    both_ok c.pass_branch.result _ _ _
+    (choice_some (setting_of c.args.walk.now.run.now) c.args.choice.now c.args.place c.requires.parts.0 c.args.branches.now c.args.faces.now c.requires.parts.1 (held c.args.kept.now) (flows c.args.item) (given c.args.out.now) (map flows c.choose.new.out) c.in_ok-picked.field-0 (chosen_here c.args.place c.as_slice.result.now c.args.faces.now (flows c.args.item) (given c.args.out.now) (map flows c.choose.new.out) c.in_ok-picked.field-0 c.as_slice.ensures c.in_ok-picked.ensures)
+    c.in-Some.picked c.index-nets-number.result (held c.pass_branch.new.kept) (given c.pass_branch.new.out) c.in-Some.is there) c.pass_branch.ensures.passes c.pass_branch.ensures.others
+
+pub pass_split-split-requires : goal.pass_split-split-requires
+pass_split-split-requires t c = at_split (boxes_of c.args.walk.now.run.now) c.args.whole.now c.requires.formed c.args.place c.requires.parts.0 c.args.body.now c.args.tag c.requires.parts.1
+
+pub pass_split-returns-in-None : goal.pass_split-returns-in-None
+pass_split-returns-in-None t c =
+    split_none (setting_of c.args.walk.now.run.now) c.args.whole.now c.args.body.now c.args.place c.requires.parts.0 c.args.tag c.requires.parts.1 (held c.args.kept.now) (flows c.args.item) (given c.args.out.now) (map flows c.split.new.out) c.in_ok-picked.field-0 c.in_ok-picked.ensures c.in-None.is
+
+pub pass_split-pass_replica-requires : goal.pass_split-pass_replica-requires
+pass_split-pass_replica-requires t c = (
+  omega arith,
+  (
+    split_body_fits (boxes_of c.args.walk.now.run.now) c.args.whole.now c.requires.formed c.args.place c.requires.parts.0 c.args.body.now c.args.body.now c.args.tag c.requires.parts.1 refl,
     c.requires.inputs,
   ),
 )
 
-pub pass-returns-in-Some-2 : goal.pass-returns-in-Some-2
-pass-returns-in-Some-2 t c =
-    let fits : FitsSigned w64 c.in-Some-2.picked.0 = search rules in
-    let same = to_z-of_z w64 c.in-Some-2.picked.0 fits in
+pub pass_split-returns : goal.pass_split-returns
+pass_split-returns t c =
+    let fits : FitsSigned w64 c.in-Some.picked.0 = search rules in
+    let same = to_z-of_z w64 c.in-Some.picked.0 fits in
     both_ok c.pass_replica.result _ _ _
-    (split_some (setting_of c.args.walk.now.run.now) c.args.net.now c.in-Split.body c.in-Split.place c.in-Split.merge c.in-Split.tag c.in-Split.is
-    (held c.args.kept.now) (flows c.args.item) (given c.args.out.now) (map flows c.split.new.out) c.in_ok-picked-in-Split.field-0 c.in_ok-picked-in-Split.ensures
-    c.in-Some-2.picked c.get-in-Split.result.now (held c.pass_replica.new.kept) (given c.pass_replica.new.out) c.in-Some-2.is c.get-in-Split.ensures)
+    (split_some (setting_of c.args.walk.now.run.now) c.args.whole.now c.args.body.now c.args.place c.requires.parts.0 c.args.tag c.requires.parts.1
+    (held c.args.kept.now) (flows c.args.item) (given c.args.out.now) (map flows c.split.new.out) c.in_ok-picked.field-0 c.in_ok-picked.ensures
+    c.in-Some.picked (held c.pass_replica.new.kept) (given c.pass_replica.new.out) c.in-Some.is)
     (rw same at c.pass_replica.ensures.passes) (rw same at c.pass_replica.ensures.others)
 
 pub pass_each-loop-item-init : goal.pass_each-loop-item-init

@@ -1,8 +1,9 @@
-use Rattle.std.proofs.Common.{◌≡◌, ◌++◌, map}
+use Rattle.std.proofs.Common.{◌≡◌, ◌++◌, ◌+◌, ◌*◌, map, max}
 use Rattle.std.specs.Vec.Iter.{drain_items}
 use Rattle.sn_net.specs.declared.net.Merge.TheVariants.{Det}
 use Rattle.sn_model.specs.Meaning.{tree}
 use Rattle.sn_model.specs.Run.{setting_of}
+use Rattle.sn_net.proofs.net.Net.TheLaws.{the_size}
 use Rattle.sn_pass.specs.Flowing.{flows}
 use Rattle.sn_pass.specs.Levels.{taps}
 use Rattle.sn_pass.specs.Output.{given}
@@ -11,6 +12,30 @@ use Rattle.sn_pass.specs.States.{held}
 use Rattle.sn_pass.specs.Waiting.{stack_of}
 use Rattle.sn_pass.proofs.StarLoop.{IsSoFar, at_levels, star_with}
 use Rattle.sn_pass.proofs.pass.+pass.Given as goal
+
+abbrev pub decreases-pass : goal.decreases-pass
+decreases-pass l = 3 * the_size l.net.now + 2
+
+abbrev pub decreases-pass_series : goal.decreases-pass_series
+decreases-pass_series l = 3 * max (the_size l.left.now) (the_size l.right.now) + 4
+
+abbrev pub decreases-pass_choice : goal.decreases-pass_choice
+decreases-pass_choice l = 3 * goal.size-pass_choice l + 4
+
+abbrev pub decreases-pass_split : goal.decreases-pass_split
+decreases-pass_split l = 3 * the_size l.body.now + 4
+
+abbrev pub decreases-pass_each : goal.decreases-pass_each
+decreases-pass_each l = 3 * the_size l.net.now + 3
+
+abbrev pub decreases-pass_branch : goal.decreases-pass_branch
+decreases-pass_branch l = 3 * the_size l.branch.now + 3
+
+abbrev pub decreases-pass_replica : goal.decreases-pass_replica
+decreases-pass_replica l = 3 * the_size l.body.now + 3
+
+abbrev pub decreases-pass_star : goal.decreases-pass_star
+decreases-pass_star l = 3 * the_size l.body.now + 3
 
 abbrev pub invariant-pass_each-loop-item : goal.invariant-pass_each-loop-item
 invariant-pass_each-loop-item l =
