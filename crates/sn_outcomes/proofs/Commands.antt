@@ -1,6 +1,7 @@
 -- A command and its files are found to be one thing, where the bytes of the files are told.
 use Rattle.std.proofs.Common.{ℕ, List, ◌≡◌, ◌<◌, ◌≤◌, refl, sym, ◌∙◌, ap, subst, inl, inr, length, arith}
-use Rattle.std.specs.Prelude.{Result, Ok, Err, Option, Some}
+use Rattle.std.specs.Prelude.{Result, Ok, Err, Option, None, Some, option_map, ◌+◌}
+use Rattle.std.proofs.lemmas.Option.{none-some}
 use Rattle.sn_input.specs.declared.input.Input.{Input}
 use Rattle.sn_outcomes.proofs.Flows.{same_flows}
 use Rattle.sn_outcomes.proofs.Inputs.{Comes, comes_once, refusal_comes, typed_comes}
@@ -8,19 +9,23 @@ use Rattle.sn_outcomes.proofs.Judging.{Found, Goes, goes_once, program_goes, wro
 use Rattle.sn_outcomes.proofs.Sources.{text_once}
 use Rattle.sn_outcomes.specs.Told.{AreTold}
 use Rattle.sn_output.specs.Printed.{printed, ending}
-use Rattle.sn_top.specs.Answer.{Printout, whole, Finds, FindsText, FindsTypes, FindsFor, IsAnswered, IsRefusedInput, Outside, found_status}
+use Rattle.sn_sample.specs.Source.{source_text}
+use Rattle.sn_sample.specs.Tally.{counted, counts_line}
+use Rattle.sn_top.specs.Answer.{Printout, whole, Finds, FindsSample, FindsText, FindsTypes, FindsFor, IsAnswered, IsRefusedInput, Outside, found_status}
 use Rattle.sn_top.specs.Flows.{HasFlows}
 use Rattle.sn_top.specs.Load.{Limits, limits_of, WhyNoRecords, stream_of}
+use Rattle.sn_top.specs.Sample.{AreTypedSamples, HasNoRoom, HasUntypedSample, answers_to, names_with}
 use Rattle.sn_top.specs.Seen.{File}
 use Rattle.sn_top.specs.Source.{FindsSource}
 use Rattle.sn_top.specs.declared.load.Program.{Program}
 use Rattle.sn_top.specs.declared.serve.TheConstants.{SOURCE_LIMIT, INPUT_LIMIT}
+use Rattle.sn_top.specs.declared.status.LineFault.TheVariants as wrong
 use Rattle.sn_top.specs.declared.status.Refusal.{Refusal}
 use Rattle.sn_top.specs.declared.status.Refusal.TheVariants.{TooLarge, Source as SourceAt, NoMain, TooDeep, LargeTree, TooManyNames, IllTyped, Variants, Line}
 use Rattle.sn_top.specs.declared.status.Status.{Status}
 use Rattle.sn_top.specs.declared.status.Which.TheVariants.{Source, Input as InputFile}
 use Rattle.sn_top.specs.declared.words.Command.{Command}
-use Rattle.sn_top.specs.declared.words.Command.TheVariants.{Check, Once, Print}
+use Rattle.sn_top.specs.declared.words.Command.TheVariants.{Check, Once, Print, Sample}
 
 -- what comes of a stream is printed
 abbrev pub printout : Limits → Program → Input → Printout
@@ -134,11 +139,63 @@ pub finds_text_once : (bytes : List ℕ) (source : Option (List ℕ)) (found oth
 finds_text_once bytes source found other s f g =
     texts_once bytes found other (texts bytes found (subst (λ x. FindsText x found) s f)) (texts bytes other (subst (λ x. FindsText x other) s g))
 
+-- the line of the counters of what a program answers to the records of a number
+abbrev pub tallied : Program → ℕ → ℕ → Printout
+tallied program number count = record { bytes = counts_line (counted (names_with program.names) (answers_to program number count)); ending = ending (answers_to program number count) }
+
+-- what is found of a program and the records of a number
+pub data Samples (number count : ℕ) (program : Program) : Found → Type 0 where
+  crowded : HasNoRoom program.names → Samples number count program (Err TooManyNames)
+  untyped : (n : ℕ) → HasUntypedSample n program.names program.claim number count → Samples number count program (Err (Line (wrong.Untyped n)))
+  tallies : AreTypedSamples program.names program.claim number count → Samples number count program (Ok (tallied program number count))
+
+-- one place, and so one number
+same_place : (first : Option ℕ) (n m : ℕ) → option_map (λ i. i + 1) first ≡ Some n → option_map (λ i. i + 1) first ≡ Some m → n ≡ m
+same_place first n m is are = let same : Some n ≡ Some m = sym is ∙ are in cc
+
+no_place : (first : Option ℕ) (n : ℕ) → option_map (λ i. i + 1) first ≡ Some n → first ≡ None → ⊥
+no_place first n is none = none-some n (sym (ap (option_map (λ i. i + 1)) none) ∙ is)
+
+samples_once : (number count : ℕ) (program : Program) (found other : Found) → Samples number count program found → Samples number count program other → found ≡ other
+samples_once number count program found other (Samples.crowded a) (Samples.crowded b) = refl
+samples_once number count program found other (Samples.crowded a) (Samples.untyped n b) = let room = b.room in absurd (omega arith)
+samples_once number count program found other (Samples.crowded a) (Samples.tallies b) = let room = b.room in absurd (omega arith)
+samples_once number count program found other (Samples.untyped n a) (Samples.crowded b) = let room = a.room in absurd (omega arith)
+samples_once number count program found other (Samples.untyped n a) (Samples.untyped m b) = ap (λ k. Err (Line (wrong.Untyped k))) (same_place _ n m a.first b.first)
+samples_once number count program found other (Samples.untyped n a) (Samples.tallies b) = absurd (no_place _ n a.first b.typed)
+samples_once number count program found other (Samples.tallies a) (Samples.crowded b) = let room = a.room in absurd (omega arith)
+samples_once number count program found other (Samples.tallies a) (Samples.untyped n b) = absurd (no_place _ n b.first a.typed)
+samples_once number count program found other (Samples.tallies a) (Samples.tallies b) = refl
+
+sampled : (number count : ℕ) (found : Found) → FindsSample number count found → Goes source_text (Samples number count) found
+sampled number count (Err (TooLarge which)) f = absurd f
+sampled number count (Err (SourceAt fault at)) f = wrong_goes source_text (Samples number count) (SourceAt fault at) f
+sampled number count (Err NoMain) f = wrong_goes source_text (Samples number count) NoMain f
+sampled number count (Err (TooDeep at)) f = wrong_goes source_text (Samples number count) (TooDeep at) f
+sampled number count (Err (LargeTree at)) f = wrong_goes source_text (Samples number count) (LargeTree at) f
+sampled number count (Err TooManyNames) (inl f) = wrong_goes source_text (Samples number count) TooManyNames f
+sampled number count (Err TooManyNames) (inr f) = program_goes source_text (Samples number count) (Err TooManyNames) f.0 f.1 (Samples.crowded f.2)
+sampled number count (Err (IllTyped fault at variant)) f = wrong_goes source_text (Samples number count) (IllTyped fault at variant) f
+sampled number count (Err (Variants at)) f = wrong_goes source_text (Samples number count) (Variants at) f
+sampled number count (Err (Line (wrong.BadLine n))) f = absurd f.2
+sampled number count (Err (Line (wrong.Twice n kind name))) f = absurd f.2
+sampled number count (Err (Line (wrong.Untyped n))) f = program_goes source_text (Samples number count) (Err (Line (wrong.Untyped n))) f.0 f.1 (Samples.untyped n f.2)
+sampled number count (Err (Line (wrong.TooMany n))) f = absurd f.2
+sampled number count (Ok p) (program, accepted, prints) =
+    let fields : p ≡ tallied program number count = λ i. record { bytes = prints.bytes_are i; ending = prints.ending_is i } in
+    let tallies : Samples number count program (Ok (tallied program number count)) = Samples.tallies prints.typed in
+    program_goes source_text (Samples number count) (Ok p) program accepted (subst (λ x. Samples number count program (Ok x)) (sym fields) tallies)
+
+pub finds_sample_once : (number count : ℕ) (found other : Found) → FindsSample number count found → FindsSample number count other → found ≡ other
+finds_sample_once number count found other f g =
+    goes_once source_text (Samples number count) (Samples number count) (samples_once number count) found other (sampled number count found f) (sampled number count other g)
+
 pub command_once : (command : Command) (file : List ℕ → File) (found other : Found) → AreTold command file → FindsFor command file found → FindsFor command file other → found ≡ other
 command_once (Once source input fuel depth) file found other told f g =
     finds_once (limits_of fuel depth) told.0.bytes told.1.bytes (file source).told (file input).told found other told.0.are told.1.are f g
 command_once (Check source) file found other told f g = finds_types_once told.bytes (file source).told found other told.are f g
 command_once (Print source) file found other told f g = finds_text_once told.bytes (file source).told found other told.are f g
+command_once (Sample number count) file found other told f g = finds_sample_once number count found other f g
 
 -- and so there is one status
 pub status_once : (command : Command) (outside : Outside) (status other : Status) → AreTold command outside.file → IsAnswered command outside status → IsAnswered command outside other → status ≡ other

@@ -2,17 +2,19 @@
 use Rattle.std.proofs.Common.{ℕ, List, ◌≡◌, ◌≤◌, refl, sym, ◌∙◌, ap, subst, length}
 use Rattle.std.specs.Prelude.{Ok, Some, Option}
 use Rattle.sn_input.specs.declared.input.Input.{Input}
-use Rattle.sn_outcomes.proofs.Commands.{Lists, checked, finds_once, finds_text_once, printout}
+use Rattle.sn_outcomes.proofs.Commands.{Lists, checked, finds_once, finds_sample_once, finds_text_once, printout, tallied}
 use Rattle.sn_outcomes.proofs.Judging.{goes_accepted}
 use Rattle.sn_output.specs.Printed.{ending}
-use Rattle.sn_top.specs.Answer.{Finds, FindsText, FindsTypes, IsAccepted, IsAnswered, Outside, ending_status, found_status, whole}
+use Rattle.sn_sample.specs.Source.{source_text}
+use Rattle.sn_top.specs.Answer.{PrintsSample, Finds, FindsText, FindsTypes, IsAccepted, IsAnswered, Outside, ending_status, found_status, whole}
 use Rattle.sn_top.specs.Load.{IsTypedFile, limits_of, stream_of}
+use Rattle.sn_top.specs.Sample.{AreTypedSamples, answers_to}
 use Rattle.sn_top.specs.Source.{HasText}
 use Rattle.sn_top.specs.declared.load.Program.{Program}
 use Rattle.sn_top.specs.declared.serve.TheConstants.{INPUT_LIMIT, SOURCE_LIMIT}
 use Rattle.sn_top.specs.declared.status.Status.{Status}
 use Rattle.sn_top.specs.declared.status.Status.TheVariants as status
-use Rattle.sn_top.specs.declared.words.Command.TheVariants.{Check, Once, Print}
+use Rattle.sn_top.specs.declared.words.Command.TheVariants.{Check, Once, Print, Sample}
 
 -- what an accepted source and a typed record file print is found
 once_found : (source input : Option (List ℕ)) (fuel depth : ℕ) (bytes more : List ℕ) (program : Program) (records : Input) → source ≡ Some bytes → input ≡ Some more → IsAccepted bytes program
@@ -42,3 +44,9 @@ pub print_done : (outside : Outside) (source bytes text : List ℕ) (left : Stat
 print_done outside source bytes text left s within has answered =
     let found : FindsText (outside.file source).told (Ok (whole text)) = subst (λ x. FindsText x (Ok (whole text))) (sym s) (within, has, refl) in
     answered.status_is ∙ ap found_status (finds_text_once bytes (outside.file source).told answered.found (Ok (whole text)) s answered.finds found)
+
+pub sample_done : (outside : Outside) (number count : ℕ) (program : Program) (left : Status) → IsAccepted source_text program → AreTypedSamples program.names program.claim number count
+    → IsAnswered (Sample number count) outside left → left ≡ ending_status (ending (answers_to program number count))
+sample_done outside number count program left accepted typed answered =
+    let prints : PrintsSample program number count (tallied program number count) = record { typed = typed; bytes_are = refl; ending_is = refl } in
+    answered.status_is ∙ ap found_status (finds_sample_once number count answered.found (Ok (tallied program number count)) answered.finds (program, accepted, prints))

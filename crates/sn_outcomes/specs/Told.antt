@@ -5,18 +5,19 @@ use Rattle.sn_top.specs.declared.status.Refusal.{Refusal}
 use Rattle.sn_top.specs.declared.status.Refusal.TheVariants.{TooLarge, Source as SourceAt, NoMain, TooDeep, LargeTree, TooManyNames, IllTyped, Variants, Line}
 use Rattle.sn_top.specs.declared.status.Which.TheVariants.{Source, Input}
 use Rattle.sn_top.specs.declared.words.Command.{Command}
-use Rattle.sn_top.specs.declared.words.Command.TheVariants.{Check, Once, Print}
+use Rattle.sn_top.specs.declared.words.Command.TheVariants.{Check, Once, Print, Sample}
 
 -- the bytes of the file are told
 pub record IsTold (file : File) : Type 0 where
   pub bytes : List ℕ
   pub are : file.told ≡ Some bytes
 
--- those of each file that the command reads
+-- those of each file that the command reads, which is none where it makes its records
 abbrev pub AreTold : Command → (List ℕ → File) → Type 0
 AreTold (Once source input fuel depth) file = IsTold (file source) × IsTold (file input)
 AreTold (Check source) file = IsTold (file source)
 AreTold (Print source) file = IsTold (file source)
+AreTold (Sample number count) file = Unit {0}
 
 -- no input is refused so
 abbrev pub IsOfSource : Refusal → Type 0

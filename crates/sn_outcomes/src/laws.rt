@@ -21,8 +21,10 @@ ghost use Rattle.sn_output.specs.Printed.{ending};
 ghost use Rattle.sn_parser.specs.Answer.{Faults, IsFault as IsParseFault, IsProgram as IsTree, Spell, Spells};
 ghost use Rattle.sn_parser.specs.declared.parsing.ParseFault.{ParseFault as SomeParseFault};
 ghost use Rattle.sn_parser.specs.declared.parsing.ParseFault.TheVariants as parse_fault;
+ghost use Rattle.sn_sample.specs.Source.{source_text};
 ghost use Rattle.sn_top.specs.Answer.{Finds, FindsFor, IsAccepted, IsAnswered, Outside, Printout, ending_status};
 ghost use Rattle.sn_top.specs.Load.{IsTypedFile, Limits, WhyNoRecords, limits_of, stream_of};
+ghost use Rattle.sn_top.specs.Sample.{AreTypedSamples, answers_to};
 ghost use Rattle.sn_top.specs.Scope.{IsProgram, WhyNoProgram};
 ghost use Rattle.sn_top.specs.Seen.{File};
 ghost use Rattle.sn_top.specs.Source.{FindsSource, HasText, IsSource};
@@ -32,7 +34,7 @@ ghost use Rattle.sn_top.specs.declared.status.Refusal.{Refusal as SomeRefusal};
 ghost use Rattle.sn_top.specs.declared.status.Status.{Status as SomeStatus};
 ghost use Rattle.sn_top.specs.declared.status.Status.TheVariants as status;
 ghost use Rattle.sn_top.specs.declared.words.Command.{Command as SomeCommand};
-ghost use Rattle.sn_top.specs.declared.words.Command.TheVariants.{Check, Once, Print};
+ghost use Rattle.sn_top.specs.declared.words.Command.TheVariants.{Check, Once, Print, Sample};
 
 /// The bytes of a source give one list of tokens, or one refusal at one place, and never both. Want of memory is said of
 /// any source, and so it is left out, here and below.
@@ -112,7 +114,8 @@ pub fn command_has_one_outcome()
 {}
 
 /// An accepted source and a record file of its input type are enough: where their bytes are told, no answer of a command is a
-/// refusal. A run ends as its stream does, whole or at a fault, a check ends well, and so does a printing, which needs only
+/// refusal. A run ends as its stream does, whole or at a fault, and so does one over stated records, where these find room for their
+/// names and are of the input type; a check ends well, and so does a printing, which needs only
 /// that the source has a text.
 pub fn accepted_commands_are_done()
     ensures once { (outside : Outside) (source input : List ℕ) (fuel depth : ℕ) (bytes more : List ℕ) (program : SomeProgram) (records : SomeInput) (left : SomeStatus)
@@ -123,4 +126,7 @@ pub fn accepted_commands_are_done()
         → IsAccepted bytes program → IsAnswered (Check source) outside left → left ≡ status.Ok }
     ensures print { (outside : Outside) (source bytes text : List ℕ) (left : SomeStatus) → (outside.file source).told ≡ Some bytes → length bytes ≤ SOURCE_LIMIT
         → HasText bytes text → IsAnswered (Print source) outside left → left ≡ status.Ok }
+    ensures sample { (outside : Outside) (number count : ℕ) (program : SomeProgram) (left : SomeStatus) → IsAccepted source_text program
+        → AreTypedSamples program.names program.claim number count
+        → IsAnswered (Sample number count) outside left → left ≡ ending_status (ending (answers_to program number count)) }
 {}

@@ -1,5 +1,5 @@
 -- What the words of the command line give.
-use Rattle.std.proofs.Common.{◌≡◌, ◌≢◌, ℕ, suc, ◌<◌, ◌≤◌, ◌^◌, Bool, true, false, cond, List, [], ◌∷◌, codes, length, map, take, drop, get_or, ◌-◌, refl, sym, ap, subst, ◌||◌, arith}
+use Rattle.std.proofs.Common.{◌≡◌, ◌≢◌, ℕ, suc, ◌<◌, ◌≤◌, ◌^◌, if◌then◌else◌, nat_le, Bool, true, false, cond, List, [], ◌∷◌, codes, length, map, take, drop, get_or, ◌-◌, refl, sym, ap, subst, ◌||◌, arith}
 use Rattle.std.specs.Prelude.{Option, Some, None, Result, Ok, Err, IfOk, IfSome, option_map, option_and_then, unwrap_or, is_some}
 use Rattle.std.specs.List.{position_or_len, after_first}
 use Rattle.std.specs.Result.{OkIff, result_ok}
@@ -15,8 +15,8 @@ use Rattle.sn_top.specs.declared.words.Setting.{Setting}
 use Rattle.sn_top.specs.declared.words.Setting.TheVariants.{Fuel, Depth}
 use Rattle.sn_top.specs.declared.words.WordsFault.{WordsFault}
 use Rattle.sn_top.specs.declared.words.Verb.{Verb}
-use Rattle.sn_top.specs.declared.words.Verb.TheVariants.{Check, Once, Print}
-use Rattle.sn_top.specs.Words.{Given, IsInRange, behind, first_given, is_equals, is_nothing, is_option, is_word, made_of, named, nothing, number_of, once_of, option_name, option_value, read_on, set, setting_of, source_alone, within}
+use Rattle.sn_top.specs.declared.words.Verb.TheVariants.{Check, Once, Print, Sample}
+use Rattle.sn_top.specs.Words.{Given, IsInRange, behind, first_given, is_equals, is_nothing, is_option, is_word, made_of, named, nothing, number_of, once_of, option_name, option_value, read_on, sample_of, set, setting_of, source_alone, within}
 
 -- a `=` stands in the word
 pub value_found : (word value : List ℕ) → position_or_len is_equals word < length word → value ≡ after_first is_equals word → Some value ≡ option_value word
@@ -132,6 +132,22 @@ made_alone : (make : List ℕ → Command) → ((source : List ℕ) → IsInRang
 made_alone make h None = tt
 made_alone make h (Some source) = h source
 
+-- the numbers that records are made from
+up_to : (most : ℕ) (o : Option ℕ) → IfSome (option_and_then (λ n. if nat_le n most then Some n else None) o) (λ n. n ≤ most)
+up_to most None = tt
+up_to most (Some n) = grind (arith, nat_tests)
+
+made_of_two : (number count : Option ℕ) → IfSome number (λ n. n ≤ 2_147_483_647) → IfSome count (λ n. n ≤ 50_000) → IfSome (option_and_then (λ n. option_map (command.Sample n) count) number) IsInRange
+made_of_two None count h k = tt
+made_of_two (Some n) None h k = tt
+made_of_two (Some n) (Some m) h k = (omega (arith, h), k)
+
+made_sample : (names : List (List ℕ)) → IfSome (sample_of names) IsInRange
+made_sample [] = tt
+made_sample (seed ∷ []) = tt
+made_sample (seed ∷ (count ∷ [])) = made_of_two _ _ (up_to 2_147_483_647 (number_of seed)) (up_to 50_000 (number_of count))
+made_sample (seed ∷ (count ∷ (more ∷ names))) = tt
+
 number_or : (most other : ℕ) (number : Option ℕ) → IsUpTo most other → IfSome number (IsUpTo most) → IsUpTo most (unwrap_or number other)
 number_or most other None o h = o
 number_or most other (Some n) o h = h
@@ -142,6 +158,7 @@ made Once (Some given) h =
     made_once _ _ given.names (number_or 1_000_000_000 1_000_000 given.fuel (omega arith, omega arith) h.0) (number_or 2_000 1_000 given.depth (omega arith, omega arith) h.1)
 made Check (Some given) h = made_alone command.Check (λ source. tt) (source_alone given.names)
 made Print (Some given) h = made_alone command.Print (λ source. tt) (source_alone given.names)
+made Sample (Some given) h = made_sample given.names
 
 -- a command has its numbers in their ranges
 pub made_in_range : {E : Type 0} (verb other : Verb) (words : List (List ℕ)) (given : Given) (r : Result Command E) → read_on verb None nothing words ≡ Some given → IfOk r (λ command. made_of other given ≡ Some command) → IfOk r IsInRange

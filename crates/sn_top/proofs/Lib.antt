@@ -8,3 +8,4 @@ pub mod Told
 pub mod Flowing
 pub mod Running
 pub mod Checking
+pub mod Sampling

@@ -125,6 +125,18 @@ none_at p xs d fail =
     let at : position_or_len p xs ≡ length xs = position_or_len_is p xs (length xs) d (omega arith) fail (λ l. absurd (omega arith)) in
     grind (arith, nat_tests)
 
+un_not : (b : Bool) → not b ≡ false → IsTrue b
+un_not true is = refl
+un_not false is = cc
+
+-- where no element fails a test, each passes it
+module _ {X : Type 0} (p : X → Bool) (xs : List X) (none : position (λ x. not (p x)) xs ≡ None) where
+  none_before : length xs ≤ position_or_len (λ x. not (p x)) xs
+  none_before = grind (arith, nat_tests)
+
+  pub all_pass : All (λ x. IsTrue (p x)) xs
+  all_pass = λ k d below. un_not (p (get_or xs k d)) (fails_before_first (λ x. not (p x)) xs k d (omega (arith, none_before)))
+
 -- as many lines as records
 abbrev AreAsMany : Result Input InputFault → Type 0
 AreAsMany (Ok input) = length input.lines ≡ length input.records
@@ -156,16 +168,6 @@ module _ (names : List (List ℕ)) (claim : Claim) (bytes : List ℕ) where
   abbrev fails : Entries → Bool
   fails r = not (is_of_type claim.input r)
 
-  un_not : (b : Bool) → not b ≡ false → IsTrue b
-  un_not true is = refl
-  un_not false is = cc
-
-  none_before : (records : List Entries) → position fails records ≡ None → length records ≤ position_or_len fails records
-  none_before records none = grind (arith, nat_tests)
-
-  all_typed : (records : List Entries) → position fails records ≡ None → All (λ r. IsTrue (is_of_type claim.input r)) records
-  all_typed records none = λ k d below. un_not (is_of_type claim.input (get_or records k d)) (fails_before_first fails records k d (omega (arith, none_before records none)))
-
   module _ (input : Input) (read : ReadsFile names bytes (Ok input)) where
     -- where a record is not of the type, its line is there
     pub line_there : (i : ℕ) → position fails input.records ≡ Some i → i < length input.lines
@@ -176,4 +178,4 @@ module _ (names : List (List ℕ)) (claim : Claim) (bytes : List ℕ) where
 
     -- else each is
     pub typed : position fails input.records ≡ None → IsTypedFile names claim bytes input
-    typed none = record { read = read; typed = all_typed input.records none }
+    typed none = record { read = read; typed = all_pass (is_of_type claim.input) input.records none }

@@ -138,7 +138,7 @@ some_ended (Some at) is = (at, refl)
 
 -- records of the input type of an accepted claim are typed for its net
 module _ (boxes : List BoxProgram) (claim : Claim) (accepted : IsAccepted boxes claim) where
-  one_typed : (r : Entries) → IsTrue (is_of_type claim.input r) → IsTyped boxes claim.net (Rec r)
+  pub one_typed : (r : Entries) → IsTrue (is_of_type claim.input r) → IsTyped boxes claim.net (Rec r)
   one_typed r is =
       let found = Any-from_list_any (is_match r) claim.input is in
       let v = found.1 in

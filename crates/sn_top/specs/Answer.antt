@@ -2,7 +2,7 @@
 use Rattle.std.specs.Prelude.{◌≡◌, ◌⊎◌, ◌≤◌, ◌<◌, ℕ, List, [], length, codes, Option, None, Some, Result, Ok, Err, IfSome}
 use Rattle.sn_io.specs.Told.{appended, AppendsPrefix}
 use Rattle.sn_top.specs.declared.words.Command.{Command}
-use Rattle.sn_top.specs.declared.words.Command.TheVariants.{Check, Once, Print}
+use Rattle.sn_top.specs.declared.words.Command.TheVariants.{Check, Once, Print, Sample}
 use Rattle.sn_top.specs.declared.status.Status.{Status}
 use Rattle.sn_top.specs.declared.status.Status.TheVariants as status
 use Rattle.sn_top.specs.declared.status.Which.{Which}
@@ -22,6 +22,9 @@ use Rattle.sn_input.specs.declared.input.Input.{Input as RecordFile}
 use Rattle.sn_output.specs.Printed.{printed, ending}
 use Rattle.sn_top.specs.Load.{Limits, limits_of, HasManyNames, HasWrongLine, stream_of, IsTypedFile}
 use Rattle.sn_top.specs.Flows.{HasFlows}
+use Rattle.sn_top.specs.Sample.{AreTypedSamples, HasNoRoom, IsWrongSample, answers_to, names_with}
+use Rattle.sn_sample.specs.Source.{source_text}
+use Rattle.sn_sample.specs.Tally.{counted, counts_line}
 use Rattle.sn_top.specs.Scope.{IsProgram, WhyNoProgram}
 use Rattle.sn_top.specs.declared.load.Program.{Program}
 
@@ -98,6 +101,29 @@ FindsTypes source (Err (Variants at)) = IfSome source (IsRefusedSource (Variants
 FindsTypes source (Err (Line fault)) = ⊥
 FindsTypes source (Ok p) = IfSome source (λ bytes. (program : Program) × IsAccepted bytes program × HasFlows program program.claim.input p.bytes × (p.ending ≡ None))
 
+-- what the program prints for the records of a number: the line of the counters of what it answers
+pub record PrintsSample (program : Program) (number count : ℕ) (p : Printout) : Type 0 where
+  pub typed : AreTypedSamples program.names program.claim number count
+  pub bytes_are : p.bytes ≡ counts_line (counted (names_with program.names) (answers_to program number count))
+  pub ending_is : p.ending ≡ ending (answers_to program number count)
+
+-- the built-in source spells a program of which this holds
+abbrev pub OfBuiltIn : (Program → Type 0) → Type 0
+OfBuiltIn P = (program : Program) × IsAccepted source_text program × P program
+
+-- The same of the built-in source and the records of a number, which stand in no file.
+abbrev pub FindsSample : ℕ → ℕ → Result Printout Refusal → Type 0
+FindsSample number count (Err (TooLarge which)) = ⊥
+FindsSample number count (Err (SourceAt fault at)) = IsRefusedSource (SourceAt fault at) source_text
+FindsSample number count (Err NoMain) = IsRefusedSource NoMain source_text
+FindsSample number count (Err (TooDeep at)) = IsRefusedSource (TooDeep at) source_text
+FindsSample number count (Err (LargeTree at)) = IsRefusedSource (LargeTree at) source_text
+FindsSample number count (Err TooManyNames) = IsRefusedSource TooManyNames source_text ⊎ OfBuiltIn (λ program. HasNoRoom program.names)
+FindsSample number count (Err (IllTyped fault at variant)) = IsRefusedSource (IllTyped fault at variant) source_text
+FindsSample number count (Err (Variants at)) = IsRefusedSource (Variants at) source_text
+FindsSample number count (Err (Line fault)) = OfBuiltIn (λ program. IsWrongSample fault program.names program.claim number count)
+FindsSample number count (Ok p) = OfBuiltIn (λ program. PrintsSample program number count p)
+
 -- the bytes on `out`, the status and the line on `err` for what was found
 abbrev pub found_bytes : Result Printout Refusal → List ℕ
 found_bytes (Ok p) = p.bytes
@@ -137,6 +163,7 @@ abbrev pub FindsFor : Command → (List ℕ → File) → Result Printout Refusa
 FindsFor (Once source input fuel depth) file found = Finds (limits_of fuel depth) (file source).told (file input).told found
 FindsFor (Check source) file found = FindsTypes (file source).told found
 FindsFor (Print source) file found = FindsText (file source).told found
+FindsFor (Sample number count) file found = FindsSample number count found
 
 -- the whole answer: what is found decides the bytes, the status and the line
 pub record IsAnswered (command : Command) (outside : Outside) (s : Status) : Type 0 where
@@ -159,6 +186,7 @@ abbrev pub UnreadFor : Command → (List ℕ → File) → Which → Type 0
 UnreadFor (Once source input fuel depth) file which = IsUnread which (file source) (file input)
 UnreadFor (Check source) file which = IsSourceUnread which (file source)
 UnreadFor (Print source) file which = IsSourceUnread which (file source)
+UnreadFor (Sample number count) file which = ⊥
 
 -- nothing was printed, and the line names the file
 pub record HasUnread (command : Command) (outside : Outside) : Type 0 where
@@ -202,6 +230,10 @@ WhyUnprinted source out why = StoppedFor (FindsText source.told) (λ which. IsSo
 -- the check of a source
 abbrev pub WhyUnchecked : File → Sink → Stop → Type 0
 WhyUnchecked source out why = StoppedFor (FindsTypes source.told) (λ which. IsSourceUnread which source) out why
+
+-- a run on the records of a number
+abbrev pub WhyUncounted : ℕ → ℕ → Sink → Stop → Type 0
+WhyUncounted number count out why = StoppedFor (FindsSample number count) (λ which. ⊥) out why
 
 -- any command
 abbrev pub WhyEnded : Command → (List ℕ → File) → Sink → Stop → Type 0

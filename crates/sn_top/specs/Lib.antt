@@ -5,6 +5,7 @@ pub mod Load
 pub mod Shown
 pub mod Source
 pub mod Scope
+pub mod Sample
 pub mod Answer
 pub mod Flows
 pub mod Runs

@@ -15,6 +15,8 @@ use Rattle.sn_input.specs.Reading.{ReadsFile}
 use Rattle.sn_input.specs.declared.input.Input.{Input}
 use Rattle.sn_input.specs.declared.input.InputFault.{InputFault}
 use Rattle.sn_input.specs.declared.input.InputFault.TheVariants as input_fault
+use Rattle.sn_names.specs.declared.fault.NamesFault.{NamesFault}
+use Rattle.sn_names.specs.declared.fault.NamesFault.TheVariants as names_fault
 use Rattle.sn_top.specs.declared.load.Program.{Program}
 use Rattle.sn_top.specs.declared.status.LineFault.{LineFault}
 use Rattle.sn_top.specs.declared.status.LineFault.TheVariants as line
@@ -23,6 +25,10 @@ use Rattle.sn_top.specs.declared.status.Refusal.TheVariants as refusal
 use Rattle.sn_top.specs.declared.status.Stop.{Stop}
 use Rattle.sn_top.specs.declared.status.Stop.TheVariants as stop
 use Rattle.sn_top.specs.Scope.{IsProgram}
+
+abbrev pub names_stop : NamesFault → Stop
+names_stop names_fault.TooMany = stop.Refused refusal.TooManyNames
+names_stop names_fault.Memory = stop.Memory
 
 abbrev pub input_stop : InputFault → Stop
 input_stop (input_fault.BadLine n) = stop.Refused (refusal.Line (line.BadLine n))

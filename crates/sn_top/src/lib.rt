@@ -5,6 +5,7 @@
 mod canonical;
 mod load;
 mod outside;
+mod sample;
 mod serve;
 mod status;
 mod transcript;

@@ -106,7 +106,7 @@ pub fn load_source(alloc: Global, bytes: &[u8]) -> Result<Program, Stop>
 }
 
 /// Whether the record matches one of the variants.
-fn is_of_type(variants: &[LabelSet], r: &Record) -> bool
+pub fn is_of_type(variants: &[LabelSet], r: &Record) -> bool
     ensures { result ≡ is_of_type variants.now r.now }
 {
     for variant in variants {

@@ -1,22 +1,25 @@
 //! The top calls.
-ghost use Rattle.std.specs.Prelude.{◌≡◌, ◌≢◌, ◌≤◌, ℕ, List, Ok, IfErr, OnOk, map};
+ghost use Rattle.std.specs.Prelude.{◌≡◌, ◌≢◌, ◌≤◌, ◌<◌, ℕ, List, Ok, IfErr, OnOk, map};
 ghost use Rattle.std.specs.String.{string_bytes};
 ghost use Rattle.sn_io.specs.Told.{appended};
 ghost use Rattle.sn_top.specs.Load.{AreLimits, limits_of};
 ghost use Rattle.sn_top.specs.Seen.{GotLine, seen_file, seen_sink};
 ghost use Rattle.sn_top.specs.Status.{stop_line};
 ghost use Rattle.sn_top.specs.Words.{command_of, input_of, IsInRange, source_of};
-ghost use Rattle.sn_top.specs.Answer.{seen, whole, Finds, FindsFor, FindsText, FindsTypes, WhyEnded, WhyStopped, WhyUnchecked, WhyUnprinted, IsAnswered, HasUnread, IsCutShort, IsUnwritten, IsAnsweredFor, OfCommand, IsCutShortFor};
+ghost use Rattle.sn_top.specs.Answer.{seen, whole, Finds, FindsFor, FindsSample, FindsText, FindsTypes, WhyEnded, WhyStopped, WhyUnchecked, WhyUncounted, WhyUnprinted, IsAnswered, HasUnread, IsCutShort, IsUnwritten, IsAnsweredFor, OfCommand, IsCutShortFor};
 
 use crate::canonical::canonical_text;
 use crate::load::load_source;
 use crate::outside::{read_file, write_line};
+use crate::sample::count_sample;
 use crate::status::{Status, Stop, Which};
 use crate::transcript::run_program;
 use crate::types::flows_text;
 use crate::words::{Command, WordsFault, read_words, usage_line};
 use itoa::Buffer;
 use sn_io::{Files, Gate, Sink, write_whole};
+use sn_list::Seq;
+use sn_sample::sample_source;
 use std::alloc::Global;
 use std::sync::Wait;
 use std::thread::Threads;
@@ -105,6 +108,31 @@ fn run_print<F: Files, O: Sink>(
     Ok(())
 }
 
+/// Runs the built-in source over the records of a number, and prints the line of the counters of what comes out.
+fn run_sample<O: Sink>(
+    alloc: Global,
+    number: u32,
+    count: u32,
+    out: &mut O,
+) -> Result<(), Stop>
+    requires { number < 2_147_483_648 }
+    ensures done { OnOk result ((p : List ℕ)
+        × FindsSample number count (Ok (whole p))
+        × (O.held out.new ≡ appended (O.held out.old) p)) }
+    ensures stopped { IfErr result (WhyUncounted number count (seen_sink O.held O.faults out.old out.new)) }
+    ensures out_later { O.faults out.old ≤ O.faults out.new }
+{
+    let program = load_source(alloc, sample_source())?;
+    let (tally, fault) = count_sample(alloc, program, number, count)?;
+    let mut line = Seq::new(alloc);
+    tally.push_line(&mut line)?;
+    write_whole(out, line.as_slice())?;
+    match fault {
+        None => Ok(()),
+        Some(fault) => Err(Stop::Faulted(fault)),
+    }
+}
+
 fn run<F: Files, O: Sink>(
     alloc: Global,
     command: &Command,
@@ -139,6 +167,7 @@ fn run<F: Files, O: Sink>(
         ),
         Command::Check { source } => run_check(alloc, source.as_slice(), files, out),
         Command::Print { source } => run_print(alloc, source.as_slice(), files, out),
+        Command::Sample { number, count } => run_sample(alloc, *number, *count, out),
     }
 }
 

@@ -7,6 +7,7 @@ use sn_input::InputFault;
 use sn_io::WriteFault;
 use sn_lexer::LexFault;
 use sn_list::Memory;
+use sn_names::NamesFault;
 use sn_parser::ParseFault;
 use sn_record::{Fault, FaultKind, Kind, Text};
 use sn_scope::ScopeFault;
@@ -234,6 +235,20 @@ impl From<WriteFault> for Stop {
 
     fn from(_fault: WriteFault) -> Stop {
         Stop::Write
+    }
+}
+
+impl From<NamesFault> for Stop {
+    ghost use Rattle.std.specs.Prelude.{◌≡◌};
+    ghost use Rattle.sn_top.specs.Load.{names_stop};
+
+    ghost from_gives = { λ f e. e ≡ names_stop f };
+
+    fn from(fault: NamesFault) -> Stop {
+        match fault {
+            NamesFault::TooMany => Stop::Refused(Refusal::TooManyNames),
+            NamesFault::Memory => Stop::Memory,
+        }
     }
 }
 

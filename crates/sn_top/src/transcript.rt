@@ -28,7 +28,7 @@ use sn_record::{Fault, Item, Items, Record, Text};
 use std::alloc::Global;
 
 /// How many entries a queue holds where no word says it.
-const DEFAULT_QUEUE: u32 = 16;
+pub const DEFAULT_QUEUE: u32 = 16;
 
 /// The lines of a stream, and the fault that ends it.
 #[derive(Drop)]

@@ -2,7 +2,7 @@
 ghost use Rattle.std.specs.Prelude.{◌≡◌, ◌≤◌, ◌++◌, ◌∷◌, codes, false, length, map, Some, None, IfOk, IfSome, OnOk, OnErr};
 ghost use Rattle.std.specs.Option.{option_copied};
 ghost use Rattle.std.specs.String.{string_bytes};
-ghost use Rattle.sn_top.specs.Words.{asked_of, behind, command_of, first_given, is_option as is_an_option, is_word, made_of, nothing, number_of, option_name, option_value, read_on, set, setting_of, so_far, source_alone, usage_text, verb_of, IsInRange, source_of, input_of};
+ghost use Rattle.sn_top.specs.Words.{asked_of, behind, command_of, first_given, is_option as is_an_option, is_word, made_of, nothing, number_of, number_up_to, option_name, option_value, read_on, set, setting_of, so_far, source_alone, usage_text, verb_of, IsInRange, source_of, input_of};
 
 use sn_list::{Memory, Seq};
 use sn_record::Text;
@@ -18,6 +18,10 @@ pub const DEFAULT_DEPTH: u32 = 1_000;
 const MOST_FUEL: u64 = 1_000_000_000;
 
 const MOST_DEPTH: u64 = 2_000;
+
+const MOST_SEED: u64 = 2_147_483_647;
+
+const MOST_RECORDS: u64 = 50_000;
 
 const USAGE: &[u8] =
     b"usage: snet run SOURCE INPUT [--workers N] [--fuel N] [--depth N] [--queue N] | once SOURCE INPUT [--fuel N] [--depth N] | check SOURCE | print SOURCE | sample SEED COUNT\n";
@@ -40,10 +44,15 @@ pub enum Command {
     Print {
         source: Text,
     },
+    /// Run the built-in net over so many records that are made from a number, and print counters of what comes out.
+    Sample {
+        number: u32,
+        count: u32,
+    },
 }
 
 impl Command {
-    /// The name of the source's file.
+    /// The name of the source's file, or nothing where the command reads none.
     pub fn source(&self) -> &[u8]
         ensures { result.now ≡ source_of self.now }
     {
@@ -51,6 +60,7 @@ impl Command {
             Command::Once { source, .. } => source.as_slice(),
             Command::Check { source } => source.as_slice(),
             Command::Print { source } => source.as_slice(),
+            Command::Sample { .. } => &[],
         }
     }
 
@@ -60,7 +70,7 @@ impl Command {
     {
         match self {
             Command::Once { input, .. } => input.as_slice(),
-            Command::Check { .. } | Command::Print { .. } => &[],
+            Command::Check { .. } | Command::Print { .. } | Command::Sample { .. } => &[],
         }
     }
 }
@@ -109,6 +119,7 @@ enum Verb {
     Once,
     Check,
     Print,
+    Sample,
 }
 
 /// An option of a command.
@@ -126,6 +137,7 @@ fn find_verb(word: &str) -> Option<Verb>
         "once" => Some(Verb::Once),
         "check" => Some(Verb::Check),
         "print" => Some(Verb::Print),
+        "sample" => Some(Verb::Sample),
         _ => None,
     }
 }
@@ -160,6 +172,18 @@ fn read_number(word: &str) -> Option<u64>
         return None;
     }
     word.parse().ok()
+}
+
+/// A number from 0 to `most`.
+fn read_up_to(most: u64, word: &str) -> Option<u64>
+    ensures number { result ≡ number_up_to most word.now }
+    ensures few { IfSome result (λ n. n ≤ most) }
+{
+    let n = read_number(word)?;
+    if n > most {
+        return None;
+    }
+    Some(n)
 }
 
 /// A number from 1 to `most`, for an option that was not given yet.
@@ -332,6 +356,21 @@ fn only_source(alloc: Global, reading: &Reading) -> Result<Text, WordsFault>
     Ok(source)
 }
 
+/// The command `sample` of what was read. Takes no memory.
+fn make_sample(reading: &Reading) -> Option<Command>
+    ensures { result ≡ made_of Verb.Sample (so_far reading.now) }
+{
+    let [seed, count] = reading.names.as_slice() else {
+        return None;
+    };
+    let number = read_up_to(MOST_SEED, seed.as_str())?;
+    let count = read_up_to(MOST_RECORDS, count.as_str())?;
+    Some(Command::Sample {
+        number: number as u32,
+        count: count as u32,
+    })
+}
+
 /// Reads the words after the program's name.
 ///
 /// # Errors
@@ -359,5 +398,6 @@ pub fn read_words(alloc: Global, words: &[String]) -> Result<Command, WordsFault
             let source = only_source(alloc, &reading)?;
             Ok(Command::Print { source })
         }
+        Verb::Sample => make_sample(&reading).ok_or(WordsFault::Usage),
     }
 }

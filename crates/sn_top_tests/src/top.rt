@@ -351,6 +351,17 @@ fn types_are_checked(rt: HostRuntime) -> Result<(), Fail> {
 }
 
 #[test]
+fn records_of_a_number_are_counted(rt: HostRuntime) -> Result<(), Fail> {
+    let command = Command::Sample {
+        number: 1,
+        count: 3,
+    };
+    let served = serve_source(rt.alloc(), &command, b"")?;
+    assert!(rt; served.is(Status::Ok, b"records=3 s=156 w=2498 mix=1208114\n", b""));
+    Ok(())
+}
+
+#[test]
 fn sources_are_printed(rt: HostRuntime) -> Result<(), Fail> {
     let table: [(&[u8], Status, &[u8], &[u8]); 6] = [
         (b"", Status::Ok, b"", b""),

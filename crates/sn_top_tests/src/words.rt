@@ -53,6 +53,11 @@ fn gives_commands_of_a_source(rt: HostRuntime) -> Result<(), Fail> {
     assert!(rt; read(alloc, &["check", "s"])? == Ok(Command::Check { source }));
     let source = Seq::from_slice(alloc, b"s")?;
     assert!(rt; read(alloc, &["print", "--", "s"])? == Ok(Command::Print { source }));
+    let sample = Command::Sample {
+        number: 2_147_483_647,
+        count: 50_000,
+    };
+    assert!(rt; read(alloc, &["sample", "--", "2147483647", "0000050000"])? == Ok(sample));
     Ok(())
 }
 
@@ -79,6 +84,12 @@ fn refuses_words(rt: HostRuntime) -> Result<(), Fail> {
         &["once", "--depth=00000000005", "s", "i"],
         &["once", "--depth=5", "--depth", "5", "s", "i"],
         &["print", "--depth=5", "s"],
+        &["sample", "2147483648", "3"],
+        &["sample", "1", "50001"],
+        &["sample", "1"],
+        &["sample", "1", "-3"],
+        &["sample", "1", ""],
+        &["sample", "1", "3", "--fuel=5"],
     ];
     for words in table {
         assert!(rt; read(rt.alloc(), words)? == Err(WordsFault::Usage));

@@ -1,4 +1,4 @@
-use Rattle.sn_outcomes.proofs.Done.{once_done, check_done, print_done}
+use Rattle.sn_outcomes.proofs.Done.{once_done, check_done, print_done, sample_done}
 use Rattle.sn_outcomes.proofs.laws.accepted_commands_are_done.Goals as goal
 
 pub returns-clause-once : goal.returns-clause-once
@@ -9,3 +9,6 @@ returns-clause-check c = check_done
 
 pub returns-clause-print : goal.returns-clause-print
 returns-clause-print c = print_done
+
+pub returns-clause-sample : goal.returns-clause-sample
+returns-clause-sample c = sample_done

@@ -1,0 +1,20 @@
+use Rattle.std.proofs.Common.{◌≡◌, List, map, ap, sym, ◌∙◌}
+use Rattle.sn_record.specs.declared.item.Item.{Item}
+use Rattle.sn_net.specs.Item.{ModelItem, modelled}
+use Rattle.sn_model.specs.Meaning.{one_list}
+use Rattle.sn_model.specs.Run.{net_of, setting_of}
+use Rattle.sn_output.specs.Printed.{ending}
+use Rattle.sn_sample.specs.Tally.{counted}
+use Rattle.sn_top.proofs.sample.count_run.Goals as goal
+
+pub returns-clause-counters : goal.returns-clause-counters
+returns-clause-counters c =
+    let came : map modelled c.as_slice.result.now ≡ one_list (setting_of c.args.run.now) (net_of c.args.run.now) (map modelled c.args.items) =
+    ap (λ (xs : List Item). map modelled xs) c.as_slice.ensures ∙ c.in_ok-given.ensures in
+    c.in_ok-count_items.ensures.counters ∙ ap (λ (ys : List ModelItem). counted c.args.names.now ys) came
+
+pub returns-clause-fault : goal.returns-clause-fault
+returns-clause-fault c =
+    let came : map modelled c.as_slice.result.now ≡ one_list (setting_of c.args.run.now) (net_of c.args.run.now) (map modelled c.args.items) =
+    ap (λ (xs : List Item). map modelled xs) c.as_slice.ensures ∙ c.in_ok-given.ensures in
+    c.in_ok-count_items.ensures.fault ∙ ap (λ (ys : List ModelItem). ending ys) came
