@@ -9,6 +9,11 @@ use Rattle.sn_streams.specs.Shuffles.{ShuffleByKey, SegmentShuffles}
 use Rattle.sn_streams.proofs.Keys.{same_key}
 use Rattle.sn_streams.specs.Trees.{Tree, Component, Series, Fork, Allows}
 use Rattle.sn_sound.specs.Carried.{EachItem, Carries, IsKept, Passes}
+use Rattle.sn_sound.specs.Conveyed.{Conveys}
+
+pub each_more : {A : Type 0} (P Q : A → Type 0) → ((x : A) → P x → Q x) → (xs : List A) → Each P xs → Each Q xs
+each_more P Q more [] each = tt
+each_more P Q more (x ∷ xs) each = (more x each.0, each_more P Q more xs each.1)
 
 module _ {A : Type 0} (P : A → Type 0) where
   pub each_append : (xs ys : List A) → Each P xs → Each P ys → Each P (xs ++ ys)
@@ -111,3 +116,17 @@ kept_is_carried test (Component m s) keeps = machine_carries m (λ _. Unit {0}) 
 kept_is_carried test (Series a b) keeps = series_carries (Allows a) (Allows b) (Passes test) (Passes test) (Passes test) (kept_is_carried test a keeps.0) (kept_is_carried test b keeps.1)
 kept_is_carried test (Fork merge r child) keeps =
     fork_carries r (λ k. Allows (child k)) (Passes test) (Passes test) (λ k. Passes test) (λ x has. has) (λ k. kept_is_carried test (child k) (keeps k)) merge
+
+-- what a tree conveys it carries, whatever the schedule
+pub conveys_carries : {A S : Type 0} (sort : A → Type 0) (t : Tree A S) (P Q : A → Type 0) → Conveys sort t P Q → Carries (Allows t) P Q
+conveys_carries sort (Component m s) P Q (keeps, here, in_sort, out_sort, goes) = machine_carries m keeps P Q goes s here
+conveys_carries sort (Series a b) P Q (between, first, second) =
+    series_carries (Allows a) (Allows b) P between Q (conveys_carries sort a P between first) (conveys_carries sort b between Q second)
+conveys_carries sort (Fork merge r child) P Q (sent, in_sort, out_sort, goes, each) =
+    fork_carries r (λ k. Allows (child k)) P Q sent goes (λ k. conveys_carries sort (child k) (sent k) Q (each k)) merge
+
+-- and where more is known of what comes in
+pub conveys_from : {A S : Type 0} (sort : A → Type 0) (t : Tree A S) (P more Q : A → Type 0) → ((x : A) → more x → P x) → Conveys sort t P Q → Conveys sort t more Q
+conveys_from sort (Component m s) P more Q less (keeps, here, in_sort, out_sort, goes) = (keeps, here, (λ x is. in_sort x (less x is)), out_sort, (λ state x kept is. goes state x kept (less x is)))
+conveys_from sort (Series a b) P more Q less (between, first, second) = (between, conveys_from sort a P more between less first, second)
+conveys_from sort (Fork merge r child) P more Q less (sent, in_sort, out_sort, goes, each) = (sent, (λ x is. in_sort x (less x is)), out_sort, (λ x is. goes x (less x is)), each)

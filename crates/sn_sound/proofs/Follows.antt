@@ -1,4 +1,4 @@
--- A tree that follows an outline carries records of safe variants to records of what flows out.
+-- A tree that follows an outline conveys records of safe variants to records of what flows out.
 use Rattle.std.proofs.Common.{◌≡◌, ℕ, zero, suc, Bool, true, false, cond, List, [], ◌∷◌, Option, None, Some, Result, Ok, Err, refl, sym, ap, ◌∙◌, subst}
 use Rattle.std.specs.Prelude.{is_some, slice_get, unwrap_or, pos}
 use Rattle.std.specs.List.{AllByRecursion as Each}
@@ -12,8 +12,7 @@ use Rattle.sn_record.proofs.Scores.{is_match-Matches}
 use Rattle.sn_streams.specs.Forks.{Router}
 use Rattle.sn_streams.specs.Keys.{Key as StreamKey, Own, Branch, Inside, Value as ValueKey}
 use Rattle.sn_streams.specs.Machines.{Machine}
-use Rattle.sn_streams.specs.Segments.{Segments}
-use Rattle.sn_streams.specs.Trees.{Allows, Component as TreeComponent, Series as TreeSeries, passing, with_own}
+use Rattle.sn_streams.specs.Trees.{Component as TreeComponent, Series as TreeSeries, passing, with_own}
 use Rattle.sn_tagexpr.specs.declared.expr.TagExpr.{TagExpr}
 use Rattle.sn_tagexpr.specs.declared.fault.ExprFault.{ExprFault}
 use Rattle.sn_tagexpr.specs.Evaluation.{worth}
@@ -22,12 +21,12 @@ use Rattle.sn_net.specs.declared.routing.Key.{Key}
 use Rattle.sn_net.specs.declared.routing.Key.TheVariants as key
 use Rattle.sn_net.specs.Answer.{tag_number}
 use Rattle.sn_net.specs.Cell.{CellState, Passing}
-use Rattle.sn_net.specs.Dispatchers.{Network, stream_key, passed_by, router, merge_of, dispatched, branch_child, choice, replica_child, split, inside_child, no_way_inside, level_key, level}
+use Rattle.sn_net.specs.Dispatchers.{Network, stream_key, passed_by, router, dispatched, branch_child, choice, replica_child, split, inside_child, no_way_inside, level_key, level}
 use Rattle.sn_net.specs.Filter.{tag}
-use Rattle.sn_net.specs.Item.{ModelItem, Rec, Fault, Stuck}
+use Rattle.sn_net.specs.Item.{ModelItem, Rec, Fault, Stuck, is_stuck}
 use Rattle.sn_net.specs.Route.{best_branch, branch_key, choice_key, guarded, exit_key, tap_key, replica_key, split_key, of_record}
-use Rattle.sn_sound.specs.Carried.{Carries, EachItem}
-use Rattle.sn_sound.proofs.Carried.{machine_carries, series_carries, fork_carries}
+use Rattle.sn_sound.specs.Conveyed.{Conveys}
+use Rattle.sn_sound.proofs.Carried.{conveys_from}
 use Rattle.sn_typing.specs.Outline.{Outline, Component, Series, Choice, Star, Split, is_guarded}
 use Rattle.sn_types.specs.RecordType.{HasSubset}
 use Rattle.sn_typing.specs.Flow.{IsUnbeaten, SurelyLeaves, Comes, Comes.{first, next}, Flows, Safe}
@@ -44,10 +43,6 @@ of_more V W more (Stuck place) is = absurd is
 pub each_of_more : (V W : Labels → Type 0) → ((v : Labels) → V v → W v) → (xs : List ModelItem) → Each (IsOf V) xs → Each (IsOf W) xs
 each_of_more V W more [] each = tt
 each_of_more V W more (x ∷ xs) each = (of_more V W more x each.0, each_of_more V W more xs each.1)
-
-pub each_item_of_more : (V W : Labels → Type 0) → ((v : Labels) → V v → W v) → (xss : Segments ModelItem) → EachItem (IsOf V) xss → EachItem (IsOf W) xss
-each_item_of_more V W more [] each = tt
-each_item_of_more V W more (xs ∷ xss) each = (each_of_more V W more xs each.0, each_item_of_more V W more xss each.1)
 
 -- The machine answers records of what flows out to a record with a route, and lets faults pass, in each state.
 pub record Answers (takes : List Labels) (out : Labels → Labels → Type 0) (m : Machine ModelItem CellState) : Type 0 where
@@ -67,37 +62,48 @@ pub data Follows : Outline → Network → Type 0 where
       → Follows body t → Follows (Star exit (is_guarded guard) body) (level place m exit guard t depth)
   replicas : (place id : ℕ) (body : Outline) (m : Merge) (t : Network) → Follows body t → Follows (Split place id body) (split place m id t)
 
+-- the item is not stuck
+abbrev pub Goes : ModelItem → Type 0
+Goes x = is_stuck x ≡ false
+
+pub of_goes : (V : Labels → Type 0) (x : ModelItem) → IsOf V x → Goes x
+of_goes V (Rec r) is = refl
+of_goes V (Fault fault) is = refl
+of_goes V (Stuck place) is = absurd is
+
 -- What passes a fork by becomes what the router makes of it.
-passing_carries : (r : Router ModelItem) (P Q : ModelItem → Type 0) → ((x : ModelItem) → P x → Q (r.own x)) → Carries (Allows (passing r Passing)) P Q
-passing_carries r P Q goes =
-    machine_carries (record { next = λ q x. q; emits = λ q x. r.own x ∷ [] }) (λ q. Unit {0}) P Q (λ q x is here. (tt, (goes x here, tt))) Passing tt
+passing_conveys : (r : Router ModelItem) (P : ModelItem → Type 0) (W : Labels → Type 0) → ((x : ModelItem) → P x → Goes x) → ((x : ModelItem) → P x → IsOf W (r.own x))
+    → Conveys Goes (passing r Passing) P (IsOf W)
+passing_conveys r P W going goes = ((λ q. Unit {0}), tt, going, of_goes W, (λ q x here is. (tt, (goes x is, tt))))
 
 -- A dispatcher: what is known of an item and its key is enough for what becomes of it where it passes by, or for its child.
 module _ (place : ℕ) (m : Merge) (key_of : ModelItem → Key) (child : Network → StreamKey → Network) (V W : Labels → Type 0) (known : StreamKey → Key → ModelItem → Type 0) where
   abbrev sends : Router ModelItem
   sends = router place key_of
 
-  abbrev sent_to : StreamKey → ModelItem → Type 0
-  sent_to k x = known k (key_of x) x
+  abbrev known_at : StreamKey → ModelItem → Type 0
+  known_at k x = known k (key_of x) x
 
-  pub dispatched_carries : ((x : ModelItem) → IsOf V x → known (stream_key (key_of x)) (key_of x) x)
+  abbrev sent_to : StreamKey → ModelItem → Type 0
+  sent_to k x = Goes x × known_at k x
+
+  pub dispatched_conveys : ((x : ModelItem) → IsOf V x → known (stream_key (key_of x)) (key_of x) x)
       → ((k : Key) (x : ModelItem) → known Own k x → IsOf W (passed_by place k x))
-      → ((i : ℕ) → Carries (Allows (child (passing sends Passing) (Branch i))) (sent_to (Branch i)) (IsOf W))
-      → (Carries (Allows (child (passing sends Passing) Inside)) (sent_to Inside) (IsOf W))
-      → ((n : _) → Carries (Allows (child (passing sends Passing) (ValueKey n))) (sent_to (ValueKey n)) (IsOf W))
-      → Carries (Allows (dispatched m sends child)) (IsOf V) (IsOf W)
-  dispatched_carries sent own to_branch to_inside to_value =
-      fork_carries sends (λ k. Allows (with_own sends Passing (child (passing sends Passing)) k)) (IsOf V) (IsOf W) sent_to sent children (merge_of m)
+      → ((i : ℕ) → Conveys Goes (child (passing sends Passing) (Branch i)) (known_at (Branch i)) (IsOf W))
+      → Conveys Goes (child (passing sends Passing) Inside) (known_at Inside) (IsOf W)
+      → ((n : _) → Conveys Goes (child (passing sends Passing) (ValueKey n)) (known_at (ValueKey n)) (IsOf W))
+      → Conveys Goes (dispatched m sends child) (IsOf V) (IsOf W)
+  dispatched_conveys sent own to_branch to_inside to_value = (sent_to, of_goes V, of_goes W, (λ x is. (of_goes V x is, sent x is)), children)
     where
-      children : (k : StreamKey) → Carries (Allows (with_own sends Passing (child (passing sends Passing)) k)) (sent_to k) (IsOf W)
-      children Own = passing_carries sends (sent_to Own) (IsOf W) (λ x is. own (key_of x) x is)
-      children (Branch i) = to_branch i
-      children Inside = to_inside
-      children (ValueKey n) = to_value n
+      children : (k : StreamKey) → Conveys Goes (with_own sends Passing (child (passing sends Passing)) k) (sent_to k) (IsOf W)
+      children Own = passing_conveys sends (sent_to Own) W (λ x is. is.0) (λ x is. own (key_of x) x is.1)
+      children (Branch i) = conveys_from Goes (child (passing sends Passing) (Branch i)) (known_at (Branch i)) (sent_to (Branch i)) (IsOf W) (λ x is. is.1) (to_branch i)
+      children Inside = conveys_from Goes (child (passing sends Passing) Inside) (known_at Inside) (sent_to Inside) (IsOf W) (λ x is. is.1) to_inside
+      children (ValueKey n) = conveys_from Goes (child (passing sends Passing) (ValueKey n)) (known_at (ValueKey n)) (sent_to (ValueKey n)) (IsOf W) (λ x is. is.1) (to_value n)
 
   -- nothing is sent there
-  pub nothing_sent : (k : StreamKey) → ((x : ModelItem) → sent_to k x → ⊥) → Carries (Allows (passing sends Passing)) (sent_to k) (IsOf W)
-  nothing_sent k none = passing_carries sends (sent_to k) (IsOf W) (λ x is. absurd (none x is))
+  pub nothing_sent : (k : StreamKey) → ((x : ModelItem) → known_at k x → ⊥) → Conveys Goes (passing sends Passing) (known_at k) (IsOf W)
+  nothing_sent k none = passing_conveys sends (known_at k) W (λ x is. absurd (none x is)) (λ x is. absurd (none x is))
 
 -- Choices.
 module _ (place : ℕ) (m : Merge) (faces : List (List Labels)) (branch : ℕ → Outline) (trees : List Network) (V W : Labels → Type 0)
@@ -135,27 +141,27 @@ module _ (place : ℕ) (m : Merge) (faces : List (List Labels)) (branch : ℕ �
   choice_sends = router place (of_record (choice_key faces))
 
   -- where there is no branch, no record comes
-  missing_branch : (i : ℕ) → ((v : Labels) → Safe (branch i) v → ⊥) → Carries (Allows (passing choice_sends Passing)) (IsOf (ToBranch i)) (IsOf W)
-  missing_branch i missing = passing_carries choice_sends (IsOf (ToBranch i)) (IsOf W) goes
+  missing_branch : (i : ℕ) → ((v : Labels) → Safe (branch i) v → ⊥) → Conveys Goes (passing choice_sends Passing) (IsOf (ToBranch i)) (IsOf W)
+  missing_branch i missing = passing_conveys choice_sends (IsOf (ToBranch i)) W (of_goes (ToBranch i)) goes
     where
       goes : (x : ModelItem) → IsOf (ToBranch i) x → IsOf W (choice_sends.own x)
       goes (Rec r) is = absurd (missing is.variant (branch_safe i is.variant is.listed))
       goes (Fault fault) is = tt
       goes (Stuck at) is = absurd is
 
-  to_each_branch : (i : ℕ) → ((t : Network) → slice_get trees i ≡ Some t → Carries (Allows t) (IsOf (ToBranch i)) (IsOf W)) → (slice_get trees i ≡ None → (v : Labels) → Safe (branch i) v → ⊥)
-      → Carries (Allows (branch_child trees (passing choice_sends Passing) (Branch i))) (IsOf (ToBranch i)) (IsOf W)
-  to_each_branch i carries missing = at (slice_get trees i) refl
+  to_each_branch : (i : ℕ) → ((t : Network) → slice_get trees i ≡ Some t → Conveys Goes t (IsOf (ToBranch i)) (IsOf W)) → (slice_get trees i ≡ None → (v : Labels) → Safe (branch i) v → ⊥)
+      → Conveys Goes (branch_child trees (passing choice_sends Passing) (Branch i)) (IsOf (ToBranch i)) (IsOf W)
+  to_each_branch i conveys missing = at (slice_get trees i) refl
     where
-      at : (b : Option Network) → slice_get trees i ≡ b → Carries (Allows (unwrap_or b (passing choice_sends Passing))) (IsOf (ToBranch i)) (IsOf W)
+      at : (b : Option Network) → slice_get trees i ≡ b → Conveys Goes (unwrap_or b (passing choice_sends Passing)) (IsOf (ToBranch i)) (IsOf W)
       at None none = missing_branch i (missing none)
-      at (Some t) there = carries t there
+      at (Some t) there = conveys t there
 
-  pub choice_carries : ((i : ℕ) (t : Network) → slice_get trees i ≡ Some t → Carries (Allows t) (IsOf (ToBranch i)) (IsOf W)) → ((i : ℕ) → slice_get trees i ≡ None → (v : Labels) → Safe (branch i) v → ⊥)
-      → Carries (Allows (choice place m faces trees)) (IsOf V) (IsOf W)
-  choice_carries carries missing =
-      dispatched_carries place m (of_record (choice_key faces)) (branch_child trees) V W choice_known
-      choice_sent (λ k x is. is) (λ i. to_each_branch i (carries i) (missing i))
+  pub choice_conveys : ((i : ℕ) (t : Network) → slice_get trees i ≡ Some t → Conveys Goes t (IsOf (ToBranch i)) (IsOf W)) → ((i : ℕ) → slice_get trees i ≡ None → (v : Labels) → Safe (branch i) v → ⊥)
+      → Conveys Goes (choice place m faces trees) (IsOf V) (IsOf W)
+  choice_conveys conveys missing =
+      dispatched_conveys place m (of_record (choice_key faces)) (branch_child trees) V W choice_known
+      choice_sent (λ k x is. is) (λ i. to_each_branch i (conveys i) (missing i))
       (nothing_sent place m (of_record (choice_key faces)) (branch_child trees) V W choice_known Inside (λ x none. none))
       (λ n. nothing_sent place m (of_record (choice_key faces)) (branch_child trees) V W choice_known (ValueKey n) (λ x none. none))
 
@@ -258,19 +264,19 @@ module _ (place : ℕ) (m : Merge) (exit : Labels) (guard : Option TagExpr) (bod
   abbrev last_child : Network → StreamKey → Network
   last_child otherwise k = otherwise
 
-  pub level_carries : Carries (Allows tree) (IsOf ToBody) (IsOf AtTap) → (left : ℕ) → Carries (Allows (level place m exit guard tree left)) (IsOf AtTap) (IsOf W)
-  level_carries body_carries zero =
-      dispatched_carries place m (of_record (level_key place exit guard zero)) last_child AtTap W last_tap_known
+  pub level_conveys : Conveys Goes tree (IsOf ToBody) (IsOf AtTap) → (left : ℕ) → Conveys Goes (level place m exit guard tree left) (IsOf AtTap) (IsOf W)
+  level_conveys body_conveys zero =
+      dispatched_conveys place m (of_record (level_key place exit guard zero)) last_child AtTap W last_tap_known
       last_sent (λ k x is. is)
       (λ i. nothing_sent place m (of_record (level_key place exit guard zero)) last_child AtTap W last_tap_known (Branch i) (λ x none. none))
       (nothing_sent place m (of_record (level_key place exit guard zero)) last_child AtTap W last_tap_known Inside (λ x none. none))
       (λ n. nothing_sent place m (of_record (level_key place exit guard zero)) last_child AtTap W last_tap_known (ValueKey n) (λ x none. none))
-  level_carries body_carries (suc left) =
+  level_conveys body_conveys (suc left) =
       let inner = inside_child (TreeSeries tree (level place m exit guard tree left)) in
-      dispatched_carries place m (of_record (level_key place exit guard (suc left))) inner AtTap W star_known
+      dispatched_conveys place m (of_record (level_key place exit guard (suc left))) inner AtTap W star_known
       (tap_sent left) (λ k x is. is)
       (λ i. nothing_sent place m (of_record (level_key place exit guard (suc left))) inner AtTap W star_known (Branch i) (λ x none. none))
-      (series_carries (Allows tree) (Allows (level place m exit guard tree left)) (IsOf ToBody) (IsOf AtTap) (IsOf W) body_carries (level_carries body_carries left))
+      (IsOf AtTap, body_conveys, level_conveys body_conveys left)
       (λ n. nothing_sent place m (of_record (level_key place exit guard (suc left))) inner AtTap W star_known (ValueKey n) (λ x none. none))
 
 -- Splits.
@@ -294,18 +300,18 @@ module _ (place id : ℕ) (m : Merge) (body : Outline) (tree : Network) (V W : L
       at None none = absurd (impossible (sym (is.matched (tag id) (safe is.variant is.listed).0) ∙ ap is_some none))
       at (Some value) there = is
 
-  pub split_carries : Carries (Allows tree) (IsOf V) (IsOf W) → Carries (Allows (split place m id tree)) (IsOf V) (IsOf W)
-  split_carries carries =
-      dispatched_carries place m (of_record (split_key id)) (replica_child tree) V W split_known
+  pub split_conveys : Conveys Goes tree (IsOf V) (IsOf W) → Conveys Goes (split place m id tree) (IsOf V) (IsOf W)
+  split_conveys conveys =
+      dispatched_conveys place m (of_record (split_key id)) (replica_child tree) V W split_known
       split_sent (λ k x is. is)
       (λ i. nothing_sent place m (of_record (split_key id)) (replica_child tree) V W split_known (Branch i) (λ x none. none))
       (nothing_sent place m (of_record (split_key id)) (replica_child tree) V W split_known Inside (λ x none. none))
-      (λ n. carries)
+      (λ n. conveys)
 
--- What follows an outline that is safe for V carries records of V to records of what flows out.
-pub follows_carries : (o : Outline) (t : Network) → Follows o t → (V W : Labels → Type 0) → ((v : Labels) → V v → Safe o v) → ((v u : Labels) → V v → Flows o v u → W u)
-    → Carries (Allows t) (IsOf V) (IsOf W)
-follows_carries o t (component place takes named outputs m s answers) V W safe flows = machine_carries m (λ q. Unit {0}) (IsOf V) (IsOf W) keeps s tt
+-- What follows an outline that is safe for V conveys records of V to records of what flows out.
+pub follows_conveys : (o : Outline) (t : Network) → Follows o t → (V W : Labels → Type 0) → ((v : Labels) → V v → Safe o v) → ((v u : Labels) → V v → Flows o v u → W u)
+    → Conveys Goes t (IsOf V) (IsOf W)
+follows_conveys o t (component place takes named outputs m s answers) V W safe flows = ((λ q. Unit {0}), tt, of_goes V, of_goes W, keeps)
   where
     keeps : (q : CellState) (x : ModelItem) → Unit {0} → IsOf V x → Unit {0} × Each (IsOf W) (m.emits q x)
     keeps q (Rec r) here is = (
@@ -315,20 +321,22 @@ follows_carries o t (component place takes named outputs m s answers) V W safe f
     )
     keeps q (Fault fault) here is = (tt, subst (Each (IsOf W)) (sym (answers.faults q fault)) (tt, tt))
     keeps q (Stuck at) here is = absurd is
-follows_carries o t (series a b t' u' left right) V W safe flows =
-    let Between : Labels → Type 0 = λ w. (v : Labels) × V v × Flows a v w in
-    series_carries (Allows t') (Allows u') (IsOf V) (IsOf Between) (IsOf W)
-    (follows_carries a t' left V Between (λ v is. (safe v is).0) (λ v u is flow. (v, is, flow)))
-    (follows_carries b u' right Between W (λ w (v, is, flow). (safe v is).1 w flow) (λ w u (v, is, flow) further. flows v u is (w, flow, further)))
-follows_carries o t (branches place faces branch m trees each missing) V W safe flows =
-    choice_carries place m faces branch trees V W safe flows
-    (λ i t' there. follows_carries (branch i) t' (each i t' there) (ToBranch place m faces branch trees V W safe flows i) W (branch_safe place m faces branch trees V W safe flows i) (branch_flows place m faces branch trees V W safe flows i))
+follows_conveys o t (series a b t' u' left right) V W safe flows =
+    let Between : Labels → Type 0 = λ w. (v : Labels) × V v × Flows a v w in (
+      IsOf Between,
+      follows_conveys a t' left V Between (λ v is. (safe v is).0) (λ v u is flow. (v, is, flow)),
+      follows_conveys b u' right Between W (λ w (v, is, flow). (safe v is).1 w flow) (λ w u (v, is, flow) further. flows v u is (w, flow, further)),
+    )
+follows_conveys o t (branches place faces branch m trees each missing) V W safe flows =
+    choice_conveys place m faces branch trees V W safe flows
+    (λ i t' there. follows_conveys (branch i) t' (each i t' there) (ToBranch place m faces branch trees V W safe flows i) W (branch_safe place m faces branch trees V W safe flows i) (branch_flows place m faces branch trees V W safe flows i))
     missing
-follows_carries o t (levels place exit guard body m t' depth inner) V W safe flows =
+follows_conveys o t (levels place exit guard body m t' depth inner) V W safe flows =
     let tap = AtTap place m exit guard body t' V W safe flows in
-    λ xss yss each. level_carries place m exit guard body t' V W safe flows
-    (follows_carries body t' inner (ToBody place m exit guard body t' V W safe flows) tap (body_safe place m exit guard body t' V W safe flows) (body_flows place m exit guard body t' V W safe flows))
-    depth xss yss (each_item_of_more V tap (λ v is. (v, is, first)) xss each)
-follows_carries o t (replicas place id body m t' inner) V W safe flows =
-    split_carries place id m body t' V W safe flows
-    (follows_carries body t' inner V W (λ v is. (safe v is).1) (λ v u is flow. flows v u is ((safe v is).0, flow)))
+    conveys_from Goes (level place m exit guard t' depth) (IsOf tap) (IsOf V) (IsOf W) (of_more V tap (λ v is. (v, is, first)))
+    (level_conveys place m exit guard body t' V W safe flows
+    (follows_conveys body t' inner (ToBody place m exit guard body t' V W safe flows) tap (body_safe place m exit guard body t' V W safe flows) (body_flows place m exit guard body t' V W safe flows))
+    depth)
+follows_conveys o t (replicas place id body m t' inner) V W safe flows =
+    split_conveys place id m body t' V W safe flows
+    (follows_conveys body t' inner V W (λ v is. (safe v is).1) (λ v u is flow. flows v u is ((safe v is).0, flow)))

@@ -15,20 +15,18 @@ use Rattle.sn_typing.specs.Outline.{outline}
 use Rattle.sn_typing.specs.Typed.{IsOf, IsItemOfType, IsTyped, labels_of}
 use Rattle.sn_typing.proofs.Subsets.{labels_matched, within_itself}
 use Rattle.sn_sound.specs.Carried.{EachItem}
-use Rattle.sn_sound.proofs.Follows.{follows_carries}
+use Rattle.sn_sound.specs.Conveyed.{Conveys}
+use Rattle.sn_sound.proofs.Carried.{conveys_carries, each_more}
+use Rattle.sn_sound.proofs.Follows.{Goes, follows_conveys}
 use Rattle.sn_sound.proofs.Networks.{net_follows}
 
-each_of_all : {A : Type 0} (P : A → Type 0) (xs : List A) → All P xs → Each P xs
+pub each_of_all : {A : Type 0} (P : A → Type 0) (xs : List A) → All P xs → Each P xs
 each_of_all P [] all = tt
 each_of_all P (x ∷ xs) all = (All-head P x xs all, each_of_all P xs (All-tail P x xs all))
 
 all_of_each : {A : Type 0} (P : A → Type 0) (xs : List A) → Each P xs → All P xs
 all_of_each P [] each = All-nil P
 all_of_each P (x ∷ xs) each = All-cons P x xs each.0 (all_of_each P xs each.1)
-
-each_more : {A : Type 0} (P Q : A → Type 0) → ((x : A) → P x → Q x) → (xs : List A) → Each P xs → Each Q xs
-each_more P Q more [] each = tt
-each_more P Q more (x ∷ xs) each = (more x each.0, each_more P Q more xs each.1)
 
 -- the same of segments
 segments_more : {A : Type 0} (P Q : List A → Type 0) → ((xs : List A) → P xs → Q xs) → (xss : Segments A) → Each P xss → Each Q xss
@@ -43,21 +41,24 @@ none_stuck V (Fault fault ∷ xs) each = none_stuck V xs each.1
 none_stuck V (Stuck place ∷ xs) each = absurd each.0
 
 module _ (s : Setting) (net : Net) (formed : IsWellFormed s.boxes net) where
-  abbrev safely : Labels → Type 0
+  abbrev pub safely : Labels → Type 0
   safely v = Safe (outline s.boxes net) v
 
-  typed_is_safe : (x : ModelItem) → IsTyped s.boxes net x → IsOf safely x
+  pub typed_is_safe : (x : ModelItem) → IsTyped s.boxes net x → IsOf safely x
   typed_is_safe (Rec r) typed = record { variant = labels_of r; listed = typed; matched = labels_matched r (labels_of r) (within_itself (labels_of r)) }
   typed_is_safe (Fault fault) typed = tt
   typed_is_safe (Stuck place) typed = absurd typed
 
   -- what flows out of variants
-  abbrev FlowsFrom : (Labels → Type 0) → Labels → Type 0
+  abbrev pub FlowsFrom : (Labels → Type 0) → Labels → Type 0
   FlowsFrom V u = (v : Labels) × V v × Flows (outline s.boxes net) v u
+
+  pub net_conveys : (V : Labels → Type 0) → ((v : Labels) → V v → safely v) → Conveys Goes (tree s net) (IsOf V) (IsOf (FlowsFrom V))
+  net_conveys V safe = follows_conveys (outline s.boxes net) (tree s net) (net_follows s net formed) V (FlowsFrom V) safe (λ v u is flow. (v, is, flow))
 
   flows_out : (V : Labels → Type 0) → ((v : Labels) → V v → safely v) → (xss yss : Segments ModelItem) → EachItem (IsOf V) xss → MayAnswer s net xss yss → EachItem (IsOf (FlowsFrom V)) yss
   flows_out V safe xss yss each answers =
-      follows_carries (outline s.boxes net) (tree s net) (net_follows s net formed) V (FlowsFrom V) safe (λ v u is flow. (v, is, flow)) xss yss each answers
+      conveys_carries Goes (tree s net) (IsOf V) (IsOf (FlowsFrom V)) (net_conveys V safe) xss yss each answers
 
   pub typed_never_stuck : (xss yss : Segments ModelItem) → EachItem (IsTyped s.boxes net) xss → MayAnswer s net xss yss → Each (λ ys. holds_stuck ys ≡ false) yss
   typed_never_stuck xss yss typed answers =

@@ -1,0 +1,7 @@
+//! A network while it runs: a view of it, what may happen to it, and what can still come of it.
+#![tactic(auto)]
+
+pub mod laws;
+mod step;
+
+pub use step::Step;
