@@ -109,12 +109,7 @@ fn run_print<F: Files, O: Sink>(
 }
 
 /// Runs the built-in source over the records of a number, and prints the line of the counters of what comes out.
-fn run_sample<O: Sink>(
-    alloc: Global,
-    number: u32,
-    count: u32,
-    out: &mut O,
-) -> Result<(), Stop>
+fn run_sample<O: Sink>(alloc: Global, number: u32, count: u32, out: &mut O) -> Result<(), Stop>
     requires { number < 2_147_483_648 }
     ensures done { OnOk result ((p : List ℕ)
         × FindsSample number count (Ok (whole p))
