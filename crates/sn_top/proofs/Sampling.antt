@@ -1,19 +1,17 @@
 -- From the records of a number to what was counted, and why they were not.
-use Rattle.std.proofs.Common.{◌≡◌, ℕ, zero, suc, ◌+◌, ◌<◌, ◌≤◌, Bool, true, IsTrue, List, [], ◌∷◌, ◌++◌, length, map, drop, get_or, not, codes, refl, sym, ap, ◌∙◌, subst, subst₂, inl, inr, arith}
-use Rattle.std.specs.Prelude.{Option, None, Some, Result, Ok, Err, IfOk, IfErr, ◌↔◌, ◌⊎◌, option_map}
-use Rattle.std.specs.List.{All, position}
+use Rattle.std.proofs.Common.{◌≡◌, ℕ, zero, suc, ◌+◌, ◌<◌, ◌≤◌, IsTrue, List, ◌∷◌, length, map, drop, get_or, not, codes, refl, sym, ap, ◌∙◌, subst, subst₂, inl, inr, arith}
+use Rattle.std.specs.Prelude.{Option, None, Some, Result, Ok, Err, IfOk, IfErr, ◌↔◌, option_map}
 use Rattle.std.proofs.lemmas.List.{drop_more, length_push}
 use Rattle.std.specs.FinMap as finite
 use Rattle.std.proofs.lemmas.List.Elements.{All-map, All-weaker}
 use Rattle.std.proofs.lemmas.List.Quantifiers.{position-Some}
-use Rattle.sn_record.specs.LabelSet.{Labels}
 use Rattle.sn_record.specs.declared.item.Fault.{Fault}
 use Rattle.sn_record.specs.declared.item.Item.{Item}
 use Rattle.sn_record.specs.declared.item.Item.TheVariants as item
-use Rattle.sn_names.specs.Names.{IsFull, all_entered, entered, is_held}
+use Rattle.sn_names.specs.Names.{IsFull, all_entered, entered}
 use Rattle.sn_names.specs.declared.fault.NamesFault.{NamesFault}
 use Rattle.sn_names.specs.declared.fault.NamesFault.TheVariants as names_fault
-use Rattle.sn_names.proofs.NamesLaws.{added, entered_is, is_held-each, length-all_entered}
+use Rattle.sn_names.proofs.NamesLaws.{is_held-each, length-all_entered}
 use Rattle.sn_net.specs.declared.expr.BoxProgram.{BoxProgram}
 use Rattle.sn_net.specs.declared.net.Net.{Net}
 use Rattle.sn_net.specs.declared.net.Claim.{Claim}
@@ -24,13 +22,13 @@ use Rattle.sn_model.specs.declared.run.Run.{Run}
 use Rattle.sn_model.specs.Meaning.{one_list}
 use Rattle.sn_model.specs.Run.{boxes_of, depth_of, fuel_of, net_of, setting_of}
 use Rattle.sn_model.specs.Typed.{AreTyped}
-use Rattle.sn_io.specs.Told.{appended, AppendsPrefix}
+use Rattle.sn_io.specs.Told.{AppendsPrefix}
 use Rattle.sn_output.specs.Printed.{ending}
 use Rattle.sn_sample.specs.Counts.{counts_of}
 use Rattle.sn_sample.specs.declared.tally.Tally.{Tally}
 use Rattle.sn_sample.specs.Records.{HasLabels, sample_items}
 use Rattle.sn_sample.specs.Source.{source_text}
-use Rattle.sn_sample.specs.Tally.{Counts, counted, counted_on, counts_line}
+use Rattle.sn_sample.specs.Tally.{Counts, counted, counts_line}
 use Rattle.sn_top.specs.declared.load.Program.{Program}
 use Rattle.sn_top.specs.declared.status.LineFault.TheVariants as wrong
 use Rattle.sn_top.specs.declared.status.Refusal.TheVariants.{TooLarge, Source as SourceAt, NoMain, TooDeep, LargeTree, TooManyNames, IllTyped, Variants, Line}
@@ -38,11 +36,11 @@ use Rattle.sn_top.specs.declared.status.Stop.{Stop}
 use Rattle.sn_top.specs.declared.status.Stop.TheVariants.{Refused, Faulted, Unread, Memory, Write}
 use Rattle.sn_top.specs.declared.serve.TheConstants.{SOURCE_LIMIT}
 use Rattle.sn_top.specs.Seen.{Sink, SinkFailed}
-use Rattle.sn_top.specs.Load.{IsLoaded, names_stop, setting}
+use Rattle.sn_top.specs.Load.{IsLoaded, names_stop}
 use Rattle.sn_top.specs.Scope.{WhyUnloaded}
 use Rattle.sn_top.specs.declared.sample.Samples.{Samples}
-use Rattle.sn_top.specs.Sample.{AreSamples, AreTypedSamples, HasCounted, IsWrongEntry, WhyNoSamples, answers_to, default_limits, first_untyped, is_item_of_type, label_names, names_with, records_of}
-use Rattle.sn_top.specs.Answer.{FindsSample, Printout, WhyUncounted, whole}
+use Rattle.sn_top.specs.Sample.{AreSamples, HasCounted, IsWrongEntry, WhyNoSamples, answers_to, default_limits, first_untyped, is_item_of_type, label_names, names_with, records_of}
+use Rattle.sn_top.specs.Answer.{FindsSample, WhyUncounted}
 use Rattle.sn_top.proofs.Loading.{all_pass}
 use Rattle.sn_top.proofs.Running.{one_typed}
 use Rattle.sn_top.proofs.Serving.{accepted}

@@ -1,4 +1,4 @@
-use Rattle.std.proofs.Common.{◌≡◌, List, map, ap, sym, ◌∙◌}
+use Rattle.std.proofs.Common.{◌≡◌, List, map, ap, ◌∙◌}
 use Rattle.sn_record.specs.declared.item.Item.{Item}
 use Rattle.sn_net.specs.Item.{ModelItem, modelled}
 use Rattle.sn_model.specs.Meaning.{one_list}

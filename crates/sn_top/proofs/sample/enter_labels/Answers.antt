@@ -1,7 +1,6 @@
 use Rattle.std.proofs.Common.{[], ◌∷◌, codes, refl}
 use Rattle.std.proofs.lemmas.Result.{err_from_is_err_and}
-use Rattle.sn_names.specs.Names.{entered}
-use Rattle.sn_top.proofs.Sampling.{labels_held, not_entered}
+use Rattle.sn_top.proofs.Sampling.{not_entered}
 use Rattle.sn_top.proofs.sample.enter_labels.Goals as goal
 
 pub returns-in_err-number_of-clause-refused : goal.returns-in_err-number_of-clause-refused
