@@ -17,8 +17,9 @@ use Rattle.sn_live.proofs.Free.{part-Core}
 use Rattle.sn_live.proofs.FreeLives.{part-Lives}
 use Rattle.sn_live.proofs.Runs.{some_stream, out_is_prefix}
 use Rattle.sn_view.specs.Chains.{Comes, Started, Then}
-use Rattle.sn_view.specs.Placed.{WellPlaced, IsSane, IsOrderly, AtRest}
+use Rattle.sn_view.specs.Placed.{NothingIsAside, WellPlaced, IsSane, IsOrderly, AtRest}
 use Rattle.sn_view.specs.Seen.{Can, tree_of, running}
+use Rattle.sn_view.proofs.Asides.{aside-after, aside-start}
 use Rattle.sn_view.proofs.Beginning.{can-start, sane-start}
 use Rattle.sn_view.proofs.Ordering.{orderly-start, orderly-kept}
 use Rattle.sn_view.proofs.Placing.{unfold-placed}
@@ -80,3 +81,8 @@ begun_in_order run g formed in_order comes =
 
 pub whole_in_order : (run : Run) (g : View) → IsWellFormed (boxes_of run) (net_of run) → IsTrue (all_deterministic (net_of run)) → Comes run g → AtRest g → g.out ≡ given run
 whole_in_order run g formed in_order comes rest = one_given run g.out in_order (whole run g formed comes rest)
+
+-- nothing is kept aside
+pub stays_aside : (run : Run) → IsWellFormed (boxes_of run) (net_of run) → (g : View) → Comes run g → NothingIsAside g
+stays_aside run formed g Started = aside-start run
+stays_aside run formed g (Then h e comes may) = aside-after h (chained run h formed comes).placed (stays_aside run formed h comes) e may

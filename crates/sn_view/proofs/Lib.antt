@@ -26,5 +26,6 @@ pub mod Ordering
 pub mod Growing
 pub mod Replicas
 pub mod Placing
+pub mod Asides
 pub mod Chains
 pub mod Routed

@@ -36,10 +36,11 @@ use Rattle.sn_live.specs.Runs.{Move, Running}
 use Rattle.sn_live.proofs.Known.{component-sort, each_entry_more, fork-sort, known-at, own-sort, starts_known, stays_known}
 use Rattle.sn_view.specs.Chains.{Comes, Started, Then}
 use Rattle.sn_view.specs.Next.{form_of, start_view, Given, Next, answering_entry, both, items, local_of, local_step, plain_entry, router_of, Routing, routing_of}
-use Rattle.sn_view.specs.Placed.{HasKey, HasKind, IsAlone, IsCell, IsFork, IsMove, Stands, WellPlaced, door_of, fit, kind_of, shape_of}
-use Rattle.sn_view.specs.Routed.{AllRouted, is_dispatching, IsRoutedNode, KeepsGoing, has_route, is_going, is_going_turn, waits_going}
-use Rattle.sn_view.specs.Seen.{cell_of, entry_of, erased, live_of, own_groups, running, seen_kept, seen_node, step_of, tree_of}
+use Rattle.sn_view.specs.Placed.{KeepsAside, own_kept, HasKey, HasKind, IsAlone, IsCell, IsFork, IsMove, Stands, WellPlaced, door_of, fit, kind_of, shape_of}
+use Rattle.sn_view.specs.Routed.{AllRouted, is_dispatching, IsRoutedNode, has_route, is_going, is_going_turn, waits_going}
+use Rattle.sn_view.specs.Seen.{cell_of, entry_of, erased, live_of, own_groups, running, seen_kept, seen_node, step_of, tree_of, turns_of_state}
 use Rattle.sn_view.specs.View.{Entry, It, Mark, End, Waiting, Plain, InFlight, Finished, Turn, To, Own, State, Alone, Cell, InTurn, Freely, Child, Node, View, first_of}
+use Rattle.sn_view.proofs.Chains.{stays_aside}
 use Rattle.sn_view.proofs.Beginning.{begun}
 use Rattle.sn_view.proofs.Chains.{chained}
 use Rattle.sn_view.proofs.Children.{keys_of, keys-of-doors, not-own, seen-kept-here}
@@ -191,37 +192,56 @@ module _ (g : View) (i : ℕ) (n : Node) (there : slice_get g.nodes i ≡ Some n
     routes_as : HasRoute (both (router_of (Some form) n.left) (plain_entry (first_of n.waiting))) → HasRoute (routing_of g n)
     routes_as routes = subst (λ (f : Option (Net-F Net)). HasRoute (both (router_of f n.left) (plain_entry (first_of n.waiting)))) (sym is_form) routes
 
+    no_child : {X : Type 0} (cs : List Child) (c : ℕ) (child : Child) → cs ≡ [] → slice_get cs c ≡ Some child → X
+    no_child [] c child none at = cc
+    no_child (x ∷ cs) c child none at = cc
+
+    first_kept : (cs : List Child) (child : Child) → slice_get cs 0 ≡ Some child → own_kept cs ≡ [] → IsTrue (list_all is_going child.kept)
+    first_kept [] child at none = cc
+    first_kept (x ∷ cs) child at none = let same : x ≡ child = cc in subst (λ (w : List (Entry ModelItem)). IsTrue (list_all is_going w)) (sym (ap (λ (y : Child). y.kept) (sym same) ∙ none)) refl
+
     -- what is kept, where all that is seen of it is going
-    kept_going : (state : State) (fork : IsFork (kind_of state) → HasKey (map door_of n.children) 0 key.Own) → ((k : StreamKey) → EachEntry Goes (seen_kept state n.children k))
-        → (c : ℕ) (child : Child) → slice_get n.children c ≡ Some child → KeepsGoing state c child
-    kept_going Alone fork keeps c child at = tt
-    kept_going (Cell patterns cell) fork keeps c child at = tt
-    kept_going (InTurn ds) fork keeps zero child at = going_turns ds (keeps key.Own)
-    kept_going (InTurn ds) fork keeps (suc c) child at =
+    kept_going : (state : State) → KeepsAside state n.children → (IsFork (kind_of state) → HasKey (map door_of n.children) 0 key.Own) → ((k : StreamKey) → EachEntry Goes (seen_kept state n.children k))
+        → (c : ℕ) (child : Child) → slice_get n.children c ≡ Some child → IsTrue (list_all is_going child.kept)
+    kept_going Alone aside fork keeps c child at = no_child n.children c child aside at
+    kept_going (Cell patterns cell) aside fork keeps c child at = no_child n.children c child aside at
+    kept_going (InTurn ds) aside fork keeps zero child at = first_kept n.children child at aside
+    kept_going (InTurn ds) aside fork keeps (suc c) child at =
         going_entries child.kept
         (subst (EachEntry Goes) (seen-kept-here (InTurn ds) n.children (suc c) child (not-own n.children c child distinct (fork tt) at) at distinct) (keeps child.key))
-    kept_going (Freely epochs) fork keeps c child at = going_entries child.kept (subst (EachEntry Goes) (seen-kept-here (Freely epochs) n.children c child tt at distinct) (keeps child.key))
+    kept_going (Freely epochs) aside fork keeps c child at = going_entries child.kept (subst (EachEntry Goes) (seen-kept-here (Freely epochs) n.children c child tt at distinct) (keeps child.key))
 
-    component_routed : (m : Machine ModelItem CellState) (s : CellState) → KnownThere Goes (Component m s) F → ((c : ℕ) (child : Child) → slice_get n.children c ≡ Some child → KeepsGoing n.state c child)
-        → GivesGoing (local_of g n) → HasRoute (routing_of g n) → Routed
-    component_routed m s known kept passes routes = record { waiting = going_waiting n.waiting (component_waits m s known); kept = kept; passes = passes; routes = routes }
+    -- and what was decided
+    decided_going : (state : State) → ((k : StreamKey) → EachEntry Goes (seen_kept state n.children k)) → IsTrue (list_all is_going_turn (turns_of_state state))
+    decided_going Alone keeps = refl
+    decided_going (Cell patterns cell) keeps = refl
+    decided_going (InTurn ds) keeps = going_turns ds (keeps key.Own)
+    decided_going (Freely epochs) keeps = refl
 
-    -- nothing is kept by a component
-    none_kept : (state : State) (patterns : List Labels) → (kind_of state ≡ IsAlone) ⊎ (kind_of state ≡ IsCell patterns) → (c : ℕ) (child : Child) → KeepsGoing state c child
-    none_kept Alone patterns is c child = tt
-    none_kept (Cell own cell) patterns is c child = tt
-    none_kept (InTurn ds) patterns (inl is) c child = cc
-    none_kept (InTurn ds) patterns (inr is) c child = cc
-    none_kept (Freely epochs) patterns (inl is) c child = cc
-    none_kept (Freely epochs) patterns (inr is) c child = cc
+    -- a component has no children, and decides nothing
+    none_kept : (state : State) (patterns : List Labels) → (kind_of state ≡ IsAlone) ⊎ (kind_of state ≡ IsCell patterns) → KeepsAside state n.children
+        → IsTrue (list_all is_going_turn (turns_of_state state)) × ((c : ℕ) (child : Child) → slice_get n.children c ≡ Some child → IsTrue (list_all is_going child.kept))
+    none_kept Alone patterns is aside = (refl, (λ c child at. no_child n.children c child aside at))
+    none_kept (Cell own cell) patterns is aside = (refl, (λ c child at. no_child n.children c child aside at))
+    none_kept (InTurn ds) patterns (inl is) aside = cc
+    none_kept (InTurn ds) patterns (inr is) aside = cc
+    none_kept (Freely epochs) patterns (inl is) aside = cc
+    none_kept (Freely epochs) patterns (inr is) aside = cc
+
+    component_routed : (m : Machine ModelItem CellState) (s : CellState) → KnownThere Goes (Component m s) F → (patterns : List Labels) → (kind_of n.state ≡ IsAlone) ⊎ (kind_of n.state ≡ IsCell patterns)
+        → KeepsAside n.state n.children → GivesGoing (local_of g n) → HasRoute (routing_of g n) → Routed
+    component_routed m s known patterns is aside passes routes =
+        let none = none_kept n.state patterns is aside in
+        record { waiting = going_waiting n.waiting (component_waits m s known); decided = none.0; kept = none.1; passes = passes; routes = routes }
 
     fork_routed : (place : ℕ) (merge : MergeKind) (key_of : ModelItem → Key) (child : Network → StreamKey → Network) → KnownThere Goes (dispatched merge (router place key_of) child) F
-        → router_of (Some form) n.left ≡ Some (router place key_of) → GivesGoing (local_of g n) → Routed
-    fork_routed place merge key_of child known sends passes = record {
+        → router_of (Some form) n.left ≡ Some (router place key_of) → KeepsAside n.state n.children → GivesGoing (local_of g n) → Routed
+    fork_routed place merge key_of child known routes_by aside passes = record {
       waiting = going_waiting n.waiting (fork_waits place merge key_of child known);
-      kept = kept_going n.state own_first (fork_keeps place merge key_of child known);
+      decided = decided_going n.state (fork_keeps place merge key_of child known);
+      kept = kept_going n.state aside own_first (fork_keeps place merge key_of child known);
       passes = passes;
-      routes = routes_as (subst (λ (r : Option (Router ModelItem)). HasRoute (both r (plain_entry (first_of n.waiting)))) (sym sends)
+      routes = routes_as (subst (λ (r : Option (Router ModelItem)). HasRoute (both r (plain_entry (first_of n.waiting)))) (sym routes_by)
           (fork_routes place key_of n.waiting (fork_waits place merge key_of child known) (fork_own place merge key_of child known)));
     }
 
@@ -251,47 +271,47 @@ module _ (g : View) (i : ℕ) (n : Node) (there : slice_get g.nodes i ≡ Some n
   none_passes (Net-F.Split place merge body id) is = tt
 
   by_form : (form : Net-F Net) → form_of g n ≡ Some form → HasKind form (length (map door_of n.children)) (kind_of n.state) → AreDistinct (keys_of n.children)
-      → (IsFork (kind_of n.state) → HasKey (map door_of n.children) 0 key.Own) → KnownThere Goes (fit (setting_of g.run) form n.left) F → IsRoutedNode g n
-  by_form (Net-F.Box place number) is kind distinct own known =
-      component_routed (Net-F.Box place number) is kind distinct own _ _ known (λ c child at. none_kept (Net-F.Box place number) is kind distinct own n.state [] (inl kind) c child)
+      → (IsFork (kind_of n.state) → HasKey (map door_of n.children) 0 key.Own) → KeepsAside n.state n.children → KnownThere Goes (fit (setting_of g.run) form n.left) F → IsRoutedNode g n
+  by_form (Net-F.Box place number) is kind distinct own aside known =
+      component_routed (Net-F.Box place number) is kind distinct own _ _ known [] (inl kind) aside
       (passes_as (Net-F.Box place number) is kind distinct own
       (alone_passes (Net-F.Box place number) n.state kind (box_passes g.run place number n.waiting (component_waits _ _ known) (component_emits _ _ known))))
       (routes_as (Net-F.Box place number) is kind distinct own tt)
-  by_form (Net-F.Filter filter) is kind distinct own known =
-      component_routed (Net-F.Filter filter) is kind distinct own _ _ known (λ c child at. none_kept (Net-F.Filter filter) is kind distinct own n.state [] (inl kind) c child)
+  by_form (Net-F.Filter filter) is kind distinct own aside known =
+      component_routed (Net-F.Filter filter) is kind distinct own _ _ known [] (inl kind) aside
       (passes_as (Net-F.Filter filter) is kind distinct own (alone_passes (Net-F.Filter filter) n.state kind (filter_passes g.run filter n.waiting (component_emits _ _ known))))
       (routes_as (Net-F.Filter filter) is kind distinct own tt)
-  by_form (Net-F.Sync place patterns) is kind distinct own known =
-      component_routed (Net-F.Sync place patterns) is kind distinct own _ _ known (λ c child at. none_kept (Net-F.Sync place patterns) is kind distinct own n.state patterns (inr kind) c child)
+  by_form (Net-F.Sync place patterns) is kind distinct own aside known =
+      component_routed (Net-F.Sync place patterns) is kind distinct own _ _ known patterns (inr kind) aside
       (passes_as (Net-F.Sync place patterns) is kind distinct own (sync_passes place patterns n.state kind (component_emits _ _ known)))
       (routes_as (Net-F.Sync place patterns) is kind distinct own tt)
-  by_form (Net-F.Serial left right) is kind distinct own known = absurd kind
-  by_form (Net-F.Choice place merge branches faces) is kind distinct own known =
-      fork_routed (Net-F.Choice place merge branches faces) is kind distinct own place merge (of_record (choice_key faces)) (branch_child (map (tree (setting_of g.run)) branches)) known refl
+  by_form (Net-F.Serial left right) is kind distinct own aside known = absurd kind
+  by_form (Net-F.Choice place merge branches faces) is kind distinct own aside known =
+      fork_routed (Net-F.Choice place merge branches faces) is kind distinct own place merge (of_record (choice_key faces)) (branch_child (map (tree (setting_of g.run)) branches)) known refl aside
       (passes_as (Net-F.Choice place merge branches faces) is kind distinct own (none_passes (Net-F.Choice place merge branches faces) refl))
-  by_form (Net-F.Split place merge body id) is kind distinct own known =
-      fork_routed (Net-F.Split place merge body id) is kind distinct own place merge (of_record (split_key id)) (replica_child (tree (setting_of g.run) body)) known refl
+  by_form (Net-F.Split place merge body id) is kind distinct own aside known =
+      fork_routed (Net-F.Split place merge body id) is kind distinct own place merge (of_record (split_key id)) (replica_child (tree (setting_of g.run) body)) known refl aside
       (passes_as (Net-F.Split place merge body id) is kind distinct own (none_passes (Net-F.Split place merge body id) refl))
-  by_form (Net-F.Star place merge body exit guard) is kind distinct own known = at n.left refl
+  by_form (Net-F.Star place merge body exit guard) is kind distinct own aside known = at n.left refl
     where
       at : (left : ℕ) → n.left ≡ left → IsRoutedNode g n
       at zero same =
           fork_routed (Net-F.Star place merge body exit guard) is kind distinct own place merge (of_record (level_key place exit guard zero)) (λ otherwise k. otherwise)
           (subst (λ (left : ℕ). KnownThere Goes (fit (setting_of g.run) (Net-F.Star place merge body exit guard) left) F) same known)
-          (ap (λ (left : ℕ). router_of (Some (Net-F.Star place merge body exit guard)) left) same)
+          (ap (λ (left : ℕ). router_of (Some (Net-F.Star place merge body exit guard)) left) same) aside
           (passes_as (Net-F.Star place merge body exit guard) is kind distinct own (none_passes (Net-F.Star place merge body exit guard) refl))
       at (suc left) same =
           fork_routed (Net-F.Star place merge body exit guard) is kind distinct own place merge (of_record (level_key place exit guard (suc left)))
           (inside_child (Series (tree (setting_of g.run) body) (level place merge exit guard (tree (setting_of g.run) body) left)))
           (subst (λ (left : ℕ). KnownThere Goes (fit (setting_of g.run) (Net-F.Star place merge body exit guard) left) F) same known)
-          (ap (λ (left : ℕ). router_of (Some (Net-F.Star place merge body exit guard)) left) same)
+          (ap (λ (left : ℕ). router_of (Some (Net-F.Star place merge body exit guard)) left) same) aside
           (passes_as (Net-F.Star place merge body exit guard) is kind distinct own (none_passes (Net-F.Star place merge body exit guard) refl))
 
-  pub node_routed : (run : Run) → g.run ≡ run → (P Q : ModelItem → Type 0) (conveys : Conveys Goes (tree (setting_of run) (net_of run)) P Q)
+  pub node_routed : KeepsAside n.state n.children → (run : Run) → g.run ≡ run → (P Q : ModelItem → Type 0) (conveys : Conveys Goes (tree (setting_of run) (net_of run)) P Q)
       → RunKnown Goes (tree (setting_of run) (net_of run)) P Q conveys (running g) → IsRoutedNode g n
-  node_routed run same P Q conveys known =
+  node_routed aside run same P Q conveys known =
       let part_here : Network = fit (setting_of g.run) stands.form n.left in
-      by_form stands.form stands.is_form stands.has_kind (subst AreDistinct (keys-of-doors n.children) stands.keys) stands.own_first
+      by_form stands.form stands.is_form stands.has_kind (subst AreDistinct (keys-of-doors n.children) stands.keys) stands.own_first aside
       (known-at Goes (tree (setting_of run) (net_of run)) P Q conveys (live_of g) (map step_of n.steps) part_here
       (subst (λ (r : Run). at_steps (tree (setting_of r) (net_of r)) (map step_of n.steps) ≡ Some part_here) same stands.fits) known.live)
 
@@ -328,7 +348,7 @@ module _ (run : Run) (formed : IsWellFormed (boxes_of run) (net_of run)) (typed 
       let stand = chained run g formed comes in
       let known = known_after g comes in
       record {
-        nodes = λ i n at. node_routed g i n at stand.placed run stand.same In Comes_out conveyed known;
+        nodes = λ i n at. node_routed g i n at stand.placed (stays_aside run formed g comes i n at) run stand.same In Comes_out conveyed known;
         ready = going_entries g.ready (each_entry_more Comes_out Goes (of_goes _) (erased g.ready) known.ready);
         out = none_stuck g.out (each_more Comes_out Goes (of_goes _) g.out known.out);
       }

@@ -238,6 +238,22 @@ pub record IsOrderlyNode (net : Net) (n : Node) : Type 0 where
 abbrev pub IsOrderly : View → Type 0
 IsOrderly g = (i : ℕ) (n : Node) → slice_get g.nodes i ≡ Some n → IsOrderlyNode (net_of g.run) n
 
+-- what waits of the output of child 0
+abbrev pub own_kept : List Child → List (Entry ModelItem)
+own_kept [] = []
+own_kept (child ∷ children) = child.kept
+
+-- a component has no children, and child 0 of a deterministic dispatcher keeps nothing
+abbrev pub KeepsAside : State → List Child → Type 0
+KeepsAside Alone children = children ≡ []
+KeepsAside (Cell patterns cell) children = children ≡ []
+KeepsAside (InTurn ds) children = own_kept children ≡ []
+KeepsAside (Freely epochs) children = Unit {0}
+
+-- so is each node
+abbrev pub NothingIsAside : View → Type 0
+NothingIsAside g = (i : ℕ) (n : Node) → slice_get g.nodes i ≡ Some n → KeepsAside n.state n.children
+
 -- A choice has a child for each key that it sends an item by, so that Unfold never happens there.
 abbrev pub ChoicesAreWhole : View → Type 0
 ChoicesAreWhole g = (i : ℕ) (n : Node) (x : ModelItem) (place : ℕ) (merge : MergeKind) (branches : List Net) (faces : List (List Labels)) → slice_get g.nodes i ≡ Some n

@@ -1,12 +1,13 @@
 -- No item lacks a route: none that waits is stuck, and none that a node passes on next would be.
-use Rattle.std.specs.Prelude.{◌≡◌, IsTrue, ℕ, zero, suc, Bool, true, false, not, slice_get, Some, IfSome}
+use Rattle.std.specs.Prelude.{◌≡◌, IsTrue, ℕ, Bool, true, false, not, slice_get, Some, IfSome}
 use Rattle.std.specs.List.{list_all}
 use Rattle.sn_streams.specs.Forks.{Router}
 use Rattle.sn_net.specs.declared.net.Net.{Net}
 use Rattle.sn_net.specs.declared.net.Net.TheOpen.{Net-F}
 use Rattle.sn_net.specs.Item.{ModelItem, is_stuck, holds_stuck}
-use Rattle.sn_view.specs.View.{Entry, It, Mark, End, Waiting, Plain, InFlight, Finished, Turn, To, Own, State, Alone, Cell, InTurn, Freely, Child, Node, View}
+use Rattle.sn_view.specs.View.{Entry, It, Mark, End, Waiting, Plain, InFlight, Finished, Turn, To, Own, Child, Node, View}
 use Rattle.sn_view.specs.Next.{local_of, routing_of}
+use Rattle.sn_view.specs.Seen.{turns_of_state}
 
 abbrev pub is_going : Entry ModelItem → Bool
 is_going (It x) = not (is_stuck x)
@@ -39,17 +40,10 @@ is_dispatching (Net-F.Choice place merge branches faces) = true
 is_dispatching (Net-F.Star place merge body exit guard) = true
 is_dispatching (Net-F.Split place merge body id) = true
 
--- what a dispatcher keeps of its decisions, and of a child; child 0 of a deterministic one keeps nothing but decisions
-abbrev pub KeepsGoing : State → ℕ → Child → Type 0
-KeepsGoing (InTurn ds) zero child = IsTrue (list_all is_going_turn ds)
-KeepsGoing (InTurn ds) (suc c) child = IsTrue (list_all is_going child.kept)
-KeepsGoing (Freely epochs) c child = IsTrue (list_all is_going child.kept)
-KeepsGoing Alone c child = Unit {0}
-KeepsGoing (Cell patterns cell) c child = Unit {0}
-
 pub record IsRoutedNode (g : View) (n : Node) : Type 0 where
   pub waiting : IsTrue (list_all waits_going n.waiting)
-  pub kept : (c : ℕ) (child : Child) → slice_get n.children c ≡ Some child → KeepsGoing n.state c child
+  pub decided : IsTrue (list_all is_going_turn (turns_of_state n.state))
+  pub kept : (c : ℕ) (child : Child) → slice_get n.children c ≡ Some child → IsTrue (list_all is_going child.kept)
   -- what a component passes on next
   pub passes : IfSome (local_of g n) (λ given. IsTrue (list_all is_going given.entries))
   -- the first entry of a dispatcher

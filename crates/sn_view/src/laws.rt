@@ -11,7 +11,7 @@ ghost use Rattle.sn_view.specs.Next.{IsEnabled, Next, start_view};
 ghost use Rattle.sn_view.specs.View.{Happening, Unfold, View};
 ghost use Rattle.sn_live.specs.Runs.{IsPrefixOf};
 ghost use Rattle.sn_view.specs.Chains.{Comes};
-ghost use Rattle.sn_view.specs.Placed.{AtRest, ChoicesAreWhole, IsMove, IsOrderly, IsSane, IsUnfold, WellPlaced};
+ghost use Rattle.sn_view.specs.Placed.{AtRest, ChoicesAreWhole, IsMove, IsOrderly, IsSane, IsUnfold, NothingIsAside, WellPlaced};
 ghost use Rattle.sn_view.specs.Routed.{AllRouted};
 ghost use Rattle.sn_view.specs.Seen.{Can};
 
@@ -66,6 +66,11 @@ pub fn every_list_of_events()
     ensures allowed { (run : Run) (g : View) (ys : List ModelItem) → IsWellFormed (boxes_of run) (net_of run) → Comes run g → Can g ys → MayGive run ys }
     ensures begun { (run : Run) (g : View) → IsWellFormed (boxes_of run) (net_of run) → Comes run g → (ys : List ModelItem) × MayGive run ys × IsPrefixOf g.out ys }
     ensures whole { (run : Run) (g : View) → IsWellFormed (boxes_of run) (net_of run) → Comes run g → AtRest g → MayGive run g.out }
+{}
+
+/// A component has no children, and child 0 of a deterministic dispatcher keeps nothing: what passes by waits in its decisions.
+pub fn nothing_is_kept_aside()
+    ensures { (run : Run) (g : View) → IsWellFormed (boxes_of run) (net_of run) → Comes run g → NothingIsAside g }
 {}
 
 /// Where every choice, star and split merges in order, what was emitted begins the one-thread meaning, and at rest it is all of it.
