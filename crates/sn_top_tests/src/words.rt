@@ -63,7 +63,7 @@ fn gives_commands_of_a_source(rt: HostRuntime) -> Result<(), Fail> {
 
 #[test]
 fn refuses_words(rt: HostRuntime) -> Result<(), Fail> {
-    let table: [&[&str]; 20] = [
+    let table: [&[&str]; 26] = [
         &[],
         &["once", "s"],
         &["once", "s", "i", "t"],
