@@ -13,19 +13,19 @@ use Rattle.sn_net.specs.declared.net.Net.TheViews.{roll-Net}
 use Rattle.sn_net.specs.Cell.{new_cell}
 use Rattle.sn_net.specs.Item.{ModelItem}
 use Rattle.sn_model.specs.declared.run.Run.{Run}
-use Rattle.sn_model.specs.Components.{box_item}
-use Rattle.sn_model.specs.Run.{boxes_of, depth_of, fuel_of, net_of}
+use Rattle.sn_model.specs.Run.{depth_of, net_of}
 use Rattle.sn_view.specs.declared.step.Step.{Step}
 use Rattle.sn_view.specs.declared.step.Step.TheVariants as step
 use Rattle.sn_view.specs.Epochs.{Epochs, closed, is_passed, marked, moved_on}
-use Rattle.sn_view.specs.View.{Entry, It, Mark, End, Waiting, Plain, InFlight, Finished, Turn, To, Own, State, Alone, Cell, InTurn, Freely, Child, Target, Out, ToNode, ToChild, Node, View, Happening, Take, Start, Finish, Local, Route, Unfold, Merge, Emit, changed_at, at_node, first_of, rest_of, waits_more, child_gives, keeps_more}
-use Rattle.sn_view.specs.Next.{after, IsEnabled, start_view, if_node, form_of, took, next_input, first_called, gets_answer, Given, box_gives, local_step, local_of, local_then, keeps, passed, gives, send, plain, Routing, routing_of, needs, routed, routes_by, det_routes, free_routes, decides, decision_of, group_of, unfolded, key_of, adds_child, with_epoch, more_children, new_nodes, may_unfold_then, is_fork, to_all, to_entry, merges_by, det_merges, free_merges, group_gives, mark_passes, kept_of, takes_kept, emitted}
+use Rattle.sn_view.specs.View.{Entry, It, Mark, End, Turn, To, Own, State, Alone, Cell, InTurn, Freely, Child, Target, Out, ToNode, ToChild, Node, View, Happening, Take, Start, Finish, Local, Route, Unfold, Merge, Emit, changed_at, at_node, first_of, rest_of, waits_more, child_gives, keeps_more}
+use Rattle.sn_view.specs.Next.{after, IsEnabled, start_view, if_node, form_of, took, next_input, first_called, gets_answer, Given, local_of, local_then, keeps, passed, gives, send, plain, Routing, routing_of, needs, routed, routes_by, det_routes, free_routes, decides, decision_of, group_of, unfolded, key_of, adds_child, with_epoch, more_children, new_nodes, may_unfold_then, is_fork, to_all, to_entry, merges_by, det_merges, free_merges, group_gives, mark_passes, kept_of, takes_kept, emitted}
 use Rattle.sn_view.specs.Parts.{Plan, alone, new_node, own_child, dispatcher, unfolding_fork, branch_nodes, plan, plan_step}
 use Rattle.sn_view.specs.Placed.{KeepsAside, own_kept, Sends, WellPlaced, shape_of}
 use Rattle.sn_live.specs.Live.{Target as LiveTarget, Out as LiveOut, ToNode as LiveToNode, ToKept}
 use Rattle.sn_live.specs.Parts.{part}
 use Rattle.sn_view.specs.Seen.{step_of, tree_of}
 use Rattle.sn_view.proofs.Events.{both-true, never, stands-at}
+use Rattle.sn_view.proofs.Ordering.{StaysComponent, local-component}
 use Rattle.sn_view.proofs.Orders.{Each, each-append, each-changed, each-changed-at, each-cons, each-mapped, each-none}
 
 abbrev pub Aside : Node → Type 0
@@ -141,45 +141,18 @@ module _ (depth : ℕ) where
 pub aside-start : (run : Run) → Each Aside (start_view run).nodes
 aside-start run = all-new-aside (depth_of run) (net_of run) [] [] Out 0
 
--- a component keeps the kind of its state
-abbrev Follows : State → State → Type 0
-Follows old new = (cs : List Child) → KeepsAside old cs → KeepsAside new cs
-
-given-aside : (old st : State) (o : List (Entry ModelItem)) (given : Given) → Follows old st → Some (record { state = st; entries = o }) ≡ Some given → Follows old given.state
-given-aside old st o given h e = let u : record { state = st; entries = o } ≡ given = cc in subst (λ (x : Given). Follows old x.state) u h
-
-none-given : {X : Type 0} (given : Given) → None ≡ Some given → X
-none-given given e = cc
-
-local-aside : (run : Run) (form : Option (Net-F Net)) (st : State) (w : Option Waiting) (given : Given) → local_step run form st w ≡ Some given → Follows st given.state
-local-aside run None st w given e = none-given given e
-local-aside run (Some (Net-F.Serial left right)) st w given e = none-given given e
-local-aside run (Some (Net-F.Choice place merge branches faces)) st w given e = none-given given e
-local-aside run (Some (Net-F.Star place merge body exit guard)) st w given e = none-given given e
-local-aside run (Some (Net-F.Split place merge body id)) st w given e = none-given given e
-local-aside run (Some (Net-F.Box place number)) (Cell patterns cell) w given e = none-given given e
-local-aside run (Some (Net-F.Box place number)) (InTurn ds) w given e = none-given given e
-local-aside run (Some (Net-F.Box place number)) (Freely q) w given e = none-given given e
-local-aside run (Some (Net-F.Box place number)) Alone None given e = none-given given e
-local-aside run (Some (Net-F.Box place number)) Alone (Some w) given e = at (box_gives (box_item (boxes_of run) (fuel_of run) place number) w) e
-  where
-    at : (o : Option (List (Entry ModelItem))) → option_map (λ o. record { state = Alone; entries = o }) o ≡ Some given → Follows Alone given.state
-    at None e = none-given given e
-    at (Some o) e = given-aside Alone Alone o given (λ cs h. h) e
-local-aside run (Some (Net-F.Filter filter)) (Cell patterns cell) w given e = none-given given e
-local-aside run (Some (Net-F.Filter filter)) (InTurn ds) w given e = none-given given e
-local-aside run (Some (Net-F.Filter filter)) (Freely q) w given e = none-given given e
-local-aside run (Some (Net-F.Filter filter)) Alone None given e = none-given given e
-local-aside run (Some (Net-F.Filter filter)) Alone (Some (InFlight call r)) given e = none-given given e
-local-aside run (Some (Net-F.Filter filter)) Alone (Some (Finished r)) given e = none-given given e
-local-aside run (Some (Net-F.Filter filter)) Alone (Some (Plain x)) given e = given-aside Alone Alone _ given (λ cs h. h) e
-local-aside run (Some (Net-F.Sync place own)) Alone w given e = none-given given e
-local-aside run (Some (Net-F.Sync place own)) (InTurn ds) w given e = none-given given e
-local-aside run (Some (Net-F.Sync place own)) (Freely q) w given e = none-given given e
-local-aside run (Some (Net-F.Sync place own)) (Cell patterns cell) None given e = none-given given e
-local-aside run (Some (Net-F.Sync place own)) (Cell patterns cell) (Some (InFlight call r)) given e = none-given given e
-local-aside run (Some (Net-F.Sync place own)) (Cell patterns cell) (Some (Finished r)) given e = none-given given e
-local-aside run (Some (Net-F.Sync place own)) (Cell patterns cell) (Some (Plain x)) given e = given-aside (Cell patterns cell) (Cell patterns _) _ given (λ cs h. h) e
+-- a component keeps what it has: no children
+component-aside : (old new : State) (cs : List Child) → StaysComponent old new → KeepsAside old cs → KeepsAside new cs
+component-aside Alone Alone cs h k = k
+component-aside (Cell patterns cell) (Cell others after) cs h k = k
+component-aside Alone (Cell others after) cs h k = absurd h
+component-aside Alone (InTurn ds) cs h k = absurd h
+component-aside Alone (Freely q) cs h k = absurd h
+component-aside (Cell patterns cell) Alone cs h k = absurd h
+component-aside (Cell patterns cell) (InTurn ds) cs h k = absurd h
+component-aside (Cell patterns cell) (Freely q) cs h k = absurd h
+component-aside (InTurn ds) new cs h k = absurd h
+component-aside (Freely q) new cs h k = absurd h
 
 -- events at a node
 module _ (i : ℕ) (n : Node) (g : View) (there : slice_get g.nodes i ≡ Some n) (spares : Spares n.goes) (h : Each Aside g.nodes) where
@@ -194,7 +167,7 @@ module _ (i : ℕ) (n : Node) (g : View) (there : slice_get g.nodes i ≡ Some n
 
   local-after : (o : Option Given) → local_of g n ≡ o → Each Aside (local_then i n g o).nodes
   local-after None e = h
-  local-after (Some given) e = gives-aside (λ m. keeps given.state (passed m)) (λ k. local-aside g.run (form_of g n) n.state (first_of n.waiting) given e n.children k) given.entries
+  local-after (Some given) e = gives-aside (λ m. keeps given.state (passed m)) (component-aside n.state given.state n.children (local-component g.run (form_of g n) n.state (first_of n.waiting) given e)) given.entries
 
   -- a deterministic dispatcher
   module _ (ds : List (Entry Turn)) (st : n.state ≡ InTurn ds) where

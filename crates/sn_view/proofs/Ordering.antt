@@ -44,42 +44,59 @@ plain-finished call (Plain e ∷ ws) h = plain-finished call ws h
 plain-finished call (InFlight other given ∷ ws) h = absurd h
 plain-finished call (Finished given ∷ ws) h = absurd h
 
--- Local
-given-state : (st : State) (o : List (Entry ModelItem)) (given : Given) → IsOrderlyState st → Some (record { state = st; entries = o }) ≡ Some given → IsOrderlyState given.state
-given-state st o given h e = let u : record { state = st; entries = o } ≡ given = cc in subst (λ (x : Given). IsOrderlyState x.state) u h
+-- Local: a component's state stays one of its sort
+abbrev pub StaysComponent : State → State → Type 0
+StaysComponent Alone Alone = Unit {0}
+StaysComponent (Cell patterns cell) (Cell others after) = Unit {0}
+StaysComponent old new = ⊥
+
+given-component : (old st : State) (o : List (Entry ModelItem)) (given : Given) → StaysComponent old st → Some (record { state = st; entries = o }) ≡ Some given → StaysComponent old given.state
+given-component old st o given h e = let u : record { state = st; entries = o } ≡ given = cc in subst (λ (x : Given). StaysComponent old x.state) u h
 
 none-given : {X : Type 0} (given : Given) → None ≡ Some given → X
 none-given given e = cc
 
-local-state : (run : Run) (form : Option (Net-F Net)) (st : State) (w : Option Waiting) (given : Given) → local_step run form st w ≡ Some given → IsOrderlyState given.state
-local-state run None st w given e = none-given given e
-local-state run (Some (Net-F.Serial left right)) st w given e = none-given given e
-local-state run (Some (Net-F.Choice place merge branches faces)) st w given e = none-given given e
-local-state run (Some (Net-F.Star place merge body exit guard)) st w given e = none-given given e
-local-state run (Some (Net-F.Split place merge body id)) st w given e = none-given given e
-local-state run (Some (Net-F.Box place number)) (Cell patterns cell) w given e = none-given given e
-local-state run (Some (Net-F.Box place number)) (InTurn ds) w given e = none-given given e
-local-state run (Some (Net-F.Box place number)) (Freely q) w given e = none-given given e
-local-state run (Some (Net-F.Box place number)) Alone None given e = none-given given e
-local-state run (Some (Net-F.Box place number)) Alone (Some w) given e = at (box_gives (box_item (boxes_of run) (fuel_of run) place number) w) e
+pub local-component : (run : Run) (form : Option (Net-F Net)) (st : State) (w : Option Waiting) (given : Given) → local_step run form st w ≡ Some given → StaysComponent st given.state
+local-component run None st w given e = none-given given e
+local-component run (Some (Net-F.Serial left right)) st w given e = none-given given e
+local-component run (Some (Net-F.Choice place merge branches faces)) st w given e = none-given given e
+local-component run (Some (Net-F.Star place merge body exit guard)) st w given e = none-given given e
+local-component run (Some (Net-F.Split place merge body id)) st w given e = none-given given e
+local-component run (Some (Net-F.Box place number)) (Cell patterns cell) w given e = none-given given e
+local-component run (Some (Net-F.Box place number)) (InTurn ds) w given e = none-given given e
+local-component run (Some (Net-F.Box place number)) (Freely q) w given e = none-given given e
+local-component run (Some (Net-F.Box place number)) Alone None given e = none-given given e
+local-component run (Some (Net-F.Box place number)) Alone (Some w) given e = at (box_gives (box_item (boxes_of run) (fuel_of run) place number) w) e
   where
-    at : (o : Option (List (Entry ModelItem))) → option_map (λ o. record { state = Alone; entries = o }) o ≡ Some given → IsOrderlyState given.state
+    at : (o : Option (List (Entry ModelItem))) → option_map (λ o. record { state = Alone; entries = o }) o ≡ Some given → StaysComponent Alone given.state
     at None e = none-given given e
-    at (Some o) e = given-state Alone o given tt e
-local-state run (Some (Net-F.Filter filter)) (Cell patterns cell) w given e = none-given given e
-local-state run (Some (Net-F.Filter filter)) (InTurn ds) w given e = none-given given e
-local-state run (Some (Net-F.Filter filter)) (Freely q) w given e = none-given given e
-local-state run (Some (Net-F.Filter filter)) Alone None given e = none-given given e
-local-state run (Some (Net-F.Filter filter)) Alone (Some (InFlight call r)) given e = none-given given e
-local-state run (Some (Net-F.Filter filter)) Alone (Some (Finished r)) given e = none-given given e
-local-state run (Some (Net-F.Filter filter)) Alone (Some (Plain x)) given e = given-state Alone _ given tt e
-local-state run (Some (Net-F.Sync place own)) Alone w given e = none-given given e
-local-state run (Some (Net-F.Sync place own)) (InTurn ds) w given e = none-given given e
-local-state run (Some (Net-F.Sync place own)) (Freely q) w given e = none-given given e
-local-state run (Some (Net-F.Sync place own)) (Cell patterns cell) None given e = none-given given e
-local-state run (Some (Net-F.Sync place own)) (Cell patterns cell) (Some (InFlight call r)) given e = none-given given e
-local-state run (Some (Net-F.Sync place own)) (Cell patterns cell) (Some (Finished r)) given e = none-given given e
-local-state run (Some (Net-F.Sync place own)) (Cell patterns cell) (Some (Plain x)) given e = given-state (Cell patterns _) _ given tt e
+    at (Some o) e = given-component Alone Alone o given tt e
+local-component run (Some (Net-F.Filter filter)) (Cell patterns cell) w given e = none-given given e
+local-component run (Some (Net-F.Filter filter)) (InTurn ds) w given e = none-given given e
+local-component run (Some (Net-F.Filter filter)) (Freely q) w given e = none-given given e
+local-component run (Some (Net-F.Filter filter)) Alone None given e = none-given given e
+local-component run (Some (Net-F.Filter filter)) Alone (Some (InFlight call r)) given e = none-given given e
+local-component run (Some (Net-F.Filter filter)) Alone (Some (Finished r)) given e = none-given given e
+local-component run (Some (Net-F.Filter filter)) Alone (Some (Plain x)) given e = given-component Alone Alone _ given tt e
+local-component run (Some (Net-F.Sync place own)) Alone w given e = none-given given e
+local-component run (Some (Net-F.Sync place own)) (InTurn ds) w given e = none-given given e
+local-component run (Some (Net-F.Sync place own)) (Freely q) w given e = none-given given e
+local-component run (Some (Net-F.Sync place own)) (Cell patterns cell) None given e = none-given given e
+local-component run (Some (Net-F.Sync place own)) (Cell patterns cell) (Some (InFlight call r)) given e = none-given given e
+local-component run (Some (Net-F.Sync place own)) (Cell patterns cell) (Some (Finished r)) given e = none-given given e
+local-component run (Some (Net-F.Sync place own)) (Cell patterns cell) (Some (Plain x)) given e = given-component (Cell patterns cell) (Cell patterns _) _ given tt e
+
+component-orderly : (old new : State) → StaysComponent old new → IsOrderlyState new
+component-orderly Alone Alone h = tt
+component-orderly (Cell patterns cell) (Cell others after) h = tt
+component-orderly Alone (Cell others after) h = absurd h
+component-orderly Alone (InTurn ds) h = absurd h
+component-orderly Alone (Freely q) h = absurd h
+component-orderly (Cell patterns cell) Alone h = absurd h
+component-orderly (Cell patterns cell) (InTurn ds) h = absurd h
+component-orderly (Cell patterns cell) (Freely q) h = absurd h
+component-orderly (InTurn ds) new h = absurd h
+component-orderly (Freely q) new h = absurd h
 
 -- Route
 turned-past : (k : Key) (y : ModelItem) → NoneToOwn (It (turn_of k y) ∷ [])
@@ -103,7 +120,7 @@ module _ (net : Net) where
     local-orderly None e = h
     local-orderly (Some given) e =
         gives-orderly (λ m. keeps given.state (passed m))
-        (λ m k. keeps-orderly net given.state (local-state g.run (form_of g n) n.state (first_of n.waiting) given e) (passed m) (passed-orderly net m k)) n.goes given.entries
+        (λ m k. keeps-orderly net given.state (component-orderly n.state given.state (local-component g.run (form_of g n) n.state (first_of n.waiting) given e)) (passed m) (passed-orderly net m k)) n.goes given.entries
 
     det-orderly : (ds : List (Entry Turn)) → NoneToOwn ds → (routing : Routing) (c : ℕ) → Each (Ord net) (det_routes i n ds routing c g).nodes
     det-orderly ds d routing c =
