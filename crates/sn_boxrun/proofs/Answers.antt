@@ -1,5 +1,5 @@
 -- What a call answers, by what its evaluation leaves behind.
-use Rattle.std.proofs.Common.{◌≡◌, ℕ, List, [], ◌∷◌, ◌++◌, map, Option, append-nil, refl, sym, ◌∙◌}
+use Rattle.std.proofs.Common.{◌≡◌, ℕ, List, ◌++◌, map, Option, append-nil, refl, ◌∙◌}
 use Rattle.sn_record.specs.declared.item.FaultKind.{FaultKind}
 use Rattle.sn_record.specs.declared.value.Value.{Value}
 use Rattle.sn_record.specs.LabelSet.{Labels}

@@ -1,2 +1,4 @@
 pub mod Outcomes
 pub mod Answers
+pub mod Compared
+pub mod Answering

@@ -1,5 +1,5 @@
 -- What follows on outcomes, and what a machine's frames and units come to.
-use Rattle.std.proofs.Common.{◌≡◌, ℕ, zero, suc, ◌-◌, Bool, true, false, nat_eq, List, take, map, arith, refl, ap, ◌∙◌}
+use Rattle.std.proofs.Common.{◌≡◌, ℕ, zero, suc, ◌-◌, List, arith, refl}
 use Rattle.sn_record.specs.declared.value.Value.{Value}
 use Rattle.sn_record.specs.Record.{Entries}
 use Rattle.sn_net.specs.declared.expr.BoxProgram.{BoxProgram}

@@ -1,2 +1,4 @@
 pub mod Machine
 pub mod Call
+pub mod Coding
+pub mod Job

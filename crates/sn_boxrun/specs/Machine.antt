@@ -1,12 +1,11 @@
 -- What is left to do in a machine that runs a box.
-use Rattle.std.specs.Prelude.{◌≡◌, ℕ, ◌+◌, ◌*◌, length, Bool, true, false, not, List, [], ◌∷◌, ◌++◌, take, slice_get, Result, Ok, Err}
-use Rattle.sn_record.specs.declared.item.FaultKind.{FaultKind}
+use Rattle.std.specs.Prelude.{◌≡◌, ℕ, ◌+◌, ◌*◌, length, List, [], ◌∷◌, ◌++◌, take, slice_get, Result, Ok, Err}
 use Rattle.sn_record.specs.declared.value.Value.{Value}
 use Rattle.sn_record.specs.declared.value.Value.TheVariants.{«List» as ListOf}
 use Rattle.sn_net.specs.declared.expr.BoxProgram.{BoxProgram}
 use Rattle.sn_net.specs.declared.expr.Expr.{Expr}
 use Rattle.sn_net.specs.BoxValues.{built_in, combined, fitting, negative, opposite, truth_of}
-use Rattle.sn_net.specs.BoxEvaluation.{Evaluator, Outcome, Outcome.{Gives, Faults}, Progress, after_and, after_if, after_or, all_values, called, emitting, ended, evaluated, followed, last_value, right_part}
+use Rattle.sn_net.specs.BoxEvaluation.{Outcome, Outcome.{Gives, Faults}, Progress, after_and, after_if, after_or, all_values, called, emitting, ended, evaluated, followed, last_value, right_part}
 use Rattle.sn_box_values.specs.declared.datum.Datum.{Datum}
 use Rattle.sn_box_values.specs.declared.outcome.Stop.{Stop}
 use Rattle.sn_box_values.specs.declared.outcome.Stop.TheVariants as stop

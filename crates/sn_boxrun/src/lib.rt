@@ -1,8 +1,13 @@
-//! Runs boxes: a machine evaluates a box's body with fuel over a stack of its own, and a call makes items of what it emitted.
+//! Runs boxes: a machine evaluates a box's body with fuel over a stack of its own, and a call makes items of what it emitted. A call may
+//! also stand as a job, which whoever holds the run makes.
 #![tactic(auto)]
 
 mod answer;
 mod frame;
+mod job;
 mod machine;
+mod same;
 
 pub use answer::{call, call_owned};
+pub use job::{Done, Job, make_done};
+pub use same::{is_same_record, is_same_value};
