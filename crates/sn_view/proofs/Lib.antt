@@ -29,3 +29,12 @@ pub mod Placing
 pub mod Asides
 pub mod Chains
 pub mod Routed
+pub mod Feeding
+pub mod Planned
+pub mod Flying
+pub mod Counted
+pub mod FlyingOn
+pub mod Apart
+pub mod Untouched
+pub mod Coding
+pub mod Came

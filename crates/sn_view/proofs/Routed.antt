@@ -1,13 +1,18 @@
--- No item lacks a route while a network runs.
-use Rattle.std.proofs.Common.{◌≡◌, ℕ, zero, suc, true, false, not, IsTrue, List, [], ◌∷◌, map, length, ◌⊎◌, Option, Some, refl, sym, ap, ◌∙◌, subst, inl, inr}
+-- No item lacks a route while a network runs, and the records that wait at a box match its input.
+use Rattle.std.proofs.Common.{◌≡◌, ◌<◌, ℕ, zero, suc, Bool, true, false, not, cond, IsTrue, List, [], ◌∷◌, map, length, ◌⊎◌, Option, None, Some, refl, sym, ap, ◌∙◌, subst, inl, inr}
 use Rattle.std.specs.Prelude.{IfSome, slice_get}
 use Rattle.std.specs.List.{All, AllByRecursion as Each, list_all}
+use Rattle.std.specs.Option.{ForSome}
+use Rattle.std.proofs.lemmas.Option.{slice_get_within}
 use Rattle.sn_record.specs.LabelSet.{Labels}
+use Rattle.sn_record.specs.Record.{Entries, Matches, is_match}
+use Rattle.sn_record.proofs.Scores.{is_match-Matches}
 use Rattle.sn_streams.specs.Forks.{Router}
 use Rattle.sn_streams.specs.Keys.{Key as StreamKey, AreDistinct}
 use Rattle.sn_streams.specs.Keys as key
 use Rattle.sn_streams.specs.Machines.{Machine}
 use Rattle.sn_streams.specs.Trees.{Component, Series, passing, with_own}
+use Rattle.sn_net.specs.declared.expr.BoxProgram.{BoxProgram}
 use Rattle.sn_net.specs.declared.net.Merge.{Merge as MergeKind}
 use Rattle.sn_net.specs.declared.net.Net.{Net}
 use Rattle.sn_net.specs.declared.net.Net.TheOpen.{Net-F}
@@ -15,11 +20,13 @@ use Rattle.sn_net.specs.declared.routing.Key.{Key}
 use Rattle.sn_net.specs.declared.routing.Key.TheVariants as routing
 use Rattle.sn_net.specs.Cell.{CellState, Passing, cell_emits}
 use Rattle.sn_net.specs.Dispatchers.{Network, branch_child, replica_child, dispatched, inside_child, level, merge_of, passed_by, router, stream_key, level_key}
+use Rattle.sn_net.specs.BoxEvaluation.{box_answer}
+use Rattle.sn_net.specs.Face.{variant_of}
 use Rattle.sn_net.specs.Item.{ModelItem, Rec, Fault, Stuck, is_stuck, holds_stuck}
 use Rattle.sn_net.specs.Route.{of_record, choice_key, split_key}
 use Rattle.sn_net.specs.WellFormed.{IsWellFormed}
 use Rattle.sn_model.specs.declared.run.Run.{Run}
-use Rattle.sn_model.specs.Components.{box_item, filter_item, cell}
+use Rattle.sn_model.specs.Components.{box_item, call_record, filter_item, cell}
 use Rattle.sn_model.specs.Meaning.{tree}
 use Rattle.sn_model.specs.Run.{boxes_of, fuel_of, input_of, net_of, setting_of}
 use Rattle.sn_typing.specs.Typed.{IsOf, IsTyped}
@@ -78,9 +85,40 @@ going_items : (xs : List ModelItem) → Each Goes xs → IsTrue (list_all is_goi
 going_items [] each = refl
 going_items (x ∷ xs) each = rw (goes_true x each.0) (going_items xs each.1)
 
-none_stuck : (xs : List ModelItem) → Each Goes xs → holds_stuck xs ≡ false
+pub none_stuck : (xs : List ModelItem) → Each Goes xs → holds_stuck xs ≡ false
 none_stuck [] each = refl
 none_stuck (x ∷ xs) each = rw each.0 (none_stuck xs each.1)
+
+-- an item that waits somewhere
+each_there : (P : ModelItem → Type 0) (w : List (Entry ModelItem)) (p : ℕ) (x : ModelItem) → slice_get w p ≡ Some (It x) → EachEntry P (erased w) → P x
+each_there P [] p x at each = cc
+each_there P (It y ∷ w) zero x at each = let same : y ≡ x = cc in subst P same each.0
+each_there P (Mark ∷ w) zero x at each = cc
+each_there P (End ∷ w) zero x at each = cc
+each_there P (It y ∷ w) (suc p) x at each = each_there P w p x at each.1
+each_there P (Mark ∷ w) (suc p) x at each = each_there P w p x at each
+each_there P (End ∷ w) (suc p) x at each = each_there P w p x at each
+
+-- the box of the number is there, and the record matches its input
+abbrev pub TakesRecord : List BoxProgram → ℕ → Entries → Type 0
+TakesRecord boxes number r = (number < length boxes) × ForSome (slice_get boxes number) (λ program. Matches r (variant_of program.input))
+
+-- so it is where what the box answers to the record is not stuck
+answer_takes : (boxes : List BoxProgram) (fuel place number : ℕ) (r : Entries) → Each Goes (box_item boxes fuel place number (Rec r)) → TakesRecord boxes number r
+answer_takes boxes fuel place number r goes = at (slice_get boxes number) refl goes
+  where
+    matched : (program : BoxProgram) (b : Bool) → is_match r (variant_of program.input) ≡ b → Each Goes (cond b (box_answer program place r fuel) (Stuck place ∷ [])) → Matches r (variant_of program.input)
+    matched program true test goes = (is_match-Matches r (variant_of program.input)).0 test
+    matched program false test goes = let stuck = goes.0 in cc
+
+    at : (found : Option BoxProgram) → slice_get boxes number ≡ found → Each Goes (call_record found place fuel r) → TakesRecord boxes number r
+    at None there goes = let stuck = goes.0 in cc
+    at (Some program) there goes = (
+      slice_get_within boxes number program there,
+      (λ other also.
+          let same : program ≡ other = (let u : Some program ≡ Some other = sym there ∙ also in cc) in
+          subst (λ (b : BoxProgram). Matches r (variant_of b.input)) same (matched program (is_match r (variant_of program.input)) refl goes)),
+    )
 
 -- an item that goes to a child is itself, as far as passing by goes
 passes_by : (place : ℕ) (k : Key) (x : ModelItem) → Goes x → (stream_key k ≡ key.Own → Goes (passed_by place k x)) → Goes (passed_by place k x)
@@ -161,6 +199,14 @@ module _ (g : View) (i : ℕ) (n : Node) (there : slice_get g.nodes i ≡ Some n
       → erased (map entry_of n.waiting) ≡ LiveIt x ∷ w → Each Goes (m.emits (cell_of n.state) x)
   component_emits m s known x w first =
       subst (λ (l : LiveN). l.waiting ≡ LiveIt x ∷ w → Each Goes (m.emits l.state x)) seen-here ((component-sort Goes F m s known).1 x w) first
+
+  component_answers : (m : Machine ModelItem CellState) (s : CellState) → KnownThere Goes (Component m s) F
+      → EachEntry (λ x. Each Goes (m.emits (cell_of n.state) x)) (erased (map entry_of n.waiting))
+  component_answers m s known =
+      let (keeps, here, in_sort, out_sort, goes) = known.conveys in
+      subst (λ (l : LiveN). EachEntry (λ x. Each Goes (m.emits l.state x)) l.waiting) seen-here
+      (each_entry_more known.P (λ x. Each Goes (m.emits (F []).state x)) (λ x is. each_more known.Q Goes out_sort (m.emits (F []).state x) (goes (F []).state x known.known.1 is).1)
+      ((F []).waiting) known.known.0)
 
   -- dispatchers
   module _ (place : ℕ) (merge : MergeKind) (key_of : ModelItem → Key) (child : Network → StreamKey → Network) (known : KnownThere Goes (dispatched merge (router place key_of) child) F) where
@@ -307,13 +353,24 @@ module _ (g : View) (i : ℕ) (n : Node) (there : slice_get g.nodes i ≡ Some n
           (ap (λ (left : ℕ). router_of (Some (Net-F.Star place merge body exit guard)) left) same) aside
           (passes_as (Net-F.Star place merge body exit guard) is kind distinct own (none_passes (Net-F.Star place merge body exit guard) refl))
 
-  pub node_routed : KeepsAside n.state n.children → (run : Run) → g.run ≡ run → (P Q : ModelItem → Type 0) (conveys : Conveys Goes (tree (setting_of run) (net_of run)) P Q)
-      → RunKnown Goes (tree (setting_of run) (net_of run)) P Q conveys (running g) → IsRoutedNode g n
-  node_routed aside run same P Q conveys known =
-      let part_here : Network = fit (setting_of g.run) stands.form n.left in
-      by_form stands.form stands.is_form stands.has_kind (subst AreDistinct (keys-of-doors n.children) stands.keys) stands.own_first aside
-      (known-at Goes (tree (setting_of run) (net_of run)) P Q conveys (live_of g) (map step_of n.steps) part_here
-      (subst (λ (r : Run). at_steps (tree (setting_of r) (net_of r)) (map step_of n.steps) ≡ Some part_here) same stands.fits) known.live)
+  module _ (run : Run) (same : g.run ≡ run) (P Q : ModelItem → Type 0) (conveys : Conveys Goes (tree (setting_of run) (net_of run)) P Q)
+      (known : RunKnown Goes (tree (setting_of run) (net_of run)) P Q conveys (running g)) where
+    known_there : KnownThere Goes (fit (setting_of g.run) stands.form n.left) F
+    known_there =
+        let part_here : Network = fit (setting_of g.run) stands.form n.left in
+        known-at Goes (tree (setting_of run) (net_of run)) P Q conveys (live_of g) (map step_of n.steps) part_here
+        (subst (λ (r : Run). at_steps (tree (setting_of r) (net_of r)) (map step_of n.steps) ≡ Some part_here) same stands.fits) known.live
+
+    pub node_routed : KeepsAside n.state n.children → IsRoutedNode g n
+    node_routed aside = by_form stands.form stands.is_form stands.has_kind (subst AreDistinct (keys-of-doors n.children) stands.keys) stands.own_first aside known_there
+
+    pub record_fits : (p place number : ℕ) (r : Entries) → form_of g n ≡ Some (Net-F.Box place number) → slice_get n.waiting p ≡ Some (Plain (It (Rec r))) → TakesRecord (boxes_of run) number r
+    record_fits p place number r is_box waits =
+        let is : stands.form ≡ Net-F.Box place number = (let u : Some stands.form ≡ Some (Net-F.Box place number) = sym stands.is_form ∙ is_box in cc) in
+        let box_known = subst (λ (form : Net-F Net). KnownThere Goes (fit (setting_of g.run) form n.left) F) is known_there in
+        subst (λ (h : Run). TakesRecord (boxes_of h) number r) same
+        (answer_takes (boxes_of g.run) (fuel_of g.run) place number r
+        (each_there _ (map entry_of n.waiting) p (Rec r) (there-map entry_of n.waiting p (Plain (It (Rec r))) waits) (component_answers _ _ box_known)))
 
 -- After any list of events.
 module _ (run : Run) (formed : IsWellFormed (boxes_of run) (net_of run)) (typed : All (IsTyped (boxes_of run) (net_of run)) (input_of run)) where
@@ -348,7 +405,13 @@ module _ (run : Run) (formed : IsWellFormed (boxes_of run) (net_of run)) (typed 
       let stand = chained run g formed comes in
       let known = known_after g comes in
       record {
-        nodes = λ i n at. node_routed g i n at stand.placed (stays_aside run formed g comes i n at) run stand.same In Comes_out conveyed known;
+        nodes = λ i n at. node_routed g i n at stand.placed run stand.same In Comes_out conveyed known (stays_aside run formed g comes i n at);
         ready = going_entries g.ready (each_entry_more Comes_out Goes (of_goes _) (erased g.ready) known.ready);
         out = none_stuck g.out (each_more Comes_out Goes (of_goes _) g.out known.out);
       }
+
+  pub records_fit : (g : View) → Comes run g → (i : ℕ) (n : Node) → slice_get g.nodes i ≡ Some n → (p place number : ℕ) (r : Entries) → form_of g n ≡ Some (Net-F.Box place number)
+      → slice_get n.waiting p ≡ Some (Plain (It (Rec r))) → TakesRecord (boxes_of run) number r
+  records_fit g comes i n at p place number r is_box waits =
+      let stand = chained run g formed comes in
+      record_fits g i n at stand.placed run stand.same In Comes_out conveyed (known_after g comes) p place number r is_box waits

@@ -6,3 +6,7 @@ pub mod Seen
 pub mod Placed
 pub mod Chains
 pub mod Routed
+pub mod Calls
+pub mod Apart
+pub mod Touched
+pub mod Coming

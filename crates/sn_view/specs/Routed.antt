@@ -4,9 +4,12 @@ use Rattle.std.specs.List.{list_all}
 use Rattle.sn_streams.specs.Forks.{Router}
 use Rattle.sn_net.specs.declared.net.Net.{Net}
 use Rattle.sn_net.specs.declared.net.Net.TheOpen.{Net-F}
-use Rattle.sn_net.specs.Item.{ModelItem, is_stuck, holds_stuck}
+use Rattle.sn_record.specs.Record.{Entries}
+use Rattle.sn_net.specs.Item.{ModelItem, Rec, is_stuck, holds_stuck}
+use Rattle.sn_model.specs.Components.{box_item}
+use Rattle.sn_model.specs.Run.{boxes_of, fuel_of}
 use Rattle.sn_view.specs.View.{Entry, It, Mark, End, Waiting, Plain, InFlight, Finished, Turn, To, Own, Child, Node, View}
-use Rattle.sn_view.specs.Next.{local_of, routing_of}
+use Rattle.sn_view.specs.Next.{form_of, local_of, routing_of}
 use Rattle.sn_view.specs.Seen.{turns_of_state}
 
 abbrev pub is_going : Entry ModelItem → Bool
@@ -53,3 +56,8 @@ pub record AllRouted (g : View) : Type 0 where
   pub nodes : (i : ℕ) (n : Node) → slice_get g.nodes i ≡ Some n → IsRoutedNode g n
   pub ready : IsTrue (list_all is_going g.ready)
   pub out : holds_stuck g.out ≡ false
+
+-- a box answers no record that waits at it without a call with what is stuck
+abbrev pub BoxesAreFed : View → Type 0
+BoxesAreFed g = (i p place number : ℕ) (n : Node) (given : Entries) → slice_get g.nodes i ≡ Some n → form_of g n ≡ Some (Net-F.Box place number)
+    → slice_get n.waiting p ≡ Some (Plain (It (Rec given))) → holds_stuck (box_item (boxes_of g.run) (fuel_of g.run) place number (Rec given)) ≡ false
