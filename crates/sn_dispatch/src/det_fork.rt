@@ -39,6 +39,9 @@ impl Model for DetFork {
 }
 
 impl DetFork {
+    ghost use Rattle.std.specs.Prelude.{List};
+    ghost use Rattle.sn_dispatch.specs.declared.det_fork.Decision.{Decision};
+
     /// Nothing was decided yet. Takes no memory until something is noted.
     pub fn new(alloc: Global) -> DetFork
         ensures { result ≡ [] }
@@ -61,6 +64,24 @@ impl DetFork {
                 Err(value)
             }
         }
+    }
+
+    /// Puts another in place of the decision that was noted last.
+    pub fn set_last(&mut self, d: Decision)
+        ensures last { (ds : List Decision) (x : Decision) → self.old ≡ ds ++ x ∷ [] → self.new ≡ ds ++ d ∷ [] }
+        ensures none { self.old ≡ [] → self.new ≡ [] }
+    {
+        if self.decisions.pop_back().is_some() {
+            self.decisions.push_back_reserved(d);
+        }
+    }
+
+    /// Takes the decision that was noted last away again.
+    pub fn drop_last(&mut self)
+        ensures last { (ds : List Decision) (x : Decision) → self.old ≡ ds ++ x ∷ [] → self.new ≡ ds }
+        ensures none { self.old ≡ [] → self.new ≡ [] }
+    {
+        let _last = self.decisions.pop_back();
     }
 
     /// The decision that is to be served next.

@@ -81,6 +81,13 @@ impl FreeFork {
         self.input
     }
 
+    /// How many children there are.
+    pub fn len(&self) -> usize
+        ensures { result ≡ length self.now.children }
+    {
+        self.children.len()
+    }
+
     /// Whether the child stands in the output's epoch.
     pub fn may_take(&self, child: u64) -> bool
         ensures { result ≡ stands_at_output self.now child }

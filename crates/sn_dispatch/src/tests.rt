@@ -16,6 +16,20 @@ fn decisions_are_served_in_order(rt: HostRuntime) -> Result<(), Fail> {
     Ok(())
 }
 
+#[test]
+fn the_last_decision_is_changed(rt: HostRuntime) -> Result<(), Fail> {
+    let mut fork = DetFork::new(rt.alloc());
+    fork.set_last(Decision::End);
+    assert!(rt; fork.note(Decision::To(Key::Inside)).is_ok());
+    assert!(rt; fork.note(Decision::Mark).is_ok());
+    fork.set_last(Decision::End);
+    assert!(rt; fork.drop_first() == Some(Decision::To(Key::Inside)));
+    assert!(rt; fork.first() == Some(&Decision::End));
+    fork.drop_last();
+    assert!(rt; fork.first().is_none());
+    Ok(())
+}
+
 /// Notes that the child gave a mark, where it may be taken, and tells whether it may.
 fn marks(fork: &mut FreeFork, child: u64) -> bool {
     let may = fork.may_take(child);
@@ -39,6 +53,7 @@ fn the_output_waits_for_each_child(rt: HostRuntime) -> Result<(), Fail> {
     assert!(rt; fork.marks() == 1);
     // This child begins behind the mark, so the output's epoch does not wait for it.
     assert!(rt; fork.add_child() == Ok(2));
+    assert!(rt; fork.len() == 3);
     assert!(rt; !fork.may_take(2) && !fork.may_take(3));
     assert!(rt; marks(&mut fork, 0) && !fork.out_mark());
     assert!(rt; marks(&mut fork, 1) && fork.out_mark());
