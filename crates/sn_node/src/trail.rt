@@ -1,0 +1,73 @@
+//! The steps from a network to a part of it.
+ghost use Rattle.std.specs.Prelude.{[], ◌∷◌, ◌++◌, ◌≡◌, IfOk, length};
+
+use sn_list::Memory;
+use sn_view::Step;
+use std::alloc::Global;
+use std::marker::Model;
+use std::rc::Rc;
+
+/// The steps from a network to a part of it. Trails share their beginnings, so those to all levels of a star take memory in its depth.
+#[derive(Drop)]
+#[cycle(trail)]
+pub struct Trail {
+    last: Option<Rc<Link>>,
+}
+
+#[derive(Drop)]
+#[cycle(trail)]
+struct Link {
+    above: Trail,
+    step: Step,
+}
+
+impl Model for Trail {
+    ghost use Rattle.std.specs.Prelude.{List, length};
+    ghost use Rattle.std.specs.Coded.{coded_list};
+    ghost use Rattle.sn_view.specs.declared.step.Step.{Step};
+    ghost use Rattle.sn_view.specs.contracts.step.Step as step;
+
+    ghost Value = { List Step };
+
+    ghost coded = { coded_list step.the_row.coded };
+
+    ghost use Rattle.sn_node.specs.Trail.{steps_of};
+
+    ghost view = { λ trail. steps_of trail.last };
+
+    ghost size = { length };
+
+    ghost use Rattle.std.proofs.Common.{arith, length-append};
+
+    ghost size_decreases = { λ a h. Prim.grind (arith, length-append) };
+}
+
+impl Trail {
+    /// No step.
+    pub fn new() -> Trail
+        ensures { result ≡ [] }
+    {
+        Trail { last: None }
+    }
+
+    /// The same trail again, which shares all its steps.
+    pub fn share(&self) -> Result<Trail, Memory>
+        ensures { IfOk result (λ same. same ≡ self.now) }
+    {
+        match &self.last {
+            None => Ok(Trail { last: None }),
+            Some(link) => {
+                let link = link.clone()?;
+                Ok(Trail { last: Some(link) })
+            }
+        }
+    }
+
+    /// One step more.
+    pub fn further(self, alloc: Global, step: Step) -> Result<Trail, Memory>
+        ensures { IfOk result (λ longer. longer ≡ self ++ step ∷ []) }
+    {
+        let link = Rc::new(alloc, Link { above: self, step })?;
+        Ok(Trail { last: Some(link) })
+    }
+}
