@@ -1,0 +1,14 @@
+pub mod Grown
+pub mod Arena
+pub mod Quiet
+pub mod Room
+pub mod Unfolds
+pub mod Emitted
+pub mod Local
+pub mod Started
+pub mod Tabled
+pub mod Graph
+pub mod Ways
+pub mod Broadcast
+pub mod Event
+pub mod Once
