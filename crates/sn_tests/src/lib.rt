@@ -10,6 +10,8 @@ mod box_scope;
 #[cfg(test)]
 mod box_values;
 #[cfg(test)]
+mod boxrun;
+#[cfg(test)]
 mod files;
 #[cfg(test)]
 mod filter;
