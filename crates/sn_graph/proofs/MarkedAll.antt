@@ -3,6 +3,7 @@ use Rattle.std.proofs.Common.{◌≡◌, ℕ, zero, suc, ◌<◌, Bool, true, fa
 use Rattle.std.specs.Prelude.{slice_get, Option, Some, None, IfSome, unwrap_or}
 use Rattle.std.proofs.lemmas.Bool.{false≢true}
 use Rattle.std.proofs.lemmas.List.{length-map}
+use Rattle.std.proofs.lemmas.Option.{slice_get_within}
 use Rattle.sn_streams.specs.Forks.{Router}
 use Rattle.sn_net.specs.Dispatchers.{stream_key}
 use Rattle.sn_net.specs.Item.{ModelItem}
@@ -25,7 +26,7 @@ use Rattle.sn_graph.specs.declared.route.Way.{Way}
 use Rattle.sn_graph.proofs.Changes.{changes}
 use Rattle.sn_graph.proofs.Freely.{freely_after}
 use Rattle.sn_graph.proofs.Here.{here, with_node}
-use Rattle.sn_graph.proofs.Turning.{entry_goes, plain, there_within}
+use Rattle.sn_graph.proofs.Turning.{entry_goes, plain}
 
 -- CHANGES AT TWO PLACES
 changed-apart : {X : Type 0} (j i : ℕ) (h f : X → X) → ((j ≡ i) → ⊥) → (xs : List X) → changed_at i f (changed_at j h xs) ≡ changed_at j h (changed_at i f xs)
@@ -106,7 +107,7 @@ module _ (old new : Arena) (i : ℕ) (way : Way) (goes : Goes (view_of old) i wa
 
   pub marked_within : i < length new.nodes.items
   marked_within =
-      let below = there_within (view_of new).nodes i goes.node (still_there ∙ goes.there) in
+      let below = slice_get_within (view_of new).nodes i goes.node (still_there ∙ goes.there) in
       let long = length-map new.nodes.items node_of in
       omega (arith, below, long)
 

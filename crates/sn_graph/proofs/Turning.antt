@@ -18,6 +18,7 @@ use Rattle.sn_node.specs.Routes.{EntryGoes, GoesBy, item_sent}
 use Rattle.sn_net.specs.declared.routing.Key.{Key}
 use Rattle.sn_node.specs.States.{is_in_turn}
 use Rattle.std.proofs.lemmas.List.{length-map}
+use Rattle.std.proofs.lemmas.Option.{slice_get_within}
 use Rattle.sn_node.specs.declared.node.Node.{Node}
 use Rattle.sn_node.proofs.Routing.{route_after}
 use Rattle.sn_graph.specs.Arena.{view_of}
@@ -232,14 +233,9 @@ module _ (old new : Arena) (i : ℕ) (way : Way) (goes : Goes (view_of old) i wa
         ∙ turn_some (view_of old) i way goes (node_of b) own x decided y some
 
 -- the dispatcher is there
-pub there_within : (xs : List view.Node) (i : ℕ) (x : view.Node) → slice_get xs i ≡ Some x → i < length xs
-there_within [] i x there = absurd (cc)
-there_within (y ∷ ys) zero x there = omega arith
-there_within (y ∷ ys) (suc i) x there = let below : i < length ys = there_within ys i x there in omega (arith, below)
-
 pub way_within : (old : Arena) (i : ℕ) (way : Way) → Goes (view_of old) i way → i < length old.nodes.items
 way_within old i way goes =
-    let below = there_within (view_of old).nodes i goes.node goes.there in
+    let below = slice_get_within (view_of old).nodes i goes.node goes.there in
     let long = length-map old.nodes.items node_of in
     omega (arith, below, long)
 

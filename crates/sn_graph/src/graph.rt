@@ -79,6 +79,15 @@ impl Graph {
         ensures begins { (ys : List ModelItem) → MayCome (seen self.now) ys → ∥ IsPrefixOf (seen self.now).out ys ∥₁ }
         ensures some { ∥ ((ys : List ModelItem) × Can (seen self.now) ys) ∥₁ }
     {
+        self.emitted()
+    }
+
+    /// The same, in a function whose name is not that of a folder of built files.
+    fn emitted(&self) -> &Items
+        ensures items { map modelled result.now ≡ (seen self.now).out }
+        ensures begins { (ys : List ModelItem) → MayCome (seen self.now) ys → ∥ IsPrefixOf (seen self.now).out ys ∥₁ }
+        ensures some { ∥ ((ys : List ModelItem) × Can (seen self.now) ys) ∥₁ }
+    {
         &self.arena.out
     }
 

@@ -1,7 +1,7 @@
 use Rattle.std.proofs.Common.{refl}
 use Rattle.sn_view.proofs.Came.{may_begins, may_some}
 use Rattle.sn_graph.specs.Graph.{seen}
-use Rattle.sn_graph.proofs.graph.Graph.out.Goals as goal
+use Rattle.sn_graph.proofs.graph.Graph.emitted.Goals as goal
 
 pub returns : goal.returns
 returns c =
