@@ -20,7 +20,7 @@ use Rattle.sn_graph.specs.declared.event.Effect.{Effect}
 use Rattle.sn_graph.specs.declared.event.Event.{Event}
 
 -- nothing has changed where an event did not happen
-unchanged_by : (run : Run) (e : Event) (old new : View) (c : ApplyCause) → Happens run (happening_of e) old (Err c) new → new ≡ old
+pub unchanged_by : (run : Run) (e : Event) (old new : View) (c : ApplyCause) → Happens run (happening_of e) old (Err c) new → new ≡ old
 unchanged_by run e old new cause.NotEnabled is = is.same
 unchanged_by run e old new cause.Memory is = is
 

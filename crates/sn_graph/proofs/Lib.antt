@@ -23,3 +23,8 @@ pub mod MarkedAll
 pub mod CameHere
 pub mod Happening
 pub mod Applying
+pub mod Sizes
+pub mod Agendas
+pub mod Noting
+pub mod Nexts
+pub mod Known

@@ -6,6 +6,7 @@ use Rattle.sn_model.specs.declared.run.Run.{Run}
 use Rattle.sn_boxrun.specs.Job.{IsJobOf}
 use Rattle.sn_boxrun.specs.declared.job.Done.{Done}
 use Rattle.sn_boxrun.specs.declared.job.Job.{Job}
+use Rattle.sn_labels.specs.Flowing.{HasLabelsOf}
 use Rattle.sn_view.specs.Next.{HasCall, IsEnabled, Next, node_at}
 use Rattle.sn_view.specs.View as view
 use Rattle.sn_view.specs.View.{Happening, View}
@@ -47,6 +48,12 @@ ComesOf run (view.Route i) effect.Moved old new = Unit {0}
 ComesOf run (view.Unfold i) effect.Moved old new = Unit {0}
 ComesOf run (view.Merge i c) effect.Moved old new = Unit {0}
 ComesOf run e other old new = ⊥
+
+-- a call that is to be made has a record with only labels of the run
+abbrev pub HasCallLabels : Run → Effect → Type 0
+HasCallLabels run (effect.Call job) = HasLabelsOf run job.given
+HasCallLabels run (effect.Out x) = Unit {0}
+HasCallLabels run effect.Moved = Unit {0}
 
 -- the event happened
 pub record Happened (run : Run) (e : Happening) (old new : View) (effect : Effect) : Type 0 where

@@ -12,3 +12,4 @@ pub mod Ways
 pub mod Broadcast
 pub mod Event
 pub mod Once
+pub mod Listed

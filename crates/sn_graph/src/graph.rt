@@ -3,6 +3,7 @@ ghost use Rattle.sn_view.specs.Chains.{Comes};
 ghost use Rattle.std.specs.List.{All};
 ghost use Rattle.sn_graph.specs.Arena.{view_of};
 ghost use Rattle.sn_graph.specs.Grown.{IsOfRun};
+ghost use Rattle.sn_graph.specs.Listed.{IsListed};
 ghost use Rattle.sn_graph.specs.Once.{nodes_once};
 ghost use Rattle.sn_graph.specs.Tabled.{IsTabled};
 
@@ -21,18 +22,21 @@ pub struct Graph {
     pub ghost came: { ∥ Comes arena.run.value (view_of arena) ∥₁ },
     pub ghost of: { All (IsOfRun arena.run.value) arena.nodes.items } by { nodes_once _ _ },
     pub ghost tabled: { IsTabled arena },
+    pub ghost listed: { IsListed arena },
 }
 
 impl Graph {
-    ghost use Rattle.std.specs.Prelude.{◌≡◌, ◌<◌, ◌^◌, ◌↔◌, IfErr, IfOk, IsTrue, List, OnErr, OnOk, map, slice_get};
+    ghost use Rattle.std.specs.Prelude.{◌≡◌, ◌<◌, ◌^◌, ◌↔◌, IfErr, IfNone, IfOk, IfSome, IsTrue, List, OnErr, OnOk, false, map, slice_get};
     ghost use Rattle.std.specs.Option.{option_copied, option_map};
     ghost use Rattle.sn_net.specs.Item.{ModelItem, modelled};
     ghost use Rattle.sn_model.specs.Run.{MayGive};
     ghost use Rattle.sn_live.specs.Runs.{IsPrefixOf};
     ghost use Rattle.sn_view.specs.Coming.{MayCome};
-    ghost use Rattle.sn_view.specs.Next.{IsEnabled, Next, start_view};
+    ghost use Rattle.sn_view.specs.Next.{IsEnabled, Next, enabled, start_view};
+    ghost use Rattle.sn_view.specs.Placed.{AtRest};
+    ghost use Rattle.sn_view.specs.View.{Happening};
     ghost use Rattle.sn_view.specs.Seen.{Can};
-    ghost use Rattle.sn_graph.specs.Event.{ComesOf, IsEventOf, happening_of};
+    ghost use Rattle.sn_graph.specs.Event.{ComesOf, HasCallLabels, IsEventOf, happening_of};
     ghost use Rattle.sn_graph.specs.Graph.{IsGraphOf, seen};
     ghost use Rattle.sn_graph.specs.declared.event.ApplyCause.TheVariants as cause;
 
@@ -42,7 +46,8 @@ impl Graph {
         ensures view { IfOk result (λ graph. seen graph ≡ start_view run.now) }
         ensures can { IfOk result (λ graph. (ys : List ModelItem) → MayCome (seen graph) ys ↔ ∥ MayGive run.now ys ∥₁) }
     {
-        let arena = Arena::start(alloc, run)?;
+        let mut arena = Arena::start(alloc, run)?;
+        arena.settle(run);
         Ok(Graph { arena })
     }
 
@@ -64,13 +69,33 @@ impl Graph {
         ensures enabled { OnOk result (IsEnabled (seen self.old) (happening_of event)) }
         ensures next { OnOk result (seen self.new ≡ Next (seen self.old) (happening_of event)) }
         ensures comes { IfOk result (λ effect. ComesOf run.now (happening_of event) effect (seen self.old) (seen self.new)) }
+        ensures labels { IfOk result (HasCallLabels run.now) }
         ensures refused { IfErr result (λ fault. fault.cause ≡ cause.NotEnabled → IsEnabled (seen self.old) (happening_of event) → ⊥) }
         ensures back { IfErr result (λ fault. fault.event ≡ event) }
         ensures unchanged { OnErr result (seen self.new ≡ seen self.old) }
         ensures before { (ys : List ModelItem) → MayCome (seen self.new) ys → MayCome (seen self.old) ys }
         ensures of { IsGraphOf self.new run.now }
     {
-        self.arena.happen(alloc, run, event)
+        self.arena.apply(alloc, run, event)
+    }
+
+    /// What may happen, if anything but an answer to a call may. Takes no memory.
+    pub fn next_event(&self, run: &Run) -> Option<Event>
+        requires { IsGraphOf self.now run.now }
+        ensures some { IfSome result (λ event. IsEnabled (seen self.now) (happening_of event)) }
+        ensures of { IfSome result (IsEventOf run.now) }
+        ensures none { IfNone result ((e : Happening) → enabled (seen self.now) e ≡ false) }
+    {
+        self.arena.next_event(run)
+    }
+
+    /// Whether nothing may happen and no call is in flight. Then nothing can come but what was emitted. Takes no memory.
+    pub fn at_rest(&self, run: &Run) -> bool
+        requires { IsGraphOf self.now run.now }
+        ensures rest { IsTrue result ↔ AtRest (seen self.now) }
+        ensures only { IsTrue result → (ys : List ModelItem) → MayCome (seen self.now) ys → ys ≡ (seen self.now).out }
+    {
+        self.arena.next_event(run).is_none() && self.arena.none_in_flight()
     }
 
     /// All that was emitted. What can still come goes on from it, and something can.

@@ -6,6 +6,7 @@ ghost use Rattle.sn_view.specs.Next.{IsEnabled};
 ghost use Rattle.sn_view.specs.View as view;
 ghost use Rattle.sn_graph.specs.Arena.{IsOf, view_of};
 ghost use Rattle.sn_graph.specs.Event.{Applies, Happened, Happens, IsEventOf, IsRefused, counted, counted_as, finished_as, happening_of, refused_as};
+ghost use Rattle.sn_graph.specs.Listed.{KeepsStack, LeavesAgenda};
 ghost use Rattle.sn_graph.specs.Quiet.{IsQuiet};
 ghost use Rattle.sn_graph.specs.Started.{finish_of};
 ghost use Rattle.sn_graph.specs.Tabled.{IsTabled};
@@ -44,6 +45,7 @@ impl Arena {
         requires tabled { IsTabled self.old }
         ensures happens { Happens run.now view.Take (view_of self.old) result (view_of self.new) }
         ensures tabled { IsTabled self.new }
+        ensures agenda { self.new.agenda ≡ self.old.agenda }
         ensures of { IsOf self.new run.now }
     {
         let before = self.applied;
@@ -59,6 +61,7 @@ impl Arena {
         requires tabled { IsTabled self.old }
         ensures happens { Happens run.now (view.Local i) (view_of self.old) result (view_of self.new) }
         ensures tabled { IsTabled self.new }
+        ensures agenda { self.new.agenda ≡ self.old.agenda }
         ensures of { IsOf self.new run.now }
     {
         let before = self.applied;
@@ -74,6 +77,7 @@ impl Arena {
         requires tabled { IsTabled self.old }
         ensures happens { Happens run.now (view.Route i) (view_of self.old) result (view_of self.new) }
         ensures tabled { IsTabled self.new }
+        ensures agenda { self.new.agenda ≡ self.old.agenda }
         ensures of { IsOf self.new run.now }
     {
         let before = self.applied;
@@ -88,6 +92,7 @@ impl Arena {
         requires tabled { IsTabled self.old }
         ensures happens { Happens run.now (view.Unfold i) (view_of self.old) result (view_of self.new) }
         ensures tabled { IsTabled self.new }
+        ensures agenda { KeepsStack self.old self.new }
         ensures of { IsOf self.new run.now }
     {
         let before = self.applied;
@@ -103,6 +108,7 @@ impl Arena {
         requires tabled { IsTabled self.old }
         ensures happens { Happens run.now (view.Merge i c) (view_of self.old) result (view_of self.new) }
         ensures tabled { IsTabled self.new }
+        ensures agenda { self.new.agenda ≡ self.old.agenda }
         ensures of { IsOf self.new run.now }
     {
         let before = self.applied;
@@ -117,6 +123,7 @@ impl Arena {
         requires tabled { IsTabled self.old }
         ensures happens { Happens run.now view.Emit (view_of self.old) result (view_of self.new) }
         ensures tabled { IsTabled self.new }
+        ensures agenda { self.new.agenda ≡ self.old.agenda }
         ensures of { IsOf self.new run.now }
     {
         match self.emit(alloc) {
@@ -141,6 +148,7 @@ impl Arena {
         requires tabled { IsTabled self.old }
         ensures happens { Happens run.now (view.Start i) (view_of self.old) result (view_of self.new) }
         ensures tabled { IsTabled self.new }
+        ensures agenda { self.new.agenda ≡ self.old.agenda }
         ensures of { IsOf self.new run.now }
     {
         match self.start_call(run, i) {
@@ -164,6 +172,7 @@ impl Arena {
         ensures refused { OnErr result (IsRefused (finish_of done.job) (view_of self.old) (view_of self.new)) }
         ensures back { IfErr result (λ back. back ≡ done) }
         ensures tabled { IsTabled self.new }
+        ensures agenda { self.new.agenda ≡ self.old.agenda }
         ensures of { IsOf self.new run.now }
     {
         self.finish(run, done)?;
@@ -203,6 +212,7 @@ impl Arena {
         requires done { IsEventOf run.now event }
         ensures applies { Applies run.now event (view_of self.old) result (view_of self.new) }
         ensures tabled { IsTabled self.new }
+        ensures agenda { LeavesAgenda (happening_of event) self.old self.new }
         ensures of { IsOf self.new run.now }
     {
         let answer = match event {

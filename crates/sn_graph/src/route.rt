@@ -33,7 +33,7 @@ pub(crate) struct Way {
 
 impl Arena {
     /// Where the first entry of the dispatcher at a node goes, if its child is there.
-    fn way(&self, run: &Run, i: usize) -> Option<Way>
+    pub(crate) fn way(&self, run: &Run, i: usize) -> Option<Way>
         requires { IsOf self.now run.now }
         ensures { MatchOption result (enabled (view_of self.now) (Route i) ≡ false) (Goes (view_of self.now) i) }
     {
@@ -136,7 +136,7 @@ impl Arena {
     }
 
     /// Whether the first entry of a node is a mark.
-    fn has_mark_first(&self, i: usize) -> bool
+    pub(crate) fn has_mark_first(&self, i: usize) -> bool
         requires { i < length self.now.nodes.items }
         ensures { result ≡ is_mark_at i (view_of self.now) }
     {

@@ -84,6 +84,8 @@ fn fault_passes(alloc: Global, graph: &mut Graph, run: &Run) -> bool
     let filter = 0;
     graph.enabled(run, &Event::Take)
         && !graph.enabled(run, &Event::Emit)
+        && matches!(graph.next_event(run), Some(Event::Take))
+        && !graph.at_rest(run)
         && moves(alloc, graph, run, Event::Take)
         && moves(alloc, graph, run, Event::Local { node: filter })
         && gives_fault(alloc, graph, run)
@@ -91,6 +93,8 @@ fn fault_passes(alloc: Global, graph: &mut Graph, run: &Run) -> bool
         && moves(alloc, graph, run, Event::Local { node: filter })
         && moves(alloc, graph, run, Event::Emit)
         && !moves(alloc, graph, run, Event::Emit)
+        && graph.next_event(run).is_none()
+        && graph.at_rest(run)
         && graph.applied() == 6
         && graph.out().len() == 1
 }

@@ -1,5 +1,5 @@
 //! Numbers that are to be looked at.
-ghost use Rattle.std.specs.Prelude.{[], ◌≡◌, ◌==◌, ◌+◌, ◌++◌, ◌<◌, ◌≤◌, IfSome, MatchOption, OnOk, false, length, true, ℕ};
+ghost use Rattle.std.specs.Prelude.{[], ◌≡◌, ◌==◌, ◌+◌, ◌++◌, ◌<◌, ◌≤◌, IfNone, MatchOption, OnOk, false, length, true, ℕ};
 ghost use Rattle.std.specs.Option.{option_to_list};
 ghost use Rattle.std.specs.Vec.{vec_capacity};
 ghost use Rattle.sn_node.specs.Agenda.{AreMarked, is_listed, unlisted};
@@ -59,16 +59,21 @@ impl Agenda {
         }
     }
 
-    /// The number that was listed last.
-    pub fn top(&self) -> Option<usize>
-        ensures { IfSome result (λ i. is_listed i self.now.stack.items ≡ true) }
+    /// Lists a number, if it is below the bound.
+    pub fn list_if_below(&mut self, i: usize)
+        ensures listed { i < length self.old.listed.items → is_listed i self.new.stack.items ≡ true }
+        ensures others { (j : ℕ) → is_listed j self.old.stack.items ≡ true → is_listed j self.new.stack.items ≡ true }
+        ensures bound { length self.new.listed.items ≡ length self.old.listed.items }
     {
-        self.stack.last().copied()
+        if i < self.listed.len() {
+            self.list(i);
+        }
     }
 
     /// Takes the number that was listed last off the list.
     pub fn pop(&mut self) -> Option<usize>
         ensures items { self.old.stack.items ≡ self.new.stack.items ++ option_to_list result }
+        ensures none { IfNone result (self.old.stack.items ≡ []) }
         ensures others { MatchOption result (self.new.stack.items ≡ self.old.stack.items) (λ i. (j : ℕ) → is_listed j self.old.stack.items ≡ true → (j == i) ≡ false → is_listed j self.new.stack.items ≡ true) }
         ensures bound { length self.new.listed.items ≡ length self.old.listed.items }
     {

@@ -81,7 +81,6 @@ fn is_dispatching(net: &Net) -> bool
 impl Node {
     /// The key by which the first entry goes, where it is a dispatcher with a first entry.
     pub fn next_key(&self, run: &Run) -> Option<Key>
-        requires of { self.now.made.run.value ≡ run.now }
         ensures { MatchOption result (routing_at (form_at (net_of run.now) self.now.made.path) (node_of self.now) ≡ None) (GoesBy (routing_at (form_at (net_of run.now) self.now.made.path) (node_of self.now))) }
     {
         let Some(part) = part_at(run.net(), self.made.path.as_slice()) else {

@@ -35,4 +35,5 @@ pub use node::{Made, Node, State, Target};
 pub use parts::part_at;
 pub use queue::Queue;
 pub use route_free::Sent;
+pub use sn_view::Step;
 pub use trail::Trail;

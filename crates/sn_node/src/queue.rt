@@ -1,5 +1,5 @@
 //! What waits at a node, in order.
-ghost use Rattle.std.specs.Prelude.{if◌then◌else◌, ◌≡◌, ◌<◌, ◌≤◌, ◌+◌, ◌-◌, ◌++◌, ◌∷◌, [], IfNone, IfSome, MatchOption, OnErr, OnOk, Some, false, length, ℕ, slice_get, slice_set, take, true};
+ghost use Rattle.std.specs.Prelude.{if◌then◌else◌, ◌≡◌, ◌<◌, ◌≤◌, ◌+◌, ◌-◌, ◌%◌, ◌^◌, ◌++◌, ◌∷◌, [], IfNone, IfSome, MatchOption, OnErr, OnOk, Some, false, length, ℕ, slice_get, slice_set, take, true};
 ghost use Rattle.std.specs.List.{list_any};
 ghost use Rattle.std.specs.Option.{option_copied};
 ghost use Rattle.sn_node.specs.declared.entry.Waiting.{Waiting};
@@ -151,12 +151,16 @@ impl Queue {
     }
 
     /// The ticket of the entry at `p`.
-    pub fn ticket(&self, p: usize) -> u64 {
+    pub fn ticket(&self, p: usize) -> u64
+        ensures { result ≡ (self.now.gone + p) % 2 ^ 64 }
+    {
         self.gone.wrapping_add(p as u64)
     }
 
     /// Where the entry with this ticket stands, if it is still there.
-    pub fn place(&self, ticket: u64) -> usize {
+    pub fn place(&self, ticket: u64) -> usize
+        ensures { result ≡ (ticket + 2 ^ 64 - self.now.gone) % 2 ^ 64 }
+    {
         ticket.wrapping_sub(self.gone) as usize
     }
 

@@ -1,5 +1,5 @@
 //! The steps from a network to a part of it.
-ghost use Rattle.std.specs.Prelude.{[], ◌∷◌, ◌++◌, ◌≡◌, IfOk, length};
+ghost use Rattle.std.specs.Prelude.{[], ◌∷◌, ◌++◌, ◌≡◌, IfOk, MatchOption, length};
 
 use sn_list::Memory;
 use sn_view::Step;
@@ -48,6 +48,16 @@ impl Trail {
         ensures { result ≡ [] }
     {
         Trail { last: None }
+    }
+
+    /// The last step, and the trail to where it begins. From there the step before can be had, and so on. It wants no memory.
+    pub fn last(&self) -> Option<(&Trail, Step)>
+        ensures { MatchOption result (self.now ≡ []) (λ last. self.now ≡ last.0.now ++ last.1 ∷ []) }
+    {
+        match &self.last {
+            None => None,
+            Some(link) => Some((&link.above, link.step)),
+        }
     }
 
     /// The same trail again, which shares all its steps.
