@@ -1,5 +1,7 @@
 use crate::text::records;
-use sn_output::line_of;
+use sn_io::MemSink;
+use sn_list::Memory;
+use sn_output::{LineFault, LineSink, line_of};
 use std::alloc::Global;
 use std::test::Fail;
 
@@ -41,5 +43,41 @@ fn records_are_printed_in_order_of_their_names(rt: HostRuntime) -> Result<(), Fa
     for (text, line) in table {
         assert!(rt; prints(rt.alloc(), text, &[line])?);
     }
+    Ok(())
+}
+
+/// What a sink that takes a few bytes a call holds behind the lines of the text's records, up to the first that was not written, and
+/// whether that was for a failing sink.
+fn written(alloc: Global, text: &str, failing_call: Option<u64>) -> Result<(Vec<u8>, bool), Fail> {
+    let input = records(alloc, text)?;
+    let mut sink = MemSink::new(alloc, 3);
+    sink.reserve(100)?;
+    if let Some(call) = failing_call {
+        sink.fail_at(call)?;
+    }
+    let mut lines = LineSink {
+        sink: &mut sink,
+        names: &input.names,
+    };
+    let mut failed = false;
+    for record in input.records.as_slice() {
+        match lines.line(alloc, record) {
+            Ok(()) => {}
+            Err(LineFault::Memory) => return Err(Memory.into()),
+            Err(LineFault::WriteFault) => {
+                failed = true;
+                break;
+            }
+        }
+    }
+    Ok((Vec::from_slice(alloc, sink.held())?, failed))
+}
+
+#[test]
+fn lines_are_written_whole_where_the_sink_does_not_fail(rt: HostRuntime) -> Result<(), Fail> {
+    let (whole, failed) = written(rt.alloc(), "{<t>=7}\n{}", None)?;
+    assert!(rt; !failed && whole.as_slice() == b"{<t>=7}\n{}\n".as_slice());
+    let (part, failed) = written(rt.alloc(), "{<t>=7}\n{}", Some(2))?;
+    assert!(rt; failed && part.as_slice() == b"{<t".as_slice());
     Ok(())
 }
