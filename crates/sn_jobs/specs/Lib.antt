@@ -1,0 +1,4 @@
+pub mod Rule
+pub mod Queues
+pub mod Ends
+pub mod Coding
