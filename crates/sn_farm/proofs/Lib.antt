@@ -1,0 +1,4 @@
+mod Crossing
+mod Ending
+mod Leaving
+mod Turning

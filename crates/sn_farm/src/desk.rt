@@ -1,0 +1,88 @@
+//! Where the owner of the graph gives calls away, or makes them itself.
+ghost use Rattle.std.specs.Prelude.{◌≡◌, ℕ, List, Option};
+ghost use Rattle.sn_boxrun.specs.Job.{IsJobOf};
+ghost use Rattle.sn_graph.specs.Graph.{IsGraphOf, seen};
+ghost use Rattle.sn_jobs.specs.Queues.{IsDoneOf};
+ghost use Rattle.sn_farm.specs.Desks.{IsDeskOf};
+ghost use Rattle.sn_farm.specs.Turns.{Goes, shows};
+
+use crate::apply::apply;
+use crate::hall::Hall;
+use crate::outcome::Outcome;
+use sn_boxrun::{Done, Job};
+use sn_graph::{ApplyCause, Event, Graph};
+use sn_io::Gate;
+use sn_jobs::{JobHand, JobOwner};
+use std::sync::Wait;
+
+/// What came of a turn of the owner.
+#[derive(Clone, Copy)]
+pub enum Turn {
+    /// Something was done.
+    Went,
+    /// There is nothing to do until an answer comes.
+    Idle,
+    Ended(Outcome),
+}
+
+/// The owner's ends of both queues. With a hand of its own it takes a call back that no worker has taken yet, when there is nothing else
+/// to do: so one more call runs at a time, and all calls are made even if no worker could be started.
+#[derive(Drop)]
+pub struct Desk {
+    pub owner: JobOwner,
+    pub hand: JobHand,
+    /// Whether there is no other worker.
+    pub alone: bool,
+}
+
+/// Applies an answer. One that answers no call in flight is dropped.
+pub fn finish<R: Wait, G: Gate>(rt: &R, hall: &Hall<G>, graph: &mut Graph, done: Done) -> Turn
+    requires of { IsGraphOf graph.old hall.now.run.now.value }
+    requires done { IsDoneOf hall.now.run.now.value done }
+    ensures of { IsGraphOf graph.new hall.now.run.now.value }
+    ensures goes { (names : List (List ℕ)) (held : Option (List ℕ)) (faults : ℕ) → Goes names (shows (seen graph.old) held faults) (shows (seen graph.new) held faults) result }
+{
+    match apply(rt, hall.alloc, hall.run, graph, Event::Finish { done }) {
+        Ok(_) | Err(ApplyCause::NotEnabled) => Turn::Went,
+        Err(ApplyCause::Memory) => Turn::Ended(Outcome::Memory),
+    }
+}
+
+/// Makes a call in this thread, and applies its answer.
+pub fn call_here<R: Wait, G: Gate>(rt: &R, hall: &Hall<G>, graph: &mut Graph, job: Job) -> Turn
+    requires of { IsGraphOf graph.old hall.now.run.now.value }
+    requires job { IsJobOf hall.now.run.now.value job }
+    ensures of { IsGraphOf graph.new hall.now.run.now.value }
+    ensures goes { (names : List (List ℕ)) (held : Option (List ℕ)) (faults : ℕ) → Goes names (shows (seen graph.old) held faults) (shows (seen graph.new) held faults) result }
+{
+    match hall.make_call(job) {
+        Ok(done) => finish(rt, hall, graph, done),
+        Err(_) => Turn::Ended(Outcome::Memory),
+    }
+}
+
+impl Desk {
+    /// Gives a call to the workers. It is made here if the queue is full, or if there is no worker.
+    pub fn give<R: Wait, G: Gate>(
+        &mut self,
+        rt: &R,
+        hall: &Hall<G>,
+        graph: &mut Graph,
+        job: Job,
+    ) -> Turn
+        requires desk { IsDeskOf hall.now.run.now.value self.old }
+        requires of { IsGraphOf graph.old hall.now.run.now.value }
+        requires job { IsJobOf hall.now.run.now.value job }
+        ensures desk { IsDeskOf hall.now.run.now.value self.new }
+        ensures of { IsGraphOf graph.new hall.now.run.now.value }
+        ensures goes { (names : List (List ℕ)) (held : Option (List ℕ)) (faults : ℕ) → Goes names (shows (seen graph.old) held faults) (shows (seen graph.new) held faults) result }
+    {
+        if self.alone {
+            return call_here(rt, hall, graph, job);
+        }
+        match self.owner.give(rt, job) {
+            Ok(()) => Turn::Went,
+            Err(job) => call_here(rt, hall, graph, job),
+        }
+    }
+}

@@ -1,0 +1,164 @@
+//! A graph driven to its end with workers.
+ghost use Rattle.std.specs.Prelude.{◌≡◌, ◌≤◌, IfOk, List, None, Some};
+ghost use Rattle.sn_record.specs.declared.item.Fault.{Fault};
+ghost use Rattle.sn_net.specs.Item.{ModelItem};
+ghost use Rattle.sn_io.specs.Causes.{Rose};
+ghost use Rattle.sn_io.specs.Told.{AppendsPrefix};
+ghost use Rattle.sn_output.specs.Printed.{ending, printed};
+ghost use Rattle.sn_model.specs.Run.{MayGive};
+ghost use Rattle.sn_view.specs.Coming.{MayCome};
+ghost use Rattle.sn_view.specs.Next.{start_view};
+ghost use Rattle.sn_view.specs.Seen.{Can};
+ghost use Rattle.sn_graph.specs.Graph.{IsGraphOf, seen};
+ghost use Rattle.sn_farm.specs.Desks.{IsDeskOf};
+ghost use Rattle.sn_farm.specs.Farmed.{IsFaulted, IsWhole, Prints};
+ghost use Rattle.sn_farm.specs.Turns.{Goes, shows};
+ghost use Rattle.sn_farm.specs.declared.desk.Turn.TheVariants.{Ended};
+ghost use Rattle.sn_farm.specs.declared.outcome.Outcome.TheVariants as outcome;
+
+use crate::desk::Desk;
+use crate::drive::drive;
+use crate::hall::Hall;
+use crate::outcome::Outcome;
+use crate::signals::Signals;
+use crate::work::help;
+use sn_graph::Graph;
+use sn_io::{Gate, Sink};
+use sn_jobs::{JobHand, make};
+use sn_list::Memory;
+use sn_model::Run;
+use sn_output::LineSink;
+use std::alloc::Global;
+use std::sync::{Arc, Wait};
+use std::thread::{Threads, join_mut};
+
+/// The owner's desk, and the hand of the workers.
+fn open(alloc: Global, run: &Arc<Run>, alone: bool) -> Result<(Desk, JobHand), Memory>
+    ensures desk { IfOk result (λ made. IsDeskOf run.now.value made.0) }
+    ensures hand { IfOk result (λ made. made.1.made.run ≡ run.now.value) }
+{
+    let (owner, mut theirs) = make(alloc, run, run.queue())?;
+    let hand = theirs.split()?;
+    let desk = Desk { owner, hand, alone };
+    Ok((desk, theirs))
+}
+
+/// Drives a graph while other threads make calls.
+fn drive_with<R: Threads + Wait + Sync, S: Sink, G: Gate>(
+    rt: &R,
+    hall: &Hall<G>,
+    desk: &mut Desk,
+    theirs: &mut JobHand,
+    workers: u32,
+    graph: &mut Graph,
+    out: &mut LineSink<S>,
+) -> Outcome
+    requires desk { IsDeskOf hall.now.run.now.value desk.old }
+    requires hand { theirs.old.made.run ≡ hall.now.run.now.value }
+    requires of { IsGraphOf graph.old hall.now.run.now.value }
+    ensures of { IsGraphOf graph.new hall.now.run.now.value }
+    ensures goes { Goes out.old.names.now (shows (seen graph.old) (S.held out.old.sink.now) (S.faults out.old.sink.now)) (shows (seen graph.new) (S.held out.new.sink.now) (S.faults out.new.sink.now)) (Ended result) }
+    ensures names { out.new.names.now ≡ out.old.names.now }
+{
+    let ((), outcome) = join_mut(
+        rt,
+        &mut ||
+            requires { theirs.now.made.run ≡ hall.now.run.now.value }
+        { help(rt, hall, theirs, workers) },
+        &mut || -> Outcome
+            requires { IsDeskOf hall.now.run.now.value desk.now × IsGraphOf graph.now hall.now.run.now.value }
+            ensures of { IsGraphOf graph.exit.now hall.entry.now.run.now.value }
+            ensures goes { Goes out.entry.now.names.now (shows (seen graph.entry.now) (S.held out.entry.now.sink.now) (S.faults out.entry.now.sink.now)) (shows (seen graph.exit.now) (S.held out.exit.now.sink.now) (S.faults out.exit.now.sink.now)) (Ended result) }
+            ensures names { out.exit.now.names.now ≡ out.entry.now.names.now }
+        {
+            let outcome = drive(rt, hall, desk, graph, out);
+            hall.signals.end();
+            outcome
+        },
+    );
+    outcome
+}
+
+/// Drives a graph with all that a run needs, alone or with others.
+fn drive_all<R: Threads + Wait + Sync, S: Sink, G: Gate>(
+    rt: &R,
+    hall: &Hall<G>,
+    workers: u32,
+    graph: &mut Graph,
+    out: &mut LineSink<S>,
+) -> Outcome
+    requires of { IsGraphOf graph.old hall.now.run.now.value }
+    ensures of { IsGraphOf graph.new hall.now.run.now.value }
+    ensures goes { Goes out.old.names.now (shows (seen graph.old) (S.held out.old.sink.now) (S.faults out.old.sink.now)) (shows (seen graph.new) (S.held out.new.sink.now) (S.faults out.new.sink.now)) (Ended result) }
+    ensures names { out.new.names.now ≡ out.old.names.now }
+{
+    let alone = workers < 2;
+    let Ok((mut desk, mut theirs)) = open(hall.alloc, hall.run, alone) else {
+        return Outcome::Memory;
+    };
+    if alone {
+        return drive(rt, hall, &mut desk, graph, out);
+    }
+    drive_with(rt, hall, &mut desk, &mut theirs, workers, graph, out)
+}
+
+/// Drives a graph to its end, at which nothing was applied yet. The calling thread applies events and writes the line of each record that
+/// comes out, at once. It gives calls to the workers, of which it is one: at most `workers` calls run at a time. The run ends at the first
+/// fault. Where threads can't be started it goes on with fewer.
+///
+/// A graph to which 2^62 events happened does nothing more, and the call does not return.
+pub fn farm_drive<R: Threads + Wait + Sync, S: Sink, G: Gate>(
+    rt: &R,
+    alloc: Global,
+    run: &Arc<Run>,
+    graph: &mut Graph,
+    workers: u32,
+    gate: &G,
+    out: &mut LineSink<S>,
+) -> Outcome
+    requires started { seen graph.old ≡ start_view run.now.value }
+    requires workers { (1 ≤ workers) × (workers ≤ 64) }
+    ensures of { IsGraphOf graph.new run.now.value }
+    ensures can { (ys : List ModelItem) → MayCome (seen graph.new) ys → MayCome (seen graph.old) ys }
+    ensures some { ∥ ((ys : List ModelItem) × Can (seen graph.new) ys) ∥₁ }
+    ensures written { AppendsPrefix (S.held out.old.sink.now) (S.held out.new.sink.now) (printed out.old.names.now (seen graph.new).out) }
+    ensures whole { result ≡ outcome.Whole → IsWhole out.old.names.now (seen graph.new) (S.held out.old.sink.now) (S.held out.new.sink.now) }
+    ensures first { (fault : Fault) → ending (seen graph.new).out ≡ Some fault → result ≡ outcome.Faulted fault }
+    ensures faulted { (fault : Fault) → result ≡ outcome.Faulted fault → IsFaulted out.old.names.now fault (seen graph.new) (S.held out.old.sink.now) (S.held out.new.sink.now) }
+    ensures rose { result ≡ outcome.WriteFault → Rose (S.faults out.old.sink.now) (S.faults out.new.sink.now) }
+    ensures later { S.faults out.old.sink.now ≤ S.faults out.new.sink.now }
+    ensures names { out.new.names.now ≡ out.old.names.now }
+{
+    let hall = Hall {
+        alloc,
+        run,
+        gate,
+        signals: Signals::new(),
+    };
+    let outcome = drive_all(rt, &hall, workers, graph, out);
+    let _out = graph.out();
+    outcome
+}
+
+/// Starts a graph of the run and drives it to its end.
+pub fn farm_run<R: Threads + Wait + Sync, S: Sink, G: Gate>(
+    rt: &R,
+    alloc: Global,
+    run: &Arc<Run>,
+    workers: u32,
+    gate: &G,
+    out: &mut LineSink<S>,
+) -> Outcome
+    requires { (1 ≤ workers) × (workers ≤ 64) }
+    ensures part { ∥ ((ys : List ModelItem) × MayGive run.now.value ys × AppendsPrefix (S.held out.old.sink.now) (S.held out.new.sink.now) (printed out.old.names.now ys)) ∥₁ }
+    ensures whole { result ≡ outcome.Whole → ∥ ((ys : List ModelItem) × MayGive run.now.value ys × Prints out.old.names.now ys None (S.held out.old.sink.now) (S.held out.new.sink.now)) ∥₁ }
+    ensures faulted { (fault : Fault) → result ≡ outcome.Faulted fault → ∥ ((ys : List ModelItem) × MayGive run.now.value ys × Prints out.old.names.now ys (Some fault) (S.held out.old.sink.now) (S.held out.new.sink.now)) ∥₁ }
+    ensures rose { result ≡ outcome.WriteFault → Rose (S.faults out.old.sink.now) (S.faults out.new.sink.now) }
+    ensures later { S.faults out.old.sink.now ≤ S.faults out.new.sink.now }
+    ensures names { out.new.names.now ≡ out.old.names.now }
+{
+    match Graph::start(alloc, run) {
+        Ok(mut graph) => farm_drive(rt, alloc, run, &mut graph, workers, gate, out),
+        Err(_) => Outcome::Memory,
+    }
+}

@@ -1,0 +1,20 @@
+//! The tests of the queues of jobs and of the farm, over sources and inputs as they are written. They stand above all crates that a source
+//! needs, and nothing but the tests is proved here.
+#![tactic(auto)]
+
+#[cfg(test)]
+mod holding;
+#[cfg(test)]
+mod jobs;
+#[cfg(test)]
+mod load;
+#[cfg(test)]
+mod program;
+#[cfg(test)]
+mod refusal;
+#[cfg(test)]
+mod runs;
+#[cfg(test)]
+mod tests;
+#[cfg(test)]
+mod typed;

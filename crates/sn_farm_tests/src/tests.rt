@@ -1,0 +1,88 @@
+use crate::holding::run_at_once;
+use crate::runs::{are_as_once, ends_behind, prints_one_of};
+use std::test::*;
+
+const TILES: &str =
+    "box cut ((v) -> (l,<w>) | (r,<w>)) { out 1(at(v, 0), 0); out 2(at(v, 1), 1) } box left ((l) -> (p)) { out 1(l * l) } box right ((r) -> (q)) { out 1(r + 1) } net main ({v,<id>} -> {p,q,<id>}) connect cut .. ((left || right) !! <w>) .. (([|{p},{q}|] ** {p,q}) !! <id>);";
+
+const TILES_INPUT: &str = "{v=[1, 1], <id>=1}\n{v=[2, 2], <id>=2}\n{v=[3, 3], <id>=3}\n";
+
+const FAULT: &str =
+    "net main ({a,<d>} | {b} -> {x}) connect [{a,<d>} -> {x=a,<q>=10/<d>}] || [{b} -> {x=b}];";
+
+const FAULT_INPUT: &str = "{b=1}\n{a=2, <d>=0}\n{b=3}\n";
+
+const IN_ORDER: &str =
+    "box p ((a) -> (x)) { out 1(a) } box q ((b) -> (x)) { out 1(b) } box r ((c) -> (x)) { out 1(c) } box s ((d) -> (x)) { out 1(d) } net main ({a} | {b} | {c} | {d} -> {x}) connect p || q || r || s;";
+
+const FREE: &str =
+    "box p ((a) -> (x)) { out 1(a) } box q ((b) -> (x)) { out 1(b) } box r ((c) -> (x)) { out 1(c) } box s ((d) -> (x)) { out 1(d) } net main ({a} | {b} | {c} | {d} -> {x}) connect p | q | r | s;";
+
+/// A call that is held longer than this many turns has failed the test.
+const LIMIT: u64 = 1_000_000;
+
+#[test]
+fn workers_print_as_one_thread(rt: HostRuntime) -> Result<(), Fail> {
+    let same = are_as_once(&rt, rt.alloc(), TILES, TILES_INPUT, 16);
+    assert!(rt; matches!(same, Ok(true)));
+    Ok(())
+}
+
+#[test]
+fn a_queue_may_have_room_for_one(rt: HostRuntime) -> Result<(), Fail> {
+    let same = are_as_once(&rt, rt.alloc(), TILES, TILES_INPUT, 1);
+    assert!(rt; matches!(same, Ok(true)));
+    Ok(())
+}
+
+#[test]
+fn a_free_choice_prints_what_it_may(rt: HostRuntime) -> Result<(), Fail> {
+    let input = "{a=1}\n{b=2}\n{a=3}\n";
+    let texts = [
+        "{x=1}\n{x=2}\n{x=3}\n",
+        "{x=1}\n{x=3}\n{x=2}\n",
+        "{x=2}\n{x=1}\n{x=3}\n",
+    ];
+    for workers in [1, 2, 8] {
+        let one = prints_one_of(&rt, rt.alloc(), FREE, input, workers, &texts);
+        assert!(rt; matches!(one, Ok(true)));
+    }
+    Ok(())
+}
+
+#[test]
+fn printing_ends_at_a_fault(rt: HostRuntime) -> Result<(), Fail> {
+    let same = are_as_once(&rt, rt.alloc(), FAULT, FAULT_INPUT, 16);
+    assert!(rt; matches!(same, Ok(true)));
+    Ok(())
+}
+
+#[test]
+fn a_run_ends_where_the_sink_fails(rt: HostRuntime) -> Result<(), Fail> {
+    let ended = ends_behind(&rt, rt.alloc(), TILES, TILES_INPUT, 4, 2);
+    assert!(rt; matches!(ended, Ok(true)));
+    Ok(())
+}
+
+#[test]
+fn four_workers_call_three_at_once(rt: HostRuntime) -> Result<(), Fail> {
+    let in_order = run_at_once(&rt, rt.alloc(), IN_ORDER, 4, 3, LIMIT);
+    assert!(rt; matches!(in_order, Ok(true)));
+    let free = run_at_once(&rt, rt.alloc(), FREE, 4, 3, LIMIT);
+    assert!(rt; matches!(free, Ok(true)));
+    Ok(())
+}
+
+#[test]
+fn two_workers_never_call_three_at_once(rt: HostRuntime) -> Result<(), Fail> {
+    let met = run_at_once(&rt, rt.alloc(), IN_ORDER, 2, 3, 1_000);
+    assert!(rt; matches!(met, Ok(false)));
+    Ok(())
+}
+
+#[test]
+fn one_worker_never_calls_two_at_once(rt: HostRuntime) -> Result<(), Fail> {
+    let met = run_at_once(&rt, rt.alloc(), IN_ORDER, 1, 2, 1_000);
+    assert!(rt; matches!(met, Ok(false)));
+    Ok(())
+}
