@@ -12,11 +12,11 @@ use sn_stack::append;
 use std::alloc::Global;
 
 /// Whether the record matches one of the variants.
-fn is_of_type(variants: &[LabelSet], record: &Record) -> bool
-    ensures { IsTrue result → IsOfType variants.now record.now }
+fn is_of_type(variants: &[LabelSet], given: &Record) -> bool
+    ensures { IsTrue result → IsOfType variants.now given.now }
 {
     for variant in variants {
-        if record.matches(variant) {
+        if given.matches(variant) {
             return true;
         }
     }
