@@ -1,2 +1,1 @@
 mod Driven
-mod Matched

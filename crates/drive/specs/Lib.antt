@@ -1,3 +1,2 @@
 pub mod Driven
 pub mod Shown
-pub mod Typed

@@ -1,18 +1,12 @@
 //! From the bytes of a source and of an input to a run.
-ghost use Rattle.std.specs.Prelude.{◌≤◌, length};
-
 use crate::command::Limits;
-use crate::program::{Program, program_of};
 use crate::refusal::Refusal;
-use crate::typed::items_of;
-use sn_input::{Input, read_records};
+use sn_input::Input;
+use sn_load::{INPUT_LIMIT, Program, SOURCE_LIMIT, items_of, load_source, read_input};
 use sn_model::Run;
 use sn_names::Names;
 use sn_net::Claim;
 use std::alloc::Global;
-
-/// The most bytes of a record file.
-const INPUT_LIMIT: usize = 16_777_216;
 
 /// How many entries a queue between two threads holds. There are none here.
 const QUEUE: u32 = 16;
@@ -24,22 +18,21 @@ pub struct Loaded {
     pub names: Names,
 }
 
-fn read(alloc: Global, input: &[u8], names: Names) -> Result<Input, Refusal> {
-    if input.len() > INPUT_LIMIT {
-        return Err(Refusal::Input);
-    }
-    Ok(read_records(alloc, input, names)?)
-}
-
 /// The run of the main claim of a source over the records of an input.
 pub fn load(alloc: Global, source: &[u8], input: &[u8], limits: Limits) -> Result<Loaded, Refusal> {
+    if source.len() as u64 > SOURCE_LIMIT {
+        return Err(Refusal::Source);
+    }
     let Program {
         names,
         boxes,
         claim,
-    } = program_of(alloc, source)?;
-    let Input { records, names, .. } = read(alloc, input, names)?;
-    let items = items_of(alloc, &boxes, &claim, records)?;
+    } = load_source(alloc, source)?;
+    if input.len() as u64 > INPUT_LIMIT {
+        return Err(Refusal::Input);
+    }
+    let Input { records, names, .. } = read_input(alloc, names, &claim, input)?;
+    let items = items_of(alloc, records)?;
     let Claim { net, .. } = claim;
     let run = Run::new(net, boxes, limits.fuel, limits.depth, QUEUE, items);
     Ok(Loaded { run, names })

@@ -18,12 +18,10 @@ mod driving;
 mod load;
 mod nodes;
 mod order;
-mod program;
 mod refusal;
 mod to_rest;
 mod transcript;
 mod trying;
-mod typed;
 
 use command::{Command, Report};
 use load::{Loaded, load};

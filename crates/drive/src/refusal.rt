@@ -1,9 +1,5 @@
-use sn_flow::FlowFault;
-use sn_input::InputFault;
-use sn_lexer::LexFault;
 use sn_list::Memory;
-use sn_parser::ParseFault;
-use sn_scope::ScopeFault;
+use sn_load::{Status, Stop};
 use std::alloc::AllocError;
 use std::fmt;
 
@@ -14,9 +10,9 @@ pub enum Refusal {
     Usage,
     /// A file was not read.
     Read,
-    /// The source is none.
+    /// The source is none, or too large.
     Source,
-    /// The types of the main net are wrong.
+    /// The types of a net are wrong.
     IllTyped,
     /// The input is no record file, or not of the main net's input type.
     Input,
@@ -40,47 +36,13 @@ impl From<AllocError> for Refusal {
     }
 }
 
-impl From<LexFault> for Refusal {
-    fn from(fault: LexFault) -> Refusal {
-        match fault {
-            LexFault::Memory => Refusal::Memory,
+impl From<Stop> for Refusal {
+    fn from(stop: Stop) -> Refusal {
+        match stop.status() {
+            Status::Memory => Refusal::Memory,
+            Status::IllTyped => Refusal::IllTyped,
+            Status::Input => Refusal::Input,
             _ => Refusal::Source,
-        }
-    }
-}
-
-impl From<ParseFault> for Refusal {
-    fn from(fault: ParseFault) -> Refusal {
-        match fault {
-            ParseFault::Memory => Refusal::Memory,
-            _ => Refusal::Source,
-        }
-    }
-}
-
-impl From<ScopeFault> for Refusal {
-    fn from(fault: ScopeFault) -> Refusal {
-        match fault {
-            ScopeFault::Memory => Refusal::Memory,
-            _ => Refusal::Source,
-        }
-    }
-}
-
-impl From<FlowFault> for Refusal {
-    fn from(fault: FlowFault) -> Refusal {
-        match fault {
-            FlowFault::Memory => Refusal::Memory,
-            _ => Refusal::IllTyped,
-        }
-    }
-}
-
-impl From<InputFault> for Refusal {
-    fn from(fault: InputFault) -> Refusal {
-        match fault {
-            InputFault::Memory => Refusal::Memory,
-            _ => Refusal::Input,
         }
     }
 }
@@ -93,7 +55,7 @@ impl fmt::Display for Refusal {
             }
             Refusal::Read => "a file was not read",
             Refusal::Source => "the source is refused",
-            Refusal::IllTyped => "the types of the main net are wrong",
+            Refusal::IllTyped => "the types of a net are wrong",
             Refusal::Input => "the input is refused",
             Refusal::Events => "too many events happened",
             Refusal::Calls => "a call is not answered",

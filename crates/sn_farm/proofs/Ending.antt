@@ -16,7 +16,7 @@ use Rattle.sn_view.specs.Coming.{MayCome}
 use Rattle.sn_view.specs.Seen.{Can}
 use Rattle.sn_view.specs.View.{View}
 use Rattle.sn_view.proofs.Came.{may_begins}
-use Rattle.sn_farm.specs.Farmed.{IsFaulted, IsWhole, Prints}
+use Rattle.sn_farm.specs.Farmed.{HasPrinted, IsFaulted, IsWhole}
 use Rattle.sn_farm.specs.Turns.{Goes, Writes, WritesPart, WritesUpTo, shows}
 use Rattle.sn_farm.specs.declared.desk.Turn.TheVariants.{Ended}
 use Rattle.sn_farm.specs.declared.outcome.Outcome.{Outcome}
@@ -112,29 +112,32 @@ module _ (names : List (List ℕ)) where
         ∥∥₁_elim some ∥∥₁_prop
         (λ can. ∥∥₁_map₂ (allowed can.0 ∣ can.1 ∣₁) (may_begins graph can.0 ∣ can.1 ∣₁) (λ may prefix. (can.0, may, begun part can.0 prefix)))
 
-    pub run_whole : IsWhole names graph before now → ∥ ((ys : List ModelItem) × MayGive run ys × Prints names ys None before now) ∥₁
-    run_whole whole =
-        ∥∥₁_elim some ∥∥₁_prop
-        (λ can. ∥∥₁_map (allowed can.0 ∣ can.1 ∣₁)
-        (λ may.
-        let is : can.0 ≡ graph.out = whole.over.only can.0 ∣ can.1 ∣₁ in (
-          can.0,
-          may,
-          record { all = whole.all ∙ ap (λ ys. appended before (printed names ys)) (sym is); ends = ap ending (is ∙ whole.records.1) ∙ none_ends whole.records.0 },
-        )))
+    pub run_whole : IsWhole names graph before now → HasPrinted names run None before now
+    run_whole whole = record {
+      text = printed names graph.out;
+      all = whole.all;
+      stream =
+          ∥∥₁_elim some ∥∥₁_prop
+          (λ can. ∥∥₁_map (allowed can.0 ∣ can.1 ∣₁)
+          (λ may.
+          let is : can.0 ≡ graph.out = whole.over.only can.0 ∣ can.1 ∣₁ in
+          (can.0, may, ap (printed names) (sym is), sym (ap ending (is ∙ whole.records.1) ∙ none_ends whole.records.0))));
+    }
 
-    pub run_faulted : (fault : FaultAt) → IsFaulted names fault graph before now → ∥ ((ys : List ModelItem) × MayGive run ys × Prints names ys (Some fault) before now) ∥₁
-    run_faulted fault faulted =
-        ∥∥₁_elim some ∥∥₁_prop
-        (λ can. ∥∥₁_map₂ (allowed can.0 ∣ can.1 ∣₁) (may_begins graph can.0 ∣ can.1 ∣₁)
-        (λ may prefix. (
-          can.0,
-          may,
-          record {
-            all = faulted.all ∙ ap (appended before) (sym (ap (printed names) prefix.1 ∙ still_printed graph.out prefix.0 fault faulted.first));
-            ends = ap ending prefix.1 ∙ still_ends graph.out prefix.0 fault faulted.first;
-          },
-        )))
+    pub run_faulted : (fault : FaultAt) → IsFaulted names fault graph before now → HasPrinted names run (Some fault) before now
+    run_faulted fault faulted = record {
+      text = printed names graph.out;
+      all = faulted.all;
+      stream =
+          ∥∥₁_elim some ∥∥₁_prop
+          (λ can. ∥∥₁_map₂ (allowed can.0 ∣ can.1 ∣₁) (may_begins graph can.0 ∣ can.1 ∣₁)
+          (λ may prefix. (
+            can.0,
+            may,
+            sym (ap (printed names) prefix.1 ∙ still_printed graph.out prefix.0 fault faulted.first),
+            sym (ap ending prefix.1 ∙ still_ends graph.out prefix.0 fault faulted.first),
+          )));
+    }
 
   -- nothing was written
   pub unwritten : (run : Run) (held : Option (List ℕ)) → MayGive run (given run) → ∥ ((ys : List ModelItem) × MayGive run ys × AppendsPrefix held held (printed names ys)) ∥₁

@@ -2,6 +2,8 @@
 use Rattle.std.specs.Prelude.{◌≡◌, ℕ, List, Option, Some, map}
 use Rattle.sn_record.specs.Record.{Entries}
 use Rattle.sn_record.specs.declared.item.Fault.{Fault}
+use Rattle.sn_model.specs.Run.{MayGive}
+use Rattle.sn_model.specs.declared.run.Run.{Run}
 use Rattle.sn_net.specs.Item.{ModelItem, Rec}
 use Rattle.sn_io.specs.Told.{appended}
 use Rattle.sn_output.specs.Printed.{ending, printed}
@@ -24,7 +26,8 @@ module _ (names : List (List ℕ)) where
     pub first : ending graph.out ≡ Some fault
     pub all : now ≡ appended before (printed names graph.out)
 
-  -- all of the stream was written that is printed of it, and it ends so
-  pub record Prints (stream : List ModelItem) (end : Option Fault) (before now : Option (List ℕ)) : Type 0 where
-    pub all : now ≡ appended before (printed names stream)
-    pub ends : ending stream ≡ end
+  -- All of some bytes was written: what is printed of a stream that the run may give, and that ends so.
+  pub record HasPrinted (run : Run) (end : Option Fault) (before now : Option (List ℕ)) : Type 0 where
+    pub text : List ℕ
+    pub all : now ≡ appended before text
+    pub stream : ∥ ((ys : List ModelItem) × MayGive run ys × (text ≡ printed names ys) × (end ≡ ending ys)) ∥₁

@@ -25,6 +25,7 @@ use std::sync::Wait;
 fn write<S: Sink>(alloc: Global, out: &mut LineSink<S>, item: &Item) -> Turn
     ensures goes { (old new : View) → Emits (modelled item.now ∷ []) old new → Goes out.old.names.now (shows old (S.held out.old.sink.now) (S.faults out.old.sink.now)) (shows new (S.held out.new.sink.now) (S.faults out.new.sink.now)) result }
     ensures names { out.new.names.now ≡ out.old.names.now }
+    ensures same_sink { out.new.sink.ghost_name ≡ out.old.sink.ghost_name }
 {
     let record = match item {
         Item::Rec(record) => record,
@@ -53,6 +54,7 @@ fn happen<R: Wait, S: Sink, G: Gate>(
     ensures of { IsGraphOf graph.new hall.now.run.now.value }
     ensures goes { Goes out.old.names.now (shows (seen graph.old) (S.held out.old.sink.now) (S.faults out.old.sink.now)) (shows (seen graph.new) (S.held out.new.sink.now) (S.faults out.new.sink.now)) result }
     ensures names { out.new.names.now ≡ out.old.names.now }
+    ensures same_sink { out.new.sink.ghost_name ≡ out.old.sink.ghost_name }
 {
     match apply(rt, hall.alloc, hall.run, graph, event) {
         Ok(Effect::Moved) | Err(ApplyCause::NotEnabled) => Turn::Went,
@@ -76,6 +78,7 @@ fn turn<R: Wait, S: Sink, G: Gate>(
     ensures of { IsGraphOf graph.new hall.now.run.now.value }
     ensures goes { Goes out.old.names.now (shows (seen graph.old) (S.held out.old.sink.now) (S.faults out.old.sink.now)) (shows (seen graph.new) (S.held out.new.sink.now) (S.faults out.new.sink.now)) result }
     ensures names { out.new.names.now ≡ out.old.names.now }
+    ensures same_sink { out.new.sink.ghost_name ≡ out.old.sink.ghost_name }
 {
     if let Some(done) = desk.owner.collect(rt) {
         return finish(rt, hall, graph, done);
@@ -105,6 +108,7 @@ pub fn drive<R: Wait, S: Sink, G: Gate>(
     ensures of { IsGraphOf graph.new hall.now.run.now.value }
     ensures goes { Goes out.old.names.now (shows (seen graph.old) (S.held out.old.sink.now) (S.faults out.old.sink.now)) (shows (seen graph.new) (S.held out.new.sink.now) (S.faults out.new.sink.now)) (Ended result) }
     ensures names { out.new.names.now ≡ out.old.names.now }
+    ensures same_sink { out.new.sink.ghost_name ≡ out.old.sink.ghost_name }
 {
     let mut patience = Patience::new();
     for _ in rt.forever() {

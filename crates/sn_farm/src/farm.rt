@@ -11,7 +11,7 @@ ghost use Rattle.sn_view.specs.Next.{start_view};
 ghost use Rattle.sn_view.specs.Seen.{Can};
 ghost use Rattle.sn_graph.specs.Graph.{IsGraphOf, seen};
 ghost use Rattle.sn_farm.specs.Desks.{IsDeskOf};
-ghost use Rattle.sn_farm.specs.Farmed.{IsFaulted, IsWhole, Prints};
+ghost use Rattle.sn_farm.specs.Farmed.{HasPrinted, IsFaulted, IsWhole};
 ghost use Rattle.sn_farm.specs.Turns.{Goes, shows};
 ghost use Rattle.sn_farm.specs.declared.desk.Turn.TheVariants.{Ended};
 ghost use Rattle.sn_farm.specs.declared.outcome.Outcome.TheVariants as outcome;
@@ -59,6 +59,7 @@ fn drive_with<R: Threads + Wait + Sync, S: Sink, G: Gate>(
     ensures of { IsGraphOf graph.new hall.now.run.now.value }
     ensures goes { Goes out.old.names.now (shows (seen graph.old) (S.held out.old.sink.now) (S.faults out.old.sink.now)) (shows (seen graph.new) (S.held out.new.sink.now) (S.faults out.new.sink.now)) (Ended result) }
     ensures names { out.new.names.now ≡ out.old.names.now }
+    ensures same_sink { out.new.sink.ghost_name ≡ out.old.sink.ghost_name }
 {
     let ((), outcome) = join_mut(
         rt,
@@ -70,6 +71,7 @@ fn drive_with<R: Threads + Wait + Sync, S: Sink, G: Gate>(
             ensures of { IsGraphOf graph.exit.now hall.entry.now.run.now.value }
             ensures goes { Goes out.entry.now.names.now (shows (seen graph.entry.now) (S.held out.entry.now.sink.now) (S.faults out.entry.now.sink.now)) (shows (seen graph.exit.now) (S.held out.exit.now.sink.now) (S.faults out.exit.now.sink.now)) (Ended result) }
             ensures names { out.exit.now.names.now ≡ out.entry.now.names.now }
+            ensures same_sink { out.exit.now.sink.ghost_name ≡ out.entry.now.sink.ghost_name }
         {
             let outcome = drive(rt, hall, desk, graph, out);
             hall.signals.end();
@@ -91,6 +93,7 @@ fn drive_all<R: Threads + Wait + Sync, S: Sink, G: Gate>(
     ensures of { IsGraphOf graph.new hall.now.run.now.value }
     ensures goes { Goes out.old.names.now (shows (seen graph.old) (S.held out.old.sink.now) (S.faults out.old.sink.now)) (shows (seen graph.new) (S.held out.new.sink.now) (S.faults out.new.sink.now)) (Ended result) }
     ensures names { out.new.names.now ≡ out.old.names.now }
+    ensures same_sink { out.new.sink.ghost_name ≡ out.old.sink.ghost_name }
 {
     let alone = workers < 2;
     let Ok((mut desk, mut theirs)) = open(hall.alloc, hall.run, alone) else {
@@ -128,6 +131,7 @@ pub fn farm_drive<R: Threads + Wait + Sync, S: Sink, G: Gate>(
     ensures rose { result ≡ outcome.WriteFault → Rose (S.faults out.old.sink.now) (S.faults out.new.sink.now) }
     ensures later { S.faults out.old.sink.now ≤ S.faults out.new.sink.now }
     ensures names { out.new.names.now ≡ out.old.names.now }
+    ensures same_sink { out.new.sink.ghost_name ≡ out.old.sink.ghost_name }
 {
     let hall = Hall {
         alloc,
@@ -151,11 +155,12 @@ pub fn farm_run<R: Threads + Wait + Sync, S: Sink, G: Gate>(
 ) -> Outcome
     requires { (1 ≤ workers) × (workers ≤ 64) }
     ensures part { ∥ ((ys : List ModelItem) × MayGive run.now.value ys × AppendsPrefix (S.held out.old.sink.now) (S.held out.new.sink.now) (printed out.old.names.now ys)) ∥₁ }
-    ensures whole { result ≡ outcome.Whole → ∥ ((ys : List ModelItem) × MayGive run.now.value ys × Prints out.old.names.now ys None (S.held out.old.sink.now) (S.held out.new.sink.now)) ∥₁ }
-    ensures faulted { (fault : Fault) → result ≡ outcome.Faulted fault → ∥ ((ys : List ModelItem) × MayGive run.now.value ys × Prints out.old.names.now ys (Some fault) (S.held out.old.sink.now) (S.held out.new.sink.now)) ∥₁ }
+    ensures whole { result ≡ outcome.Whole → HasPrinted out.old.names.now run.now.value None (S.held out.old.sink.now) (S.held out.new.sink.now) }
+    ensures faulted { (fault : Fault) → result ≡ outcome.Faulted fault → HasPrinted out.old.names.now run.now.value (Some fault) (S.held out.old.sink.now) (S.held out.new.sink.now) }
     ensures rose { result ≡ outcome.WriteFault → Rose (S.faults out.old.sink.now) (S.faults out.new.sink.now) }
     ensures later { S.faults out.old.sink.now ≤ S.faults out.new.sink.now }
     ensures names { out.new.names.now ≡ out.old.names.now }
+    ensures same_sink { out.new.sink.ghost_name ≡ out.old.sink.ghost_name }
 {
     match Graph::start(alloc, run) {
         Ok(mut graph) => farm_drive(rt, alloc, run, &mut graph, workers, gate, out),

@@ -3,18 +3,12 @@
 #![tactic(auto)]
 
 #[cfg(test)]
-mod holding;
-#[cfg(test)]
 mod jobs;
 #[cfg(test)]
 mod load;
-#[cfg(test)]
-mod program;
 #[cfg(test)]
 mod refusal;
 #[cfg(test)]
 mod runs;
 #[cfg(test)]
 mod tests;
-#[cfg(test)]
-mod typed;

@@ -1,4 +1,3 @@
-use crate::holding::run_at_once;
 use crate::runs::{are_as_once, ends_behind, prints_one_of};
 use std::test::*;
 
@@ -12,14 +11,8 @@ const FAULT: &str =
 
 const FAULT_INPUT: &str = "{b=1}\n{a=2, <d>=0}\n{b=3}\n";
 
-const IN_ORDER: &str =
-    "box p ((a) -> (x)) { out 1(a) } box q ((b) -> (x)) { out 1(b) } box r ((c) -> (x)) { out 1(c) } box s ((d) -> (x)) { out 1(d) } net main ({a} | {b} | {c} | {d} -> {x}) connect p || q || r || s;";
-
 const FREE: &str =
     "box p ((a) -> (x)) { out 1(a) } box q ((b) -> (x)) { out 1(b) } box r ((c) -> (x)) { out 1(c) } box s ((d) -> (x)) { out 1(d) } net main ({a} | {b} | {c} | {d} -> {x}) connect p | q | r | s;";
-
-/// A call that is held longer than this many turns has failed the test.
-const LIMIT: u64 = 1_000_000;
 
 #[test]
 fn workers_print_as_one_thread(rt: HostRuntime) -> Result<(), Fail> {
@@ -61,28 +54,5 @@ fn printing_ends_at_a_fault(rt: HostRuntime) -> Result<(), Fail> {
 fn a_run_ends_where_the_sink_fails(rt: HostRuntime) -> Result<(), Fail> {
     let ended = ends_behind(&rt, rt.alloc(), TILES, TILES_INPUT, 4, 2);
     assert!(rt; matches!(ended, Ok(true)));
-    Ok(())
-}
-
-#[test]
-fn four_workers_call_three_at_once(rt: HostRuntime) -> Result<(), Fail> {
-    let in_order = run_at_once(&rt, rt.alloc(), IN_ORDER, 4, 3, LIMIT);
-    assert!(rt; matches!(in_order, Ok(true)));
-    let free = run_at_once(&rt, rt.alloc(), FREE, 4, 3, LIMIT);
-    assert!(rt; matches!(free, Ok(true)));
-    Ok(())
-}
-
-#[test]
-fn two_workers_never_call_three_at_once(rt: HostRuntime) -> Result<(), Fail> {
-    let met = run_at_once(&rt, rt.alloc(), IN_ORDER, 2, 3, 1_000);
-    assert!(rt; matches!(met, Ok(false)));
-    Ok(())
-}
-
-#[test]
-fn one_worker_never_calls_two_at_once(rt: HostRuntime) -> Result<(), Fail> {
-    let met = run_at_once(&rt, rt.alloc(), IN_ORDER, 1, 2, 1_000);
-    assert!(rt; matches!(met, Ok(false)));
     Ok(())
 }

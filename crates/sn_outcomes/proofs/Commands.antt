@@ -7,25 +7,27 @@ use Rattle.sn_outcomes.proofs.Flows.{same_flows}
 use Rattle.sn_outcomes.proofs.Inputs.{Comes, comes_once, refusal_comes, typed_comes}
 use Rattle.sn_outcomes.proofs.Judging.{Found, Goes, goes_once, program_goes, wrong_goes}
 use Rattle.sn_outcomes.proofs.Sources.{text_once}
+use Rattle.sn_outcomes.proofs.Runs.{run_is_once}
 use Rattle.sn_outcomes.specs.Told.{AreTold}
 use Rattle.sn_output.specs.Printed.{printed, ending}
 use Rattle.sn_sample.specs.Source.{source_text}
 use Rattle.sn_sample.specs.Tally.{counted, counts_line}
-use Rattle.sn_top.specs.Answer.{Printout, whole, Finds, FindsSample, FindsText, FindsTypes, FindsFor, IsAnswered, IsRefusedInput, Outside, found_status}
-use Rattle.sn_top.specs.Flows.{HasFlows}
-use Rattle.sn_top.specs.Load.{Limits, limits_of, WhyNoRecords, stream_of}
+use Rattle.sn_top.specs.Answer.{Finds, FindsSample, FindsText, FindsTypes, FindsFor, IsAnswered, IsRefusedInput, Outside, found_status}
+use Rattle.sn_load.specs.Flows.{HasFlows}
+use Rattle.sn_load.specs.Load.{Limits, limits_of, setting, WhyNoRecords, stream_of}
+use Rattle.sn_top.specs.Runs.{Manner, OnOneThread, Printout, WithWorkers, whole}
 use Rattle.sn_top.specs.Sample.{AreTypedSamples, HasNoRoom, HasUntypedSample, answers_to, names_with}
 use Rattle.sn_top.specs.Seen.{File}
-use Rattle.sn_top.specs.Source.{FindsSource}
-use Rattle.sn_top.specs.declared.load.Program.{Program}
-use Rattle.sn_top.specs.declared.serve.TheConstants.{SOURCE_LIMIT, INPUT_LIMIT}
-use Rattle.sn_top.specs.declared.status.LineFault.TheVariants as wrong
-use Rattle.sn_top.specs.declared.status.Refusal.{Refusal}
-use Rattle.sn_top.specs.declared.status.Refusal.TheVariants.{TooLarge, Source as SourceAt, NoMain, TooDeep, LargeTree, TooManyNames, IllTyped, Variants, Line}
-use Rattle.sn_top.specs.declared.status.Status.{Status}
-use Rattle.sn_top.specs.declared.status.Which.TheVariants.{Source, Input as InputFile}
-use Rattle.sn_top.specs.declared.words.Command.{Command}
-use Rattle.sn_top.specs.declared.words.Command.TheVariants.{Check, Once, Print, Sample}
+use Rattle.sn_load.specs.Source.{FindsSource}
+use Rattle.sn_load.specs.declared.load.Program.{Program}
+use Rattle.sn_load.specs.declared.load.TheConstants.{SOURCE_LIMIT, INPUT_LIMIT}
+use Rattle.sn_load.specs.declared.status.LineFault.TheVariants as wrong
+use Rattle.sn_load.specs.declared.status.Refusal.{Refusal}
+use Rattle.sn_load.specs.declared.status.Refusal.TheVariants.{TooLarge, Source as SourceAt, NoMain, TooDeep, LargeTree, TooManyNames, IllTyped, Variants, Line}
+use Rattle.sn_load.specs.declared.status.Status.{Status}
+use Rattle.sn_load.specs.declared.status.Which.TheVariants.{Source, Input as InputFile}
+use Rattle.sn_words.specs.declared.command.Command.{Command}
+use Rattle.sn_words.specs.declared.command.Command.TheVariants.{Run, Once, Check, Print, Sample}
 
 -- what comes of a stream is printed
 abbrev pub printout : Limits → Program → Input → Printout
@@ -35,46 +37,57 @@ abbrev run_found : Limits → Program → Result Input Refusal → Found
 run_found limits program (Ok input) = Ok (printout limits program input)
 run_found limits program (Err refusal) = Err refusal
 
--- what is found of an input
-data Feeds (limits : Limits) (more : List ℕ) (program : Program) : Found → Type 0 where
-  large : INPUT_LIMIT < length more → Feeds limits more program (Err (TooLarge InputFile))
-  fed : (read : Result Input Refusal) → length more ≤ INPUT_LIMIT → Comes program.names program.claim more read → Feeds limits more program (run_found limits program read)
+-- what is found of an input, in one manner of running or another
+pub data Feeds (Shows : Manner) (limits : Limits) (more : List ℕ) (program : Program) : Found → Type 0 where
+  large : INPUT_LIMIT < length more → Feeds Shows limits more program (Err (TooLarge InputFile))
+  refused : (refusal : Refusal) → length more ≤ INPUT_LIMIT → Comes program.names program.claim more (Err refusal) → Feeds Shows limits more program (Err refusal)
+  fed : (input : Input) (p : Printout) → length more ≤ INPUT_LIMIT → Comes program.names program.claim more (Ok input) → Shows (setting program limits) program.claim.net input.records input.names p
+      → Feeds Shows limits more program (Ok p)
 
-feeds_once : (limits : Limits) (more : List ℕ) (program : Program) (found other : Found) → Feeds limits more program found → Feeds limits more program other → found ≡ other
+-- on one thread the printout is that of the input
+one_printout : (limits : Limits) (program : Program) (input : Input) (p : Printout) → OnOneThread (setting program limits) program.claim.net input.records input.names p → p ≡ printout limits program input
+one_printout limits program input p shown = λ i. record { bytes = shown.bytes_are i; ending = shown.ending_is i }
+
+feeds_once : (limits : Limits) (more : List ℕ) (program : Program) (found other : Found) → Feeds OnOneThread limits more program found → Feeds OnOneThread limits more program other → found ≡ other
 feeds_once limits more program found other (Feeds.large l) (Feeds.large k) = refl
-feeds_once limits more program found other (Feeds.large l) (Feeds.fed s w g) = absurd (omega arith)
-feeds_once limits more program found other (Feeds.fed r w f) (Feeds.large l) = absurd (omega arith)
-feeds_once limits more program found other (Feeds.fed r w f) (Feeds.fed s v g) = ap (run_found limits program) (comes_once program.names program.claim more r s f g)
+feeds_once limits more program found other (Feeds.large l) (Feeds.refused s w g) = absurd (omega arith)
+feeds_once limits more program found other (Feeds.large l) (Feeds.fed s q w g h) = absurd (omega arith)
+feeds_once limits more program found other (Feeds.refused r w f) (Feeds.large l) = absurd (omega arith)
+feeds_once limits more program found other (Feeds.refused r w f) (Feeds.refused s v g) = ap (run_found limits program) (comes_once program.names program.claim more (Err r) (Err s) f g)
+feeds_once limits more program found other (Feeds.refused r w f) (Feeds.fed s q v g h) = let same = comes_once program.names program.claim more (Err r) (Ok s) f g in absurd cc
+feeds_once limits more program found other (Feeds.fed r p w f h) (Feeds.large l) = absurd (omega arith)
+feeds_once limits more program found other (Feeds.fed r p w f h) (Feeds.refused s v g) = let same = comes_once program.names program.claim more (Ok r) (Err s) f g in absurd cc
+feeds_once limits more program found other (Feeds.fed r p w f h) (Feeds.fed s q v g k) =
+    ap Ok (one_printout limits program r p h) ∙ ap (run_found limits program) (comes_once program.names program.claim more (Ok r) (Ok s) f g) ∙ sym (ap Ok (one_printout limits program s q k))
 
-wrong_input : (limits : Limits) (bytes more : List ℕ) (refusal : Refusal) → IsRefusedInput (Some more) (λ names claim more. WhyNoRecords names claim more refusal) bytes
-    → Goes bytes (Feeds limits more) (Err refusal)
-wrong_input limits bytes more refusal (program, accepted, why) =
-    program_goes bytes (Feeds limits more) (Err refusal) program accepted (Feeds.fed (Err refusal) why.0 (refusal_comes program.names program.claim more refusal why.1))
+module _ (Shows : Manner) (limits : Limits) where
+  wrong_input : (bytes more : List ℕ) (refusal : Refusal) → IsRefusedInput (Some more) (λ names claim more. WhyNoRecords names claim more refusal) bytes → Goes bytes (Feeds Shows limits more) (Err refusal)
+  wrong_input bytes more refusal (program, accepted, why) =
+      program_goes bytes (Feeds Shows limits more) (Err refusal) program accepted (Feeds.refused refusal why.0 (refusal_comes program.names program.claim more refusal why.1))
 
--- what is found of a source and an input
-goes : (limits : Limits) (bytes more : List ℕ) (found : Found) → Finds limits (Some bytes) (Some more) found → Goes bytes (Feeds limits more) found
-goes limits bytes more (Err (TooLarge Source)) f = Goes.large f
-goes limits bytes more (Err (TooLarge InputFile)) f = program_goes bytes (Feeds limits more) (Err (TooLarge InputFile)) f.0 f.1 (Feeds.large f.2)
-goes limits bytes more (Err (SourceAt fault at)) f = wrong_goes bytes (Feeds limits more) (SourceAt fault at) f
-goes limits bytes more (Err NoMain) f = wrong_goes bytes (Feeds limits more) NoMain f
-goes limits bytes more (Err (TooDeep at)) f = wrong_goes bytes (Feeds limits more) (TooDeep at) f
-goes limits bytes more (Err (LargeTree at)) f = wrong_goes bytes (Feeds limits more) (LargeTree at) f
-goes limits bytes more (Err TooManyNames) (inl f) = wrong_goes bytes (Feeds limits more) TooManyNames f
-goes limits bytes more (Err TooManyNames) (inr f) = wrong_input limits bytes more TooManyNames f
-goes limits bytes more (Err (IllTyped fault at variant)) f = wrong_goes bytes (Feeds limits more) (IllTyped fault at variant) f
-goes limits bytes more (Err (Variants at)) f = wrong_goes bytes (Feeds limits more) (Variants at) f
-goes limits bytes more (Err (Line fault)) f = wrong_input limits bytes more (Line fault) f
-goes limits bytes more (Ok p) (program, accepted, prints) =
-    let fields : p ≡ printout limits program prints.input = λ i. record { bytes = prints.bytes_are i; ending = prints.ending_is i } in
-    let fed : Feeds limits more program (Ok (printout limits program prints.input)) = Feeds.fed (Ok prints.input) prints.within (typed_comes program.names program.claim more prints.input prints.typed) in
-    program_goes bytes (Feeds limits more) (Ok p) program accepted (subst (λ x. Feeds limits more program (Ok x)) (sym fields) fed)
+  -- what is found of a source and an input
+  pub goes : (bytes more : List ℕ) (found : Found) → Finds Shows limits (Some bytes) (Some more) found → Goes bytes (Feeds Shows limits more) found
+  goes bytes more (Err (TooLarge Source)) f = Goes.large f
+  goes bytes more (Err (TooLarge InputFile)) f = program_goes bytes (Feeds Shows limits more) (Err (TooLarge InputFile)) f.0 f.1 (Feeds.large f.2)
+  goes bytes more (Err (SourceAt fault at)) f = wrong_goes bytes (Feeds Shows limits more) (SourceAt fault at) f
+  goes bytes more (Err NoMain) f = wrong_goes bytes (Feeds Shows limits more) NoMain f
+  goes bytes more (Err (TooDeep at)) f = wrong_goes bytes (Feeds Shows limits more) (TooDeep at) f
+  goes bytes more (Err (LargeTree at)) f = wrong_goes bytes (Feeds Shows limits more) (LargeTree at) f
+  goes bytes more (Err TooManyNames) (inl f) = wrong_goes bytes (Feeds Shows limits more) TooManyNames f
+  goes bytes more (Err TooManyNames) (inr f) = wrong_input bytes more TooManyNames f
+  goes bytes more (Err (IllTyped fault at variant)) f = wrong_goes bytes (Feeds Shows limits more) (IllTyped fault at variant) f
+  goes bytes more (Err (Variants at)) f = wrong_goes bytes (Feeds Shows limits more) (Variants at) f
+  goes bytes more (Err (Line fault)) f = wrong_input bytes more (Line fault) f
+  goes bytes more (Ok p) (program, accepted, prints) =
+      program_goes bytes (Feeds Shows limits more) (Ok p) program accepted
+      (Feeds.fed prints.input p prints.within (typed_comes program.names program.claim more prints.input prints.typed) prints.shown)
 
 pub finds_once : (limits : Limits) (bytes more : List ℕ) (source input : Option (List ℕ)) (found other : Found) → source ≡ Some bytes → input ≡ Some more →
-    Finds limits source input found → Finds limits source input other → found ≡ other
+    Finds OnOneThread limits source input found → Finds OnOneThread limits source input other → found ≡ other
 finds_once limits bytes more source input found other s i f g =
-    let f' : Finds limits (Some bytes) (Some more) found = subst (λ (p : Option (List ℕ) × Option (List ℕ)). Finds limits p.0 p.1 found) (λ j. (s j, i j)) f in
-    let g' : Finds limits (Some bytes) (Some more) other = subst (λ (p : Option (List ℕ) × Option (List ℕ)). Finds limits p.0 p.1 other) (λ j. (s j, i j)) g in
-    goes_once bytes (Feeds limits more) (Feeds limits more) (feeds_once limits more) found other (goes limits bytes more found f') (goes limits bytes more other g')
+    let f' : Finds OnOneThread limits (Some bytes) (Some more) found = subst (λ (p : Option (List ℕ) × Option (List ℕ)). Finds OnOneThread limits p.0 p.1 found) (λ j. (s j, i j)) f in
+    let g' : Finds OnOneThread limits (Some bytes) (Some more) other = subst (λ (p : Option (List ℕ) × Option (List ℕ)). Finds OnOneThread limits p.0 p.1 other) (λ j. (s j, i j)) g in
+    goes_once bytes (Feeds OnOneThread limits more) (Feeds OnOneThread limits more) (feeds_once limits more) found other (goes OnOneThread limits bytes more found f') (goes OnOneThread limits bytes more other g')
 
 -- what is found of a program whose types are checked: the whole text of what can come out
 pub record Lists (program : Program) (found : Found) : Type 0 where
@@ -191,6 +204,11 @@ finds_sample_once number count found other f g =
     goes_once source_text (Samples number count) (Samples number count) (samples_once number count) found other (sampled number count found f) (sampled number count other g)
 
 pub command_once : (command : Command) (file : List ℕ → File) (found other : Found) → AreTold command file → FindsFor command file found → FindsFor command file other → found ≡ other
+command_once (Run source input workers fuel depth queue) file found other told f g =
+    let limits = limits_of fuel depth in
+    let once : (x : Found) → Finds WithWorkers limits (file source).told (file input).told x → Finds OnOneThread limits (file source).told (file input).told x =
+    λ x. run_is_once limits (file source).told (file input).told told.2 x in
+    finds_once limits told.0.bytes told.1.bytes (file source).told (file input).told found other told.0.are told.1.are (once found f) (once other g)
 command_once (Once source input fuel depth) file found other told f g =
     finds_once (limits_of fuel depth) told.0.bytes told.1.bytes (file source).told (file input).told found other told.0.are told.1.are f g
 command_once (Check source) file found other told f g = finds_types_once told.bytes (file source).told found other told.are f g

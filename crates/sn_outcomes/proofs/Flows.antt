@@ -7,8 +7,8 @@ use Rattle.sn_net.proofs.SortedSets.{ascending-same, only_ascending}
 use Rattle.sn_flow.specs.Verdicts.{IsFlowOf}
 use Rattle.sn_output.specs.Types.{IsTypeText, variant_text}
 use Rattle.sn_outcomes.proofs.SortedTexts.{same_type_text}
-use Rattle.sn_top.specs.Flows.{HasFlows, IsFlowLine}
-use Rattle.sn_top.specs.declared.load.Program.{Program}
+use Rattle.sn_load.specs.Flows.{HasFlows, IsFlowLine}
+use Rattle.sn_load.specs.declared.load.Program.{Program}
 
 -- the variants that come out, each once and in order, are one list
 same_flow : (net : Outline) (v : Labels) (us ws : List Labels) → IsFlowOf net v us → IsFlowOf net v ws → us ≡ ws

@@ -2,12 +2,13 @@
 use Rattle.std.proofs.Common.{ℕ, List, ◌≡◌, ◌<◌, ◌≤◌, refl, ap, subst, length, arith}
 use Rattle.std.specs.Prelude.{Result, Ok, Err}
 use Rattle.sn_outcomes.proofs.Loaded.{IsFound, found_once, program_found, refused_found}
-use Rattle.sn_top.specs.Answer.{IsAccepted, IsRefusedSource, Printout}
-use Rattle.sn_top.specs.declared.load.Program.{Program}
-use Rattle.sn_top.specs.declared.serve.TheConstants.{SOURCE_LIMIT}
-use Rattle.sn_top.specs.declared.status.Refusal.{Refusal}
-use Rattle.sn_top.specs.declared.status.Refusal.TheVariants.{TooLarge}
-use Rattle.sn_top.specs.declared.status.Which.TheVariants.{Source}
+use Rattle.sn_top.specs.Answer.{IsAccepted, IsRefusedSource}
+use Rattle.sn_top.specs.Runs.{Printout}
+use Rattle.sn_load.specs.declared.load.Program.{Program}
+use Rattle.sn_load.specs.declared.load.TheConstants.{SOURCE_LIMIT}
+use Rattle.sn_load.specs.declared.status.Refusal.{Refusal}
+use Rattle.sn_load.specs.declared.status.Refusal.TheVariants.{TooLarge}
+use Rattle.sn_load.specs.declared.status.Which.TheVariants.{Source}
 
 abbrev pub Found : Type 0
 Found = Result Printout Refusal

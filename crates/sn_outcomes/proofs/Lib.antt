@@ -15,6 +15,7 @@ pub mod Inputs
 pub mod SortedTexts
 pub mod Flows
 pub mod Judging
+pub mod Runs
 pub mod Commands
 pub mod SourceAlone
 pub mod Done

@@ -6,10 +6,10 @@ use Rattle.sn_outcomes.proofs.Resolved.{AreParts, parts_once, resolved_parts, un
 use Rattle.sn_outcomes.proofs.Sources.{deep_read}
 use Rattle.sn_scope.specs.declared.resolved.Parts.{Parts}
 use Rattle.sn_scope.specs.declared.resolution.ScopeFault.TheVariants as scope
-use Rattle.sn_top.specs.Scope.{IsProgram, WhyNoProgram}
-use Rattle.sn_top.specs.declared.load.Program.{Program}
-use Rattle.sn_top.specs.declared.status.Refusal.{Refusal}
-use Rattle.sn_top.specs.declared.status.Refusal.TheVariants.{TooLarge, Source as SourceAt, NoMain, TooDeep, LargeTree, TooManyNames, IllTyped, Variants, Line}
+use Rattle.sn_load.specs.Scope.{IsProgram, WhyNoProgram}
+use Rattle.sn_load.specs.declared.load.Program.{Program}
+use Rattle.sn_load.specs.declared.status.Refusal.{Refusal}
+use Rattle.sn_load.specs.declared.status.Refusal.TheVariants.{TooLarge, Source as SourceAt, NoMain, TooDeep, LargeTree, TooManyNames, IllTyped, Variants, Line}
 
 -- what the bytes are found to be: refused before types are asked, or what the check of their claims finds
 pub data IsFound (bytes : List ℕ) : Result Program Refusal → Type 0 where

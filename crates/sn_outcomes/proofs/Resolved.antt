@@ -7,11 +7,11 @@ use Rattle.sn_scope.specs.Resolution.{resolution}
 use Rattle.sn_scope.specs.declared.resolved.Parts.{Parts}
 use Rattle.sn_scope.specs.declared.resolution.ScopeFault.{ScopeFault}
 use Rattle.sn_scope.specs.declared.resolution.ScopeFault.TheVariants as scope
-use Rattle.sn_top.specs.Scope.{IsResolved, IsUnresolved, IsWrongAt}
-use Rattle.sn_top.specs.declared.status.Refusal.{Refusal}
-use Rattle.sn_top.specs.declared.status.Refusal.TheVariants.{Source as SourceAt, NoMain, LargeTree, TooManyNames}
-use Rattle.sn_top.specs.declared.status.SourceFault.{SourceFault}
-use Rattle.sn_top.specs.declared.status.SourceFault.TheVariants.{BadUtf8, BadChar, NumberTooWide, TextOpen, Unexpected, Unknown, Twice, Arity, GuardTag}
+use Rattle.sn_load.specs.Scope.{IsResolved, IsUnresolved, IsWrongAt}
+use Rattle.sn_load.specs.declared.status.Refusal.{Refusal}
+use Rattle.sn_load.specs.declared.status.Refusal.TheVariants.{Source as SourceAt, NoMain, LargeTree, TooManyNames}
+use Rattle.sn_load.specs.declared.status.SourceFault.{SourceFault}
+use Rattle.sn_load.specs.declared.status.SourceFault.TheVariants.{BadUtf8, BadChar, NumberTooWide, TextOpen, Unexpected, Unknown, Twice, Arity, GuardTag}
 
 -- the refusal of a name; want of memory is none
 abbrev scope_refusal : ScopeFault → Refusal

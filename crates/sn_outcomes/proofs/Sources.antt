@@ -11,11 +11,11 @@ use Rattle.sn_parser.specs.Answer.{Faults, Spell}
 use Rattle.sn_parser.specs.declared.parsing.ParseFault.{ParseFault}
 use Rattle.sn_parser.specs.declared.parsing.ParseFault.TheVariants as parse
 use Rattle.sn_print.specs.Declarations.{program_text}
-use Rattle.sn_top.specs.Source.{IsSource, IsRefused, IsWrong, FindsSource}
-use Rattle.sn_top.specs.declared.status.Refusal.{Refusal}
-use Rattle.sn_top.specs.declared.status.Refusal.TheVariants.{TooLarge, Source as SourceAt, NoMain, TooDeep, LargeTree, TooManyNames, IllTyped, Variants, Line}
-use Rattle.sn_top.specs.declared.status.SourceFault.{SourceFault}
-use Rattle.sn_top.specs.declared.status.SourceFault.TheVariants.{BadUtf8, BadChar, NumberTooWide, TextOpen, Unexpected, Unknown, Twice, Arity, GuardTag}
+use Rattle.sn_load.specs.Source.{IsSource, IsRefused, IsWrong, FindsSource}
+use Rattle.sn_load.specs.declared.status.Refusal.{Refusal}
+use Rattle.sn_load.specs.declared.status.Refusal.TheVariants.{TooLarge, Source as SourceAt, NoMain, TooDeep, LargeTree, TooManyNames, IllTyped, Variants, Line}
+use Rattle.sn_load.specs.declared.status.SourceFault.{SourceFault}
+use Rattle.sn_load.specs.declared.status.SourceFault.TheVariants.{BadUtf8, BadChar, NumberTooWide, TextOpen, Unexpected, Unknown, Twice, Arity, GuardTag}
 
 pub same_source : (bytes : List ℕ) (program other : Program) → IsSource bytes program → IsSource bytes other → program ≡ other
 same_source bytes program other p q =

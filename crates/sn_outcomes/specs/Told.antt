@@ -1,19 +1,28 @@
 -- Where the bytes of the files of a command are told, and what is found whatever an input holds.
-use Rattle.std.specs.Prelude.{◌≡◌, ℕ, List, Some}
+use Rattle.std.specs.Prelude.{◌≡◌, ℕ, IsTrue, List, Some}
+use Rattle.sn_net.specs.Net.{all_deterministic}
+use Rattle.sn_top.specs.Answer.{IsAccepted}
+use Rattle.sn_load.specs.declared.load.Program.{Program}
 use Rattle.sn_top.specs.Seen.{File}
-use Rattle.sn_top.specs.declared.status.Refusal.{Refusal}
-use Rattle.sn_top.specs.declared.status.Refusal.TheVariants.{TooLarge, Source as SourceAt, NoMain, TooDeep, LargeTree, TooManyNames, IllTyped, Variants, Line}
-use Rattle.sn_top.specs.declared.status.Which.TheVariants.{Source, Input}
-use Rattle.sn_top.specs.declared.words.Command.{Command}
-use Rattle.sn_top.specs.declared.words.Command.TheVariants.{Check, Once, Print, Sample}
+use Rattle.sn_load.specs.declared.status.Refusal.{Refusal}
+use Rattle.sn_load.specs.declared.status.Refusal.TheVariants.{TooLarge, Source as SourceAt, NoMain, TooDeep, LargeTree, TooManyNames, IllTyped, Variants, Line}
+use Rattle.sn_load.specs.declared.status.Which.TheVariants.{Source, Input}
+use Rattle.sn_words.specs.declared.command.Command.{Command}
+use Rattle.sn_words.specs.declared.command.Command.TheVariants.{Run, Once, Check, Print, Sample}
 
 -- the bytes of the file are told
 pub record IsTold (file : File) : Type 0 where
   pub bytes : List ℕ
   pub are : file.told ≡ Some bytes
 
--- those of each file that the command reads, which is none where it makes its records
+-- each choice, star and split of the main network of an accepted source merges in order
+abbrev pub MergesInOrder : File → Type 0
+MergesInOrder file = (bytes : List ℕ) (program : Program) → file.told ≡ Some bytes → IsAccepted bytes program → IsTrue (all_deterministic program.claim.net)
+
+-- The bytes of each file that the command reads are told, which is none where it makes its records. Workers may print more than one
+-- stream where a merge is free.
 abbrev pub AreTold : Command → (List ℕ → File) → Type 0
+AreTold (Run source input workers fuel depth queue) file = IsTold (file source) × IsTold (file input) × MergesInOrder (file source)
 AreTold (Once source input fuel depth) file = IsTold (file source) × IsTold (file input)
 AreTold (Check source) file = IsTold (file source)
 AreTold (Print source) file = IsTold (file source)

@@ -16,25 +16,27 @@ ghost use Rattle.sn_lexer.specs.declared.token.LexFault.{LexFault as SomeLexFaul
 ghost use Rattle.sn_lexer.specs.declared.token.LexFault.TheVariants as lex_fault;
 ghost use Rattle.sn_lexer.specs.declared.token.Token.{Token as SomeToken};
 ghost use Rattle.sn_net.specs.declared.net.Claim.{Claim as SomeClaim};
-ghost use Rattle.sn_outcomes.specs.Told.{AreTold, IsOfSource};
+ghost use Rattle.sn_net.specs.Item.{ModelItem};
+ghost use Rattle.sn_outcomes.specs.Told.{AreTold, IsOfSource, MergesInOrder};
 ghost use Rattle.sn_output.specs.Printed.{ending};
 ghost use Rattle.sn_parser.specs.Answer.{Faults, IsFault as IsParseFault, IsProgram as IsTree, Spell, Spells};
 ghost use Rattle.sn_parser.specs.declared.parsing.ParseFault.{ParseFault as SomeParseFault};
 ghost use Rattle.sn_parser.specs.declared.parsing.ParseFault.TheVariants as parse_fault;
 ghost use Rattle.sn_sample.specs.Source.{source_text};
-ghost use Rattle.sn_top.specs.Answer.{Finds, FindsFor, IsAccepted, IsAnswered, Outside, Printout, ending_status};
-ghost use Rattle.sn_top.specs.Load.{IsTypedFile, Limits, WhyNoRecords, limits_of, stream_of};
+ghost use Rattle.sn_top.specs.Answer.{Finds, FindsFor, IsAccepted, IsAnswered, Outside, ending_status};
+ghost use Rattle.sn_top.specs.Runs.{ComesOut, OnOneThread, Printout, WithWorkers};
+ghost use Rattle.sn_load.specs.Load.{IsTypedFile, Limits, WhyNoRecords, limits_of, setting, stream_of};
 ghost use Rattle.sn_top.specs.Sample.{AreTypedSamples, answers_to};
-ghost use Rattle.sn_top.specs.Scope.{IsProgram, WhyNoProgram};
+ghost use Rattle.sn_load.specs.Scope.{IsProgram, WhyNoProgram};
 ghost use Rattle.sn_top.specs.Seen.{File};
-ghost use Rattle.sn_top.specs.Source.{FindsSource, HasText, IsSource};
-ghost use Rattle.sn_top.specs.declared.load.Program.{Program as SomeProgram};
-ghost use Rattle.sn_top.specs.declared.serve.TheConstants.{INPUT_LIMIT, SOURCE_LIMIT};
-ghost use Rattle.sn_top.specs.declared.status.Refusal.{Refusal as SomeRefusal};
-ghost use Rattle.sn_top.specs.declared.status.Status.{Status as SomeStatus};
-ghost use Rattle.sn_top.specs.declared.status.Status.TheVariants as status;
-ghost use Rattle.sn_top.specs.declared.words.Command.{Command as SomeCommand};
-ghost use Rattle.sn_top.specs.declared.words.Command.TheVariants.{Check, Once, Print, Sample};
+ghost use Rattle.sn_load.specs.Source.{FindsSource, HasText, IsSource};
+ghost use Rattle.sn_load.specs.declared.load.Program.{Program as SomeProgram};
+ghost use Rattle.sn_load.specs.declared.load.TheConstants.{INPUT_LIMIT, SOURCE_LIMIT};
+ghost use Rattle.sn_load.specs.declared.status.Refusal.{Refusal as SomeRefusal};
+ghost use Rattle.sn_load.specs.declared.status.Status.{Status as SomeStatus};
+ghost use Rattle.sn_load.specs.declared.status.Status.TheVariants as status;
+ghost use Rattle.sn_words.specs.declared.command.Command.{Command as SomeCommand};
+ghost use Rattle.sn_words.specs.declared.command.Command.TheVariants.{Check, Once, Print, Run, Sample};
 
 /// The bytes of a source give one list of tokens, or one refusal at one place, and never both. Want of memory is said of
 /// any source, and so it is left out, here and below.
@@ -102,7 +104,8 @@ pub fn input_is_answered_once()
 {}
 
 /// Of a command and its files one thing is found, and so there is one status, where the bytes of the files that it reads are
-/// told. Where those of a file are not told, any outcome that needs them may be found. But what the source is refused for,
+/// told. For a run with workers each choice, star and split of the network must merge in order, since where one is free the schedule may
+/// show in the stream. Where the bytes of a file are not told, any outcome that needs them may be found. But what the source is refused for,
 /// where its own bytes are told, is all that is found, whatever is told of the input.
 pub fn command_has_one_outcome()
     ensures one_outcome { (command : SomeCommand) (file : List ℕ → File) (found other : Result Printout SomeRefusal) → AreTold command file → FindsFor command file found
@@ -110,11 +113,21 @@ pub fn command_has_one_outcome()
     ensures one_status { (command : SomeCommand) (outside : Outside) (status other : SomeStatus) → AreTold command outside.file → IsAnswered command outside status
         → IsAnswered command outside other → status ≡ other }
     ensures source_alone { (limits : Limits) (bytes : List ℕ) (input : Option (List ℕ)) (refusal : SomeRefusal) (other : Result Printout SomeRefusal) → IsOfSource refusal
-        → Finds limits (Some bytes) input (Err refusal) → Finds limits (Some bytes) input other → other ≡ Err refusal }
+        → Finds OnOneThread limits (Some bytes) input (Err refusal) → Finds OnOneThread limits (Some bytes) input other → other ≡ Err refusal }
+    ensures source_alone_with_workers { (limits : Limits) (bytes : List ℕ) (input : Option (List ℕ)) (refusal : SomeRefusal) (other : Result Printout SomeRefusal) → IsOfSource refusal
+        → Finds WithWorkers limits (Some bytes) input (Err refusal) → Finds WithWorkers limits (Some bytes) input other → other ≡ Err refusal }
+{}
+
+/// Where each choice, star and split of the main network of a source merges in order, a run finds what one thread does, with any number
+/// of workers.
+pub fn runs_in_order_are_as_on_one_thread()
+    ensures { (file : List ℕ → File) (source input : List ℕ) (workers fuel depth queue : ℕ) (found : Result Printout SomeRefusal) → MergesInOrder (file source)
+        → FindsFor (Run source input workers fuel depth queue) file found → FindsFor (Once source input fuel depth) file found }
 {}
 
 /// An accepted source and a record file of its input type are enough: where their bytes are told, no answer of a command is a
-/// refusal. A run ends as its stream does, whole or at a fault, and so does one over stated records, where these find room for their
+/// refusal. A run ends as its stream does, whole or at a fault, with workers as one of the streams that may come out; and so does one over
+/// stated records, where these find room for their
 /// names and are of the input type; a check ends well, and so does a printing, which needs only
 /// that the source has a text.
 pub fn accepted_commands_are_done()
@@ -122,6 +135,11 @@ pub fn accepted_commands_are_done()
         → (outside.file source).told ≡ Some bytes → (outside.file input).told ≡ Some more → IsAccepted bytes program
         → length more ≤ INPUT_LIMIT → IsTypedFile program.names program.claim more records
         → IsAnswered (Once source input fuel depth) outside left → left ≡ ending_status (ending (stream_of (limits_of fuel depth) program records)) }
+    ensures run { (outside : Outside) (source input : List ℕ) (workers fuel depth queue : ℕ) (bytes more : List ℕ) (program : SomeProgram) (records : SomeInput) (left : SomeStatus)
+        → (outside.file source).told ≡ Some bytes → (outside.file input).told ≡ Some more → IsAccepted bytes program
+        → IsTypedFile program.names program.claim more records → length more ≤ INPUT_LIMIT
+        → IsAnswered (Run source input workers fuel depth queue) outside left
+        → ∥ ((stream : List ModelItem) × ComesOut (setting program (limits_of fuel depth)) program.claim.net records.records stream × (left ≡ ending_status (ending stream))) ∥₁ }
     ensures check { (outside : Outside) (source bytes : List ℕ) (program : SomeProgram) (left : SomeStatus) → (outside.file source).told ≡ Some bytes
         → IsAccepted bytes program → IsAnswered (Check source) outside left → left ≡ status.Ok }
     ensures print { (outside : Outside) (source bytes text : List ℕ) (left : SomeStatus) → (outside.file source).told ≡ Some bytes → length bytes ≤ SOURCE_LIMIT

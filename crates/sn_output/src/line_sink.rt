@@ -39,6 +39,7 @@ impl<S: Sink> LineSink<'_, S> {
         ensures nothing { IfErr result (λ fault. fault ≡ cause.Memory → S.held self.new.sink.now ≡ S.held self.old.sink.now) }
         ensures later { S.faults self.old.sink.now ≤ S.faults self.new.sink.now }
         ensures names { self.new.names.now ≡ self.old.names.now }
+        ensures same_sink { self.new.sink.ghost_name ≡ self.old.sink.ghost_name }
     {
         let Ok(text) = line_of(alloc, shown, self.names) else {
             return Err(LineFault::Memory);

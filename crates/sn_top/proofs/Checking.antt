@@ -2,18 +2,19 @@
 use Rattle.std.proofs.Common.{◌≡◌, ℕ, List, None, refl, inl}
 use Rattle.std.specs.Prelude.{Ok, IfSome}
 use Rattle.sn_io.specs.Told.{AppendsPrefix}
-use Rattle.sn_top.specs.declared.load.Program.{Program}
-use Rattle.sn_top.specs.declared.status.Which.TheVariants.{Source, Input}
-use Rattle.sn_top.specs.declared.status.Refusal.TheVariants.{TooLarge, Source as SourceAt, NoMain, TooDeep, LargeTree, TooManyNames, IllTyped, Variants, Line}
-use Rattle.sn_top.specs.declared.status.Refusal.{Refusal}
-use Rattle.sn_top.specs.declared.status.Stop.{Stop}
-use Rattle.sn_top.specs.declared.status.Stop.TheVariants.{Refused, Faulted, Unread, Memory, Write}
-use Rattle.sn_top.specs.declared.serve.TheConstants.{SOURCE_LIMIT}
+use Rattle.sn_load.specs.declared.load.Program.{Program}
+use Rattle.sn_load.specs.declared.status.Which.TheVariants.{Source, Input}
+use Rattle.sn_load.specs.declared.status.Refusal.TheVariants.{TooLarge, Source as SourceAt, NoMain, TooDeep, LargeTree, TooManyNames, IllTyped, Variants, Line}
+use Rattle.sn_load.specs.declared.status.Refusal.{Refusal}
+use Rattle.sn_load.specs.declared.status.Stop.{Stop}
+use Rattle.sn_load.specs.declared.status.Stop.TheVariants.{Refused, Faulted, Unread, Memory, Write}
+use Rattle.sn_load.specs.declared.load.TheConstants.{SOURCE_LIMIT}
 use Rattle.sn_top.specs.Seen.{Sink, File, SinkFailed, WhyUnread}
-use Rattle.sn_top.specs.Load.{IsLoaded}
-use Rattle.sn_top.specs.Scope.{WhyUnloaded, WhyNoProgram}
-use Rattle.sn_top.specs.Flows.{HasFlows}
-use Rattle.sn_top.specs.Answer.{IsAccepted, IsRefusedSource, FindsTypes, WhyUnchecked, whole}
+use Rattle.sn_load.specs.Load.{IsLoaded}
+use Rattle.sn_load.specs.Scope.{WhyUnloaded, WhyNoProgram}
+use Rattle.sn_load.specs.Flows.{HasFlows}
+use Rattle.sn_top.specs.Answer.{IsAccepted, IsRefusedSource, FindsTypes, WhyUnchecked}
+use Rattle.sn_top.specs.Runs.{whole}
 use Rattle.sn_top.proofs.Serving.{HasBytes, accepted, of_told}
 
 module _ (source : File) (out : Sink) where
@@ -60,4 +61,4 @@ module _ (source : File) (out : Sink) where
           (program, accepted bytes program is read.within, flows, refl)
 
       pub types_cut : AppendsPrefix out.before out.now text → SinkFailed out → WhyUnchecked source out Write
-      types_cut part failed = (failed, (whole text, finds_types, part))
+      types_cut part failed = (failed, ∣ (whole text, finds_types, part) ∣₁)

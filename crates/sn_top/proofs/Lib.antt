@@ -1,11 +1,10 @@
-pub mod Loading
 pub mod Printing
 pub mod Serving
 pub mod Served
-pub mod CommandLaws
 pub mod Printed
 pub mod Told
-pub mod Flowing
 pub mod Running
 pub mod Checking
 pub mod Sampling
+pub mod Working
+pub mod Counting

@@ -2,35 +2,17 @@
 use Rattle.std.proofs.Common.{◌≡◌, ℕ, ◌≤◌, List, length, None, refl, inl}
 use Rattle.std.specs.Prelude.{Ok, Err, Result}
 use Rattle.sn_io.specs.Told.{AppendsPrefix}
-use Rattle.sn_lexer.specs.Answer.{IsFault, LexesAs}
-use Rattle.sn_lexer.specs.declared.token.LexFault.{LexFault}
-use Rattle.sn_lexer.specs.declared.token.LexFault.TheVariants as lex_fault
-use Rattle.sn_lexer.specs.declared.token.Token.{Token}
-use Rattle.sn_parser.specs.Answer.{Faults}
-use Rattle.sn_parser.specs.declared.parsing.ParseFault.{ParseFault}
-use Rattle.sn_parser.specs.declared.parsing.ParseFault.TheVariants as parse_fault
-use Rattle.sn_top.specs.declared.serve.TheConstants.{SOURCE_LIMIT}
-use Rattle.sn_top.specs.declared.status.Which.TheVariants.{Source, Input}
-use Rattle.sn_top.specs.declared.status.Refusal.{Refusal}
-use Rattle.sn_top.specs.declared.status.Refusal.TheVariants.{TooLarge, Source as SourceAt, NoMain, TooDeep, LargeTree, TooManyNames, IllTyped, Variants, Line}
-use Rattle.sn_top.specs.declared.status.Stop.{Stop}
-use Rattle.sn_top.specs.declared.status.Stop.TheVariants.{Refused, Faulted, Unread, Memory, Write}
-use Rattle.sn_top.specs.Answer.{FindsText, whole, WhyUnprinted}
+use Rattle.sn_load.specs.declared.load.TheConstants.{SOURCE_LIMIT}
+use Rattle.sn_load.specs.declared.status.Which.TheVariants.{Source, Input}
+use Rattle.sn_load.specs.declared.status.Refusal.{Refusal}
+use Rattle.sn_load.specs.declared.status.Refusal.TheVariants.{TooLarge, Source as SourceAt, NoMain, TooDeep, LargeTree, TooManyNames, IllTyped, Variants, Line}
+use Rattle.sn_load.specs.declared.status.Stop.{Stop}
+use Rattle.sn_load.specs.declared.status.Stop.TheVariants.{Refused, Faulted, Unread, Memory, Write}
+use Rattle.sn_top.specs.Answer.{FindsText, WhyUnprinted}
+use Rattle.sn_top.specs.Runs.{whole}
 use Rattle.sn_top.specs.Seen.{File, Sink, SinkFailed, WhyUnread}
-use Rattle.sn_top.specs.Source.{FindsSource, HasText, WhyNoText, lex_stop, parse_stop}
+use Rattle.sn_load.specs.Source.{FindsSource, HasText, WhyNoText}
 use Rattle.sn_top.proofs.Serving.{HasBytes, of_told}
-
-pub not_lexed : (bytes : List ℕ) (fault : LexFault) → IsFault bytes fault → WhyNoText bytes (lex_stop fault)
-not_lexed bytes (lex_fault.BadUtf8 at) h = h
-not_lexed bytes (lex_fault.BadChar at) h = h
-not_lexed bytes (lex_fault.NumberTooWide at) h = h
-not_lexed bytes (lex_fault.TextOpen at) h = h
-not_lexed bytes lex_fault.Memory h = tt
-
-pub not_parsed : (bytes : List ℕ) (tokens : List Token) (fault : ParseFault) → LexesAs bytes tokens → Faults bytes tokens fault → WhyNoText bytes (parse_stop fault)
-not_parsed bytes tokens (parse_fault.Unexpected at) l h = record { tokens = tokens; lexed = l; faults = h }
-not_parsed bytes tokens (parse_fault.TooDeep at) l h = record { tokens = tokens; lexed = l; faults = h }
-not_parsed bytes tokens parse_fault.Memory l h = tt
 
 module _ (source : File) (out : Sink) where
   pub text_unread : out.now ≡ out.before → (why : Stop) → WhyUnread Source SOURCE_LIMIT source why → WhyUnprinted source out why
@@ -73,4 +55,4 @@ module _ (source : File) (out : Sink) where
     finds_text text h = of_told source.told bytes (λ b. (length b ≤ SOURCE_LIMIT) × FindsSource b (Ok text) × ((whole text).ending ≡ None)) read.told (read.within, h, refl)
 
     pub text_cut : (text : List ℕ) → HasText bytes text → AppendsPrefix out.before out.now text → SinkFailed out → WhyUnprinted source out Write
-    text_cut text h part failed = (failed, (whole text, finds_text text h, part))
+    text_cut text h part failed = (failed, ∣ (whole text, finds_text text h, part) ∣₁)

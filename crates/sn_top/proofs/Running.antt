@@ -1,39 +1,32 @@
 -- What a run prints, record by record.
-use Rattle.std.proofs.Common.{◌≡◌, ℕ, true, IsTrue, List, [], ◌∷◌, ◌++◌, map, refl, sym, ap, ◌∙◌, subst, subst₂, inr, append-nil, append_assoc}
+use Rattle.std.proofs.Common.{◌≡◌, ℕ, true, List, [], ◌∷◌, ◌++◌, map, refl, sym, ap, ◌∙◌, subst, subst₂, append-nil, append_assoc}
 use Rattle.std.specs.Prelude.{Option, None, Some, is_some, Result, Ok, Err, IfOk, IfErr, OnOk}
 use Rattle.std.specs.List.{All}
 use Rattle.std.proofs.lemmas.List.{map-append}
-use Rattle.std.proofs.lemmas.List.Elements.{All-head, All-map, All-tail, All-weaker}
-use Rattle.std.proofs.lemmas.List.Folds.{Any-from_list_any}
+use Rattle.std.proofs.lemmas.List.Elements.{All-head, All-tail}
 use mathlib.Core.Logic.{∥∥₁_map}
-use Rattle.sn_record.specs.Record.{Entries, is_match}
-use Rattle.sn_record.proofs.Scores.{is_match-Matches}
+use Rattle.sn_typing.specs.Typed.{IsTyped}
+use Rattle.sn_record.specs.Record.{Entries}
 use Rattle.sn_record.specs.declared.item.Fault.{Fault}
 use Rattle.sn_record.specs.declared.item.Item.{Item}
 use Rattle.sn_record.specs.declared.item.Item.TheVariants as item
 use Rattle.sn_net.specs.declared.expr.BoxProgram.{BoxProgram}
 use Rattle.sn_net.specs.declared.net.Net.{Net}
 use Rattle.sn_net.specs.Item.{ModelItem, Rec, modelled}
-use Rattle.sn_net.specs.declared.net.Claim.{Claim}
-use Rattle.sn_typing.specs.Typed.{IsTyped, labels_of}
-use Rattle.sn_typing.specs.Outline.{outline}
-use Rattle.sn_typing.specs.Accepted.{IsAccepted}
-use Rattle.sn_typing.proofs.MoreLabels.{more_labels}
-use Rattle.sn_typing.proofs.Subsets.{matched_labels}
 use Rattle.sn_model.specs.declared.run.Run.{Run}
 use Rattle.sn_model.specs.Meaning.{one_list}
 use Rattle.sn_model.specs.Run.{boxes_of, depth_of, fuel_of, net_of, setting_of}
-use Rattle.sn_input.specs.declared.input.Input.{Input}
 use Rattle.sn_model.specs.Typed.{FitsNet}
 use Rattle.sn_io.specs.Told.{appended, AppendsPrefix}
 use Rattle.sn_io.proofs.Told.{appended_twice, prefix_after, prefix_before}
 use Rattle.sn_output.specs.Line.{line}
 use Rattle.sn_output.specs.Printed.{printed, ending}
-use Rattle.sn_top.specs.declared.load.Program.{Program}
-use Rattle.sn_top.specs.declared.status.Stop.{Stop}
-use Rattle.sn_top.specs.declared.status.Stop.TheVariants.{Refused, Faulted, Unread, Memory, Write}
-use Rattle.sn_top.specs.Load.{IsTypedFile, Limits, is_of_type, stream_of}
-use Rattle.sn_top.specs.Runs.{AreTypedRecords, HasBegun, HasRun, WhyNotRun, WhyUnfinished}
+use Rattle.sn_load.specs.declared.status.Stop.{Stop}
+use Rattle.sn_load.specs.declared.status.Stop.TheVariants.{Refused, Faulted, Unread, Memory, Write}
+use Rattle.sn_load.specs.Load.{AreTypedRecords, Limits}
+use Rattle.sn_top.specs.Ready.{setting_at}
+use Rattle.sn_top.specs.Runs.{HasBegun, HasPrinted, OnOneThread, Printout, WhyCutOff, WhyUnfinished, ended}
+use Rattle.sn_top.specs.declared.ready.Ready.{Ready}
 use Rattle.sn_top.specs.Seen.{Sink}
 
 module _ (names : List (List ℕ)) where
@@ -136,45 +129,36 @@ pub some_ended : (fault : Option Fault) → is_some fault ≡ true → (at : Fau
 some_ended None is = cc
 some_ended (Some at) is = (at, refl)
 
--- records of the input type of an accepted claim are typed for its net
-module _ (boxes : List BoxProgram) (claim : Claim) (accepted : IsAccepted boxes claim) where
-  pub one_typed : (r : Entries) → IsTrue (is_of_type claim.input r) → IsTyped boxes claim.net (Rec r)
-  one_typed r is =
-      let found = Any-from_list_any (is_match r) claim.input is in
-      let v = found.1 in
-      (more_labels (outline boxes claim.net) v (labels_of r) (matched_labels r v ((is_match-Matches r v).0 found.4)) (accepted.safe v (found.0, found.2, found.3))).0
+-- a run made of what is ready
+module _ (run : Run) (limits : Limits) (ready : Ready) (net : net_of run ≡ ready.net) (boxes : boxes_of run ≡ ready.boxes) (fuel : fuel_of run ≡ limits.fuel) (depth : depth_of run ≡ limits.depth) where
+  pub run_typed : AreTypedRecords ready.boxes ready.net ready.records → AreTypedRecords (boxes_of run) (net_of run) ready.records
+  run_typed typed = subst₂ (λ (b : List BoxProgram) (n : Net). AreTypedRecords b n ready.records) (sym boxes) (sym net) typed
 
-  pub records_typed : (records : List Entries) → All (λ r. IsTrue (is_of_type claim.input r)) records → AreTypedRecords boxes claim.net records
-  records_typed records all = ∣ All-map (IsTyped boxes claim.net) Rec records (All-weaker (λ r. IsTrue (is_of_type claim.input r)) (λ r. IsTyped boxes claim.net (Rec r)) one_typed records all) ∣₁
-
--- a run made of a program
-module _ (run : Run) (limits : Limits) (program : Program) (input : Input) (net : net_of run ≡ program.claim.net) (boxes : boxes_of run ≡ program.boxes) (fuel : fuel_of run ≡ limits.fuel) (depth : depth_of run ≡ limits.depth) where
   abbrev pub stream : List ModelItem
-  stream = one_list (setting_of run) (net_of run) (map Rec input.records)
+  stream = one_list (setting_of run) (net_of run) (map Rec ready.records)
 
-  stream_is : stream ≡ stream_of limits program input
-  stream_is = λ i. one_list (record { boxes = boxes i; fuel = fuel i; depth = depth i }) (net i) (map Rec input.records)
+  stream_is : stream ≡ one_list (setting_at ready limits) ready.net (map Rec ready.records)
+  stream_is = λ i. one_list (record { boxes = boxes i; fuel = fuel i; depth = depth i }) (net i) (map Rec ready.records)
 
-  pub run_typed : AreTypedRecords program.boxes program.claim.net input.records → AreTypedRecords (boxes_of run) (net_of run) input.records
-  run_typed typed = subst₂ (λ (b : List BoxProgram) (n : Net). AreTypedRecords b n input.records) (sym boxes) (sym net) typed
+  -- what is printed of its one answer is what is printed on one thread
+  on_one_thread : (fault : Option Fault) → fault ≡ ending stream → OnOneThread (setting_at ready limits) ready.net ready.records ready.names (ended (printed ready.names stream) fault)
+  on_one_thread fault is = record { bytes_are = ap (printed ready.names) stream_is; ending_is = is ∙ ap ending stream_is }
 
-  module _ (bytes : List ℕ) (typed : IsTypedFile program.names program.claim bytes input) (out : Sink) where
-    pub has_run : (result : Result (Option Fault) Stop) → IfOk result (λ fault. fault ≡ ending stream) → OnOk result (out.now ≡ appended out.before (printed input.names stream)) → IfOk result (HasRun limits program bytes out)
-    has_run (Ok fault) ended got = record {
-      input = input;
-      typed = typed;
-      got = got ∙ ap (λ ys. appended out.before (printed input.names ys)) stream_is;
-      ended = ended ∙ ap ending stream_is;
-    }
-    has_run (Err why) ended got = tt
+  module _ (out : Sink) where
+    abbrev Shown : Printout → Type 0
+    Shown = OnOneThread (setting_at ready limits) ready.net ready.records ready.names
 
-    has_begun : AppendsPrefix out.before out.now (printed input.names stream) → HasBegun limits program bytes out
-    has_begun part = record { input = input; typed = typed; got = subst (λ ys. AppendsPrefix out.before out.now (printed input.names ys)) stream_is part }
+    pub has_printed : (result : Result (Option Fault) Stop) → IfOk result (λ fault. fault ≡ ending stream) → OnOk result (out.now ≡ appended out.before (printed ready.names stream)) → IfOk result (HasPrinted Shown out)
+    has_printed (Ok fault) end got = (printed ready.names stream, on_one_thread fault end, got)
+    has_printed (Err why) end got = tt
 
-    pub has_not_run : (result : Result (Option Fault) Stop) → IfErr result (WhyUnfinished out (printed input.names stream)) → IfErr result (WhyNotRun limits program bytes out)
-    has_not_run (Ok fault) why = tt
-    has_not_run (Err (Refused refusal)) why = absurd why
-    has_not_run (Err (Faulted fault)) why = absurd why
-    has_not_run (Err (Unread which)) why = absurd why
-    has_not_run (Err Memory) why = inr (has_begun why)
-    has_not_run (Err Write) why = (why.0, has_begun why.1)
+    has_begun : AppendsPrefix out.before out.now (printed ready.names stream) → HasBegun Shown out
+    has_begun part = ∣ (ended (printed ready.names stream) (ending stream), on_one_thread (ending stream) refl, part) ∣₁
+
+    pub not_finished : (result : Result (Option Fault) Stop) → IfErr result (WhyCutOff out (printed ready.names stream)) → IfErr result (WhyUnfinished Shown out)
+    not_finished (Ok fault) why = tt
+    not_finished (Err (Refused refusal)) why = absurd why
+    not_finished (Err (Faulted fault)) why = absurd why
+    not_finished (Err (Unread which)) why = absurd why
+    not_finished (Err Memory) why = has_begun why
+    not_finished (Err Write) why = (why.0, has_begun why.1)

@@ -1,5 +1,5 @@
 -- From the records of a number to what was counted, and why they were not.
-use Rattle.std.proofs.Common.{◌≡◌, ℕ, zero, suc, ◌+◌, ◌<◌, ◌≤◌, IsTrue, List, ◌∷◌, length, map, drop, get_or, not, codes, refl, sym, ap, ◌∙◌, subst, subst₂, inl, inr, arith}
+use Rattle.std.proofs.Common.{◌≡◌, ℕ, zero, suc, ◌+◌, ◌<◌, ◌≤◌, IsTrue, List, ◌∷◌, length, map, drop, get_or, not, codes, refl, sym, ap, ◌∙◌, subst, inl, inr, arith}
 use Rattle.std.specs.Prelude.{Option, None, Some, Result, Ok, Err, IfOk, IfErr, ◌↔◌, option_map}
 use Rattle.std.proofs.lemmas.List.{drop_more, length_push}
 use Rattle.std.specs.FinMap as finite
@@ -13,14 +13,13 @@ use Rattle.sn_names.specs.declared.fault.NamesFault.{NamesFault}
 use Rattle.sn_names.specs.declared.fault.NamesFault.TheVariants as names_fault
 use Rattle.sn_names.proofs.NamesLaws.{is_held-each, length-all_entered}
 use Rattle.sn_net.specs.declared.expr.BoxProgram.{BoxProgram}
-use Rattle.sn_net.specs.declared.net.Net.{Net}
 use Rattle.sn_net.specs.declared.net.Claim.{Claim}
-use Rattle.sn_net.specs.Item.{ModelItem, modelled}
+use Rattle.sn_net.specs.Item.{modelled}
 use Rattle.sn_typing.specs.Typed.{IsTyped}
 use Rattle.sn_typing.specs.Accepted.{IsAccepted as IsAcceptedClaim}
 use Rattle.sn_model.specs.declared.run.Run.{Run}
 use Rattle.sn_model.specs.Meaning.{one_list}
-use Rattle.sn_model.specs.Run.{boxes_of, depth_of, fuel_of, net_of, setting_of}
+use Rattle.sn_model.specs.Run.{boxes_of, depth_of, fuel_of, given, items_of, net_of}
 use Rattle.sn_model.specs.Typed.{AreTyped}
 use Rattle.sn_io.specs.Told.{AppendsPrefix}
 use Rattle.sn_output.specs.Printed.{ending}
@@ -29,20 +28,21 @@ use Rattle.sn_sample.specs.declared.tally.Tally.{Tally}
 use Rattle.sn_sample.specs.Records.{HasLabels, sample_items}
 use Rattle.sn_sample.specs.Source.{source_text}
 use Rattle.sn_sample.specs.Tally.{Counts, counted, counts_line}
-use Rattle.sn_top.specs.declared.load.Program.{Program}
-use Rattle.sn_top.specs.declared.status.LineFault.TheVariants as wrong
-use Rattle.sn_top.specs.declared.status.Refusal.TheVariants.{TooLarge, Source as SourceAt, NoMain, TooDeep, LargeTree, TooManyNames, IllTyped, Variants, Line}
-use Rattle.sn_top.specs.declared.status.Stop.{Stop}
-use Rattle.sn_top.specs.declared.status.Stop.TheVariants.{Refused, Faulted, Unread, Memory, Write}
-use Rattle.sn_top.specs.declared.serve.TheConstants.{SOURCE_LIMIT}
+use Rattle.sn_load.specs.declared.load.Program.{Program}
+use Rattle.sn_load.specs.declared.status.LineFault.TheVariants as wrong
+use Rattle.sn_load.specs.declared.status.Refusal.TheVariants.{TooLarge, Source as SourceAt, NoMain, TooDeep, LargeTree, TooManyNames, IllTyped, Variants, Line}
+use Rattle.sn_load.specs.declared.status.Stop.{Stop}
+use Rattle.sn_load.specs.declared.status.Stop.TheVariants.{Refused, Faulted, Unread, Memory, Write}
+use Rattle.sn_load.specs.declared.load.TheConstants.{SOURCE_LIMIT}
 use Rattle.sn_top.specs.Seen.{Sink, SinkFailed}
-use Rattle.sn_top.specs.Load.{IsLoaded, names_stop}
-use Rattle.sn_top.specs.Scope.{WhyUnloaded}
+use Rattle.sn_load.specs.Load.{IsLoaded, names_stop}
+use Rattle.sn_load.specs.Scope.{WhyUnloaded}
 use Rattle.sn_top.specs.declared.sample.Samples.{Samples}
 use Rattle.sn_top.specs.Sample.{AreSamples, HasCounted, IsWrongEntry, WhyNoSamples, answers_to, default_limits, first_untyped, is_item_of_type, label_names, names_with, records_of}
 use Rattle.sn_top.specs.Answer.{FindsSample, WhyUncounted}
-use Rattle.sn_top.proofs.Loading.{all_pass}
-use Rattle.sn_top.proofs.Running.{one_typed}
+use Rattle.sn_top.specs.Runs.{ended}
+use Rattle.sn_load.proofs.Loading.{all_pass}
+use Rattle.sn_load.proofs.Typing.{one_typed}
 use Rattle.sn_top.proofs.Serving.{accepted}
 
 -- the names of the labels are held once they were entered
@@ -127,27 +127,22 @@ module _ (names : List (List ℕ)) (claim : Claim) (number count : ℕ) where
     }
 
 -- a run of a program over them
-module _ (program : Program) (number count : ℕ) (samples : Samples) (are : AreSamples program.names program.claim number count samples)
-    (run : Run) (net : net_of run ≡ program.claim.net) (boxes : boxes_of run ≡ program.boxes) (fuel : fuel_of run ≡ default_limits.fuel) (depth : depth_of run ≡ default_limits.depth) where
-  pub run_typed : IsAcceptedClaim program.boxes program.claim → AreTyped (boxes_of run) (net_of run) samples.items
-  run_typed accepted =
-      subst₂ (λ (b : List BoxProgram) (n : Net). AreTyped b n samples.items) (sym boxes) (sym net)
-      (items_typed program.boxes program.claim accepted samples.items (ap (first_untyped program.claim.input) are.items_are ∙ are.typed.typed))
+module _ (program : Program) (number count : ℕ) (samples : Samples) (are : AreSamples program.names program.claim number count samples) where
+  pub samples_typed : IsAcceptedClaim program.boxes program.claim → AreTyped program.boxes program.claim.net samples.items
+  samples_typed accepted = items_typed program.boxes program.claim accepted samples.items (ap (first_untyped program.claim.input) are.items_are ∙ are.typed.typed)
 
-  abbrev pub answers : List ModelItem
-  answers = one_list (setting_of run) (net_of run) (map modelled samples.items)
+  module _ (run : Run) (net : net_of run ≡ program.claim.net) (boxes : boxes_of run ≡ program.boxes) (fuel : fuel_of run ≡ default_limits.fuel) (depth : depth_of run ≡ default_limits.depth) (items : items_of run ≡ samples.items) where
+    answers_are : given run ≡ answers_to program number count
+    answers_are = λ i. one_list (record { boxes = boxes i; fuel = fuel i; depth = depth i }) (net i) (map modelled ((items ∙ are.items_are) i))
 
-  answers_are : answers ≡ answers_to program number count
-  answers_are = λ i. one_list (record { boxes = boxes i; fuel = fuel i; depth = depth i }) (net i) (map modelled (are.items_are i))
-
-  pub has_counted : (result : Result (Tally × Option Fault) Stop) → IfOk result (λ made. counts_of made.0 ≡ counted samples.names answers) → IfOk result (λ made. made.1 ≡ ending answers)
-      → IfOk result (λ made. HasCounted program number count (counts_of made.0) made.1)
-  has_counted (Ok made) counts_are fault_is = record {
-    typed = are.typed;
-    counts_are = counts_are ∙ (λ i. counted (are.names_are i) (answers_are i));
-    fault_is = fault_is ∙ ap ending answers_are;
-  }
-  has_counted (Err why) counts_are fault_is = tt
+    pub has_counted : (result : Result (Tally × Option Fault) Stop) → IfOk result (λ made. counts_of made.0 ≡ counted samples.names (given run)) → IfOk result (λ made. made.1 ≡ ending (given run))
+        → IfOk result (λ made. HasCounted program number count (counts_of made.0) made.1)
+    has_counted (Ok made) counts_are fault_is = record {
+      typed = are.typed;
+      counts_are = counts_are ∙ (λ i. counted (are.names_are i) (answers_are i));
+      fault_is = fault_is ∙ ap ending answers_are;
+    }
+    has_counted (Err why) counts_are fault_is = tt
 
 -- want of memory has no cause
 pub not_finished : {A : Type 0} (names : List (List ℕ)) (claim : Claim) (number count : ℕ) (result : Result A Stop) → IfErr result (λ why. why ≡ Memory) → IfErr result (WhyNoSamples names claim number count)
@@ -192,8 +187,8 @@ module _ (number count : ℕ) (out : Sink) (program : Program) (is : IsLoaded so
 
   module _ (counts : Counts) (fault : Option Fault) (has : HasCounted program number count counts fault) where
     -- the line, and the fault, by how it ends
-    pub finds_line : (ended : Option Fault) → fault ≡ ended → FindsSample number count (Ok (record { bytes = counts_line counts; ending = ended }))
-    finds_line ended is_ended = (program, accepted source_text program is source_short, record { typed = has.typed; bytes_are = ap counts_line has.counts_are; ending_is = sym is_ended ∙ has.fault_is })
+    pub finds_line : (end : Option Fault) → fault ≡ end → FindsSample number count (Ok (ended (counts_line counts) end))
+    finds_line end is_end = (program, accepted source_text program is source_short, record { typed = has.typed; bytes_are = ap counts_line has.counts_are; ending_is = sym is_end ∙ has.fault_is })
 
     pub line_cut : AppendsPrefix out.before out.now (counts_line counts) → SinkFailed out → WhyUncounted number count out Write
-    line_cut part failed = (failed, (record { bytes = counts_line counts; ending = fault }, finds_line fault refl, part))
+    line_cut part failed = (failed, ∣ (ended (counts_line counts) fault, finds_line fault refl, part) ∣₁)

@@ -1,54 +1,37 @@
 -- What a command may leave: its status, and what it appends to `out` and to `err`.
-use Rattle.std.specs.Prelude.{◌≡◌, ◌⊎◌, ◌≤◌, ◌<◌, ℕ, List, [], length, codes, Option, None, Some, Result, Ok, Err, IfSome}
-use Rattle.sn_io.specs.Told.{appended, AppendsPrefix}
-use Rattle.sn_top.specs.declared.words.Command.{Command}
-use Rattle.sn_top.specs.declared.words.Command.TheVariants.{Check, Once, Print, Sample}
-use Rattle.sn_top.specs.declared.status.Status.{Status}
-use Rattle.sn_top.specs.declared.status.Status.TheVariants as status
-use Rattle.sn_top.specs.declared.status.Which.{Which}
-use Rattle.sn_top.specs.declared.status.Which.TheVariants.{Source, Input}
-use Rattle.sn_top.specs.declared.status.Refusal.{Refusal}
-use Rattle.sn_top.specs.declared.status.Refusal.TheVariants.{TooLarge, Source as SourceAt, NoMain, TooDeep, LargeTree, TooManyNames, IllTyped, Variants, Line}
-use Rattle.sn_top.specs.declared.status.Stop.{Stop}
-use Rattle.sn_top.specs.declared.status.Stop.TheVariants as stop
-use Rattle.sn_top.specs.declared.serve.TheConstants.{SOURCE_LIMIT, INPUT_LIMIT}
-use Rattle.sn_top.specs.Source.{FindsSource}
-use Rattle.sn_top.specs.Status.{refusal_status, stop_line}
-use Rattle.sn_top.specs.Words.{usage_text, source_of, input_of}
+use Rattle.std.specs.Prelude.{◌≡◌, ◌⊎◌, ◌≤◌, ◌<◌, ℕ, List, [], length, codes, Option, None, Some, Result, Ok, Err, IfSome, Bool, false, true}
+use Rattle.sn_io.specs.Told.{appended}
+use Rattle.sn_words.specs.Command.{usage_text, source_of, input_of}
+use Rattle.sn_words.specs.declared.command.Command.{Command}
+use Rattle.sn_words.specs.declared.command.Command.TheVariants.{Run, Once, Check, Print, Sample}
+use Rattle.sn_load.specs.declared.status.Status.{Status}
+use Rattle.sn_load.specs.declared.status.Status.TheVariants as status
+use Rattle.sn_load.specs.declared.status.Which.{Which}
+use Rattle.sn_load.specs.declared.status.Which.TheVariants.{Source, Input}
+use Rattle.sn_load.specs.declared.status.Refusal.{Refusal}
+use Rattle.sn_load.specs.declared.status.Refusal.TheVariants.{TooLarge, Source as SourceAt, NoMain, TooDeep, LargeTree, TooManyNames, IllTyped, Variants, Line}
+use Rattle.sn_load.specs.declared.status.Stop.{Stop}
+use Rattle.sn_load.specs.declared.status.Stop.TheVariants as stop
+use Rattle.sn_load.specs.declared.load.TheConstants.{SOURCE_LIMIT, INPUT_LIMIT}
+use Rattle.sn_load.specs.Source.{FindsSource}
+use Rattle.sn_load.specs.Status.{refusal_status, stop_line, stop_status}
 use Rattle.sn_top.specs.Seen.{Sink, File, seen_sink, seen_file, SinkFailed, FileFailed, GotLine}
 use Rattle.sn_record.specs.declared.item.Fault.{Fault}
 use Rattle.sn_net.specs.declared.net.Claim.{Claim}
-use Rattle.sn_input.specs.declared.input.Input.{Input as RecordFile}
-use Rattle.sn_output.specs.Printed.{printed, ending}
-use Rattle.sn_top.specs.Load.{Limits, limits_of, HasManyNames, HasWrongLine, stream_of, IsTypedFile}
-use Rattle.sn_top.specs.Flows.{HasFlows}
+use Rattle.sn_output.specs.Printed.{ending}
+use Rattle.sn_load.specs.Load.{Limits, limits_of, HasManyNames, HasWrongLine}
+use Rattle.sn_top.specs.Runs.{Manner, Printout, Prints, OnOneThread, WithWorkers, HasBegun, ended}
+use Rattle.sn_load.specs.Flows.{HasFlows}
 use Rattle.sn_top.specs.Sample.{AreTypedSamples, HasNoRoom, IsWrongSample, answers_to, names_with}
 use Rattle.sn_sample.specs.Source.{source_text}
 use Rattle.sn_sample.specs.Tally.{counted, counts_line}
-use Rattle.sn_top.specs.Scope.{IsProgram, WhyNoProgram}
-use Rattle.sn_top.specs.declared.load.Program.{Program}
+use Rattle.sn_load.specs.Scope.{IsProgram, WhyNoProgram}
+use Rattle.sn_load.specs.declared.load.Program.{Program}
 
 -- the source is within the limit, and spells the program
 pub record IsAccepted (bytes : List ℕ) (program : Program) : Type 0 where
   pub within : length bytes ≤ SOURCE_LIMIT
   pub main : IsProgram bytes program
-
--- what a command prints, and the fault that ends it, if there is one
-pub record Printout : Type 0 where
-  pub bytes : List ℕ
-  pub ending : Option Fault
-
--- what no fault ends
-abbrev pub whole : List ℕ → Printout
-whole bytes = record { bytes = bytes; ending = None }
-
--- what the program prints for an input of these bytes, which is within the limit and a record file of its input type
-pub record Prints (limits : Limits) (program : Program) (bytes : List ℕ) (p : Printout) : Type 0 where
-  pub within : length bytes ≤ INPUT_LIMIT
-  pub input : RecordFile
-  pub typed : IsTypedFile program.names program.claim bytes input
-  pub bytes_are : p.bytes ≡ printed input.names (stream_of limits program input)
-  pub ending_is : p.ending ≡ ending (stream_of limits program input)
 
 -- the source is within the limit, and refused
 abbrev pub IsRefusedSource : Refusal → List ℕ → Type 0
@@ -58,20 +41,24 @@ IsRefusedSource refusal bytes = (length bytes ≤ SOURCE_LIMIT) × WhyNoProgram 
 abbrev pub IsRefusedInput : Option (List ℕ) → (List (List ℕ) → Claim → List ℕ → Type 0) → List ℕ → Type 0
 IsRefusedInput input Why bytes = (program : Program) × IsAccepted bytes program × IfSome input (λ more. (length more ≤ INPUT_LIMIT) × Why program.names program.claim more)
 
--- what the checks and the run find of a source and an input, where their bytes are told; the checks come in the order:
--- the source's file, the source and its types, the input's file, the input and its types, the run
-abbrev pub Finds : Limits → Option (List ℕ) → Option (List ℕ) → Result Printout Refusal → Type 0
-Finds limits source input (Err (TooLarge Source)) = IfSome source (λ bytes. SOURCE_LIMIT < length bytes)
-Finds limits source input (Err (SourceAt fault at)) = IfSome source (IsRefusedSource (SourceAt fault at))
-Finds limits source input (Err NoMain) = IfSome source (IsRefusedSource NoMain)
-Finds limits source input (Err (TooDeep at)) = IfSome source (IsRefusedSource (TooDeep at))
-Finds limits source input (Err (LargeTree at)) = IfSome source (IsRefusedSource (LargeTree at))
-Finds limits source input (Err TooManyNames) = IfSome source (λ bytes. IsRefusedSource TooManyNames bytes ⊎ IsRefusedInput input HasManyNames bytes)
-Finds limits source input (Err (Line fault)) = IfSome source (IsRefusedInput input (HasWrongLine fault))
-Finds limits source input (Err (IllTyped fault at variant)) = IfSome source (IsRefusedSource (IllTyped fault at variant))
-Finds limits source input (Err (Variants at)) = IfSome source (IsRefusedSource (Variants at))
-Finds limits source input (Err (TooLarge Input)) = IfSome source (λ bytes. (program : Program) × IsAccepted bytes program × IfSome input (λ more. INPUT_LIMIT < length more))
-Finds limits source input (Ok p) = IfSome source (λ bytes. (program : Program) × IsAccepted bytes program × IfSome input (λ more. Prints limits program more p))
+-- What the checks refuse of a source and an input, where their bytes are told. They come in this order: the source's file, the source
+-- and its types, the input's file, the input and its types.
+abbrev pub IsRefused : Option (List ℕ) → Option (List ℕ) → Refusal → Type 0
+IsRefused source input (TooLarge Source) = IfSome source (λ bytes. SOURCE_LIMIT < length bytes)
+IsRefused source input (SourceAt fault at) = IfSome source (IsRefusedSource (SourceAt fault at))
+IsRefused source input NoMain = IfSome source (IsRefusedSource NoMain)
+IsRefused source input (TooDeep at) = IfSome source (IsRefusedSource (TooDeep at))
+IsRefused source input (LargeTree at) = IfSome source (IsRefusedSource (LargeTree at))
+IsRefused source input TooManyNames = IfSome source (λ bytes. IsRefusedSource TooManyNames bytes ⊎ IsRefusedInput input HasManyNames bytes)
+IsRefused source input (Line fault) = IfSome source (IsRefusedInput input (HasWrongLine fault))
+IsRefused source input (IllTyped fault at variant) = IfSome source (IsRefusedSource (IllTyped fault at variant))
+IsRefused source input (Variants at) = IfSome source (IsRefusedSource (Variants at))
+IsRefused source input (TooLarge Input) = IfSome source (λ bytes. (program : Program) × IsAccepted bytes program × IfSome input (λ more. INPUT_LIMIT < length more))
+
+-- what the checks and then the run find of them
+abbrev pub Finds : Manner → Limits → Option (List ℕ) → Option (List ℕ) → Result Printout Refusal → Type 0
+Finds Shows limits source input (Err refusal) = IsRefused source input refusal
+Finds Shows limits source input (Ok p) = IfSome source (λ bytes. (program : Program) × IsAccepted bytes program × IfSome input (λ more. Prints Shows limits program more p))
 
 -- the same of a source alone, which is within the limit where more than its size is found
 abbrev pub FindsText : Option (List ℕ) → Result Printout Refusal → Type 0
@@ -160,7 +147,8 @@ seen bytes_of file_faults out_held out_faults err_held err_faults files new_file
 
 -- what is found of a command's files
 abbrev pub FindsFor : Command → (List ℕ → File) → Result Printout Refusal → Type 0
-FindsFor (Once source input fuel depth) file found = Finds (limits_of fuel depth) (file source).told (file input).told found
+FindsFor (Run source input workers fuel depth queue) file found = Finds WithWorkers (limits_of fuel depth) (file source).told (file input).told found
+FindsFor (Once source input fuel depth) file found = Finds OnOneThread (limits_of fuel depth) (file source).told (file input).told found
 FindsFor (Check source) file found = FindsTypes (file source).told found
 FindsFor (Print source) file found = FindsText (file source).told found
 FindsFor (Sample number count) file found = FindsSample number count found
@@ -183,6 +171,7 @@ IsSourceUnread Source source = FileFailed source
 IsSourceUnread Input source = ⊥
 
 abbrev pub UnreadFor : Command → (List ℕ → File) → Which → Type 0
+UnreadFor (Run source input workers fuel depth queue) file which = IsUnread which (file source) (file input)
 UnreadFor (Once source input fuel depth) file which = IsUnread which (file source) (file input)
 UnreadFor (Check source) file which = IsSourceUnread which (file source)
 UnreadFor (Print source) file which = IsSourceUnread which (file source)
@@ -197,7 +186,7 @@ pub record HasUnread (command : Command) (outside : Outside) : Type 0 where
 
 -- `out` got nothing, or some first bytes of what it would get
 abbrev pub GotPart : (Result Printout Refusal → Type 0) → Sink → Type 0
-GotPart finds out = (out.now ≡ out.before) ⊎ ((p : Printout) × finds (Ok p) × AppendsPrefix out.before out.now p.bytes)
+GotPart finds out = (out.now ≡ out.before) ⊎ HasBegun (λ p. finds (Ok p)) out
 
 pub record IsCutShort (command : Command) (outside : Outside) : Type 0 where
   pub out_got : GotPart (FindsFor command outside.file) outside.out
@@ -205,7 +194,7 @@ pub record IsCutShort (command : Command) (outside : Outside) : Type 0 where
 
 -- the count of `out` rose, and it got some first bytes of what it would get
 abbrev pub HasFailed : (Result Printout Refusal → Type 0) → Sink → Type 0
-HasFailed finds out = SinkFailed out × ((p : Printout) × finds (Ok p) × AppendsPrefix out.before out.now p.bytes)
+HasFailed finds out = SinkFailed out × HasBegun (λ p. finds (Ok p)) out
 
 pub record IsUnwritten (command : Command) (outside : Outside) : Type 0 where
   pub out_failed : HasFailed (FindsFor command outside.file) outside.out
@@ -214,14 +203,14 @@ pub record IsUnwritten (command : Command) (outside : Outside) : Type 0 where
 -- why a run ended otherwise than with its whole output, and what `out` holds then
 abbrev pub StoppedFor : (Result Printout Refusal → Type 0) → (Which → Type 0) → Sink → Stop → Type 0
 StoppedFor finds unread out (stop.Refused refusal) = finds (Err refusal) × (out.now ≡ out.before)
-StoppedFor finds unread out (stop.Faulted fault) = (p : List ℕ) × finds (Ok (record { bytes = p; ending = Some fault })) × (out.now ≡ appended out.before p)
+StoppedFor finds unread out (stop.Faulted fault) = (p : List ℕ) × finds (Ok (ended p (Some fault))) × (out.now ≡ appended out.before p)
 StoppedFor finds unread out (stop.Unread which) = unread which × (out.now ≡ out.before)
 StoppedFor finds unread out stop.Memory = GotPart finds out
 StoppedFor finds unread out stop.Write = HasFailed finds out
 
 -- a run on a source and an input
-abbrev pub WhyStopped : Limits → File → File → Sink → Stop → Type 0
-WhyStopped limits source input out why = StoppedFor (Finds limits source.told input.told) (λ which. IsUnread which source input) out why
+abbrev pub WhyStopped : Manner → Limits → File → File → Sink → Stop → Type 0
+WhyStopped Shows limits source input out why = StoppedFor (Finds Shows limits source.told input.told) (λ which. IsUnread which source input) out why
 
 -- the printing of a source
 abbrev pub WhyUnprinted : File → Sink → Stop → Type 0
@@ -234,6 +223,23 @@ WhyUnchecked source out why = StoppedFor (FindsTypes source.told) (λ which. IsS
 -- a run on the records of a number
 abbrev pub WhyUncounted : ℕ → ℕ → Sink → Stop → Type 0
 WhyUncounted number count out why = StoppedFor (FindsSample number count) (λ which. ⊥) out why
+
+-- the calling thread does the command alone
+abbrev pub is_plain : Command → Bool
+is_plain (Run source input workers fuel depth queue) = false
+is_plain (Once source input fuel depth) = true
+is_plain (Check source) = true
+is_plain (Print source) = true
+is_plain (Sample number count) = false
+
+-- the status of what was done, and what `err` got of it
+abbrev pub end_status : Result (Unit {0}) Stop → Status
+end_status (Ok done) = status.Ok
+end_status (Err why) = stop_status why
+
+abbrev pub GotEnd : Sink → Result (Unit {0}) Stop → Command → Type 0
+GotEnd err (Ok done) command = err.now ≡ err.before
+GotEnd err (Err why) command = GotLine err (stop_line why (source_of command) (input_of command))
 
 -- any command
 abbrev pub WhyEnded : Command → (List ℕ → File) → Sink → Stop → Type 0

@@ -1,11 +1,6 @@
-pub mod Status
 pub mod Seen
-pub mod Words
-pub mod Load
 pub mod Shown
-pub mod Source
-pub mod Scope
 pub mod Sample
 pub mod Answer
-pub mod Flows
+pub mod Ready
 pub mod Runs

@@ -12,16 +12,16 @@ use Rattle.sn_model.specs.Meaning.{one_list}
 use Rattle.sn_output.specs.Printed.{ending}
 use Rattle.sn_sample.specs.Records.{sample_items}
 use Rattle.sn_sample.specs.Tally.{Counts, counted}
-use Rattle.sn_top.specs.declared.load.Program.{Program}
-use Rattle.sn_top.specs.declared.status.LineFault.{LineFault}
-use Rattle.sn_top.specs.declared.status.LineFault.TheVariants as line
-use Rattle.sn_top.specs.declared.status.Refusal.{Refusal}
-use Rattle.sn_top.specs.declared.status.Refusal.TheVariants as refusal
-use Rattle.sn_top.specs.declared.status.Stop.{Stop}
-use Rattle.sn_top.specs.declared.status.Stop.TheVariants as stop
+use Rattle.sn_load.specs.declared.load.Program.{Program}
+use Rattle.sn_load.specs.declared.status.LineFault.{LineFault}
+use Rattle.sn_load.specs.declared.status.LineFault.TheVariants as line
+use Rattle.sn_load.specs.declared.status.Refusal.{Refusal}
+use Rattle.sn_load.specs.declared.status.Refusal.TheVariants as refusal
+use Rattle.sn_load.specs.declared.status.Stop.{Stop}
+use Rattle.sn_load.specs.declared.status.Stop.TheVariants as stop
 use Rattle.sn_top.specs.declared.sample.Samples.{Samples}
-use Rattle.sn_top.specs.declared.words.TheConstants.{DEFAULT_FUEL, DEFAULT_DEPTH}
-use Rattle.sn_top.specs.Load.{Limits, is_of_type, limits_of, setting}
+use Rattle.sn_words.specs.declared.numbers.TheConstants.{DEFAULT_FUEL, DEFAULT_DEPTH}
+use Rattle.sn_load.specs.Load.{Limits, is_of_type, limits_of, setting}
 
 -- the names of the labels of the records
 abbrev pub label_names : List (List ℕ)
@@ -99,7 +99,7 @@ pub record AreSamples (names : List (List ℕ)) (claim : Claim) (number count : 
   pub items_are : made.items ≡ records_of names number count
   pub typed : AreTypedSamples names claim number count
 
--- what a program answers to the records on one thread, within the limits that hold where no word says others
+-- what a program answers to the records on one thread, and so with workers where each merge is in order, within the limits that hold where no word says others
 abbrev pub default_limits : Limits
 default_limits = limits_of DEFAULT_FUEL DEFAULT_DEPTH
 

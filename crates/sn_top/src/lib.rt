@@ -2,16 +2,15 @@
 //! on standard error and the exit status.
 #![tactic(auto)]
 
-mod canonical;
-mod load;
 mod outside;
+mod ready;
 mod sample;
 mod serve;
-mod status;
 mod transcript;
-mod types;
-mod words;
+mod workers;
 
-pub use serve::{INPUT_LIMIT, SOURCE_LIMIT, serve_plain, serve_words};
-pub use status::Status;
-pub use words::{Command, DEFAULT_DEPTH, DEFAULT_FUEL, WordsFault, read_words};
+pub use serve::{serve_plain, serve_words};
+pub use sn_load::{INPUT_LIMIT, SOURCE_LIMIT, Status};
+pub use sn_words::{
+    Command, DEFAULT_DEPTH, DEFAULT_FUEL, DEFAULT_QUEUE, DEFAULT_WORKERS, WordsFault, read_words,
+};

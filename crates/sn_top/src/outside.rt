@@ -5,8 +5,8 @@ ghost use Rattle.sn_io.specs.Causes.{HasCause};
 ghost use Rattle.sn_io.specs.Told.{appended, AppendsPrefix};
 ghost use Rattle.sn_top.specs.Seen.{seen_file, seen_sink, GotLine, WhyUnread};
 
-use crate::status::{Refusal, Stop, Which};
 use sn_io::{Bytes, Files, FilesFault, Sink, WriteFault, write_whole};
+use sn_load::{Refusal, Stop, Which};
 use std::alloc::Global;
 
 /// All bytes of one of a command's files.

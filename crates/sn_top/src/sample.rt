@@ -1,5 +1,5 @@
 //! What comes of a program for the records of a number, counted.
-ghost use Rattle.std.specs.Prelude.{◌≡◌, ◌<◌, ◌≤◌, length, map, IfOk, IfErr, OnOk};
+ghost use Rattle.std.specs.Prelude.{◌≡◌, ◌<◌, ◌≤◌, length, map, IfOk, IfErr, IsTrue, OnOk};
 ghost use Rattle.sn_names.specs.Names.{all_entered};
 ghost use Rattle.sn_net.specs.Item.{modelled};
 ghost use Rattle.sn_net.specs.WellFormed.{FitsBoxes};
@@ -8,23 +8,26 @@ ghost use Rattle.sn_output.specs.Printed.{ending};
 ghost use Rattle.sn_sample.specs.Counts.{counts_of};
 ghost use Rattle.sn_sample.specs.Records.{HasLabels};
 ghost use Rattle.sn_sample.specs.Tally.{counted};
-ghost use Rattle.sn_model.specs.Meaning.{one_list};
-ghost use Rattle.sn_model.specs.Run.{boxes_of, net_of, setting_of};
-ghost use Rattle.sn_model.specs.Typed.{AreTyped};
+ghost use Rattle.sn_net.specs.Net.{all_deterministic};
+ghost use Rattle.sn_model.specs.Run.{given, net_of};
 ghost use Rattle.sn_top.specs.Sample.{AreSamples, HasCounted, IsWrongEntry, WhyNoSamples, first_untyped, is_item_of_type, label_names};
 
-use crate::load::{Program, is_of_type};
-use crate::status::{LineFault, Refusal, Stop};
-use crate::transcript::DEFAULT_QUEUE;
-use crate::words::{DEFAULT_DEPTH, DEFAULT_FUEL};
+use sn_farm::{Outcome, farm_drive};
+use sn_graph::Graph;
+use sn_io::{Gate, NullSink};
 use sn_list::Memory;
+use sn_load::{LineFault, Program, Refusal, Stop, is_of_type};
 use sn_model::Run;
 use sn_names::Names;
-use sn_net::Claim;
-use sn_once::run_over;
+use sn_net::{Claim, all_det};
+use sn_once::run_once;
+use sn_output::LineSink;
 use sn_record::{Fault, Item, Items, LabelSet};
 use sn_sample::{Tally, sample_records};
+use sn_words::{DEFAULT_DEPTH, DEFAULT_FUEL, DEFAULT_QUEUE, DEFAULT_WORKERS};
 use std::alloc::Global;
+use std::sync::{Arc, Wait};
+use std::thread::Threads;
 
 /// Enters the names of the records' labels, where they are new.
 fn enter_labels(names: &mut Names) -> Result<(), Stop>
@@ -103,29 +106,63 @@ fn make_samples(
     }
 }
 
-/// The counters of what the network of a run gives on one thread for typed items, up to the fault that ends it.
-fn count_run(
-    alloc: Global,
-    run: &Run,
-    names: &Names,
-    items: Items,
-) -> Result<(Tally, Option<Fault>), Stop>
-    requires { AreTyped (boxes_of run.now) (net_of run.now) items }
-    ensures counters { IfOk result (λ made. counts_of made.0 ≡ counted names.now (one_list (setting_of run.now) (net_of run.now) (map modelled items))) }
-    ensures fault { IfOk result (λ made. made.1 ≡ ending (one_list (setting_of run.now) (net_of run.now) (map modelled items))) }
+/// The counters of what a run gives on one thread, up to the fault that ends it.
+fn count_alone(alloc: Global, run: &Run, names: &Names) -> Result<(Tally, Option<Fault>), Stop>
+    ensures counters { IfOk result (λ made. counts_of made.0 ≡ counted names.now (given run.now)) }
+    ensures fault { IfOk result (λ made. made.1 ≡ ending (given run.now)) }
     ensures memory { IfErr result (λ why. why ≡ Stop.Memory) }
 {
-    let given = run_over(alloc, run, items)?;
+    let given = run_once(alloc, run)?;
     Ok(count_items(names, given.as_slice())?)
 }
 
-/// Runs a program over the records of a number, on one thread and within the limits that hold where no word says others, and counts
-/// what comes out.
-pub fn count_sample(
+/// The same by a graph that is driven with workers, where each merge is in order. Nothing is printed of what comes out.
+fn count_together<R: Threads + Wait + Sync, G: Gate>(
+    rt: &R,
+    alloc: Global,
+    run: Run,
+    names: &Names,
+    gate: &G,
+) -> Result<(Tally, Option<Fault>), Stop>
+    requires { IsTrue (all_deterministic (net_of run)) }
+    ensures counters { IfOk result (λ made. counts_of made.0 ≡ counted names.now (given run)) }
+    ensures fault { IfOk result (λ made. made.1 ≡ ending (given run)) }
+    ensures memory { IfErr result (λ why. why ≡ Stop.Memory) }
+{
+    let Ok(run) = Arc::new(alloc, run) else {
+        return Err(Stop::Memory);
+    };
+    let mut graph = Graph::start(alloc, &run)?;
+    let mut nowhere = NullSink;
+    let mut lines = LineSink {
+        sink: &mut nowhere,
+        names,
+    };
+    match farm_drive(
+        rt,
+        alloc,
+        &run,
+        &mut graph,
+        DEFAULT_WORKERS,
+        gate,
+        &mut lines,
+    ) {
+        Outcome::Whole => Ok(count_items(names, graph.out().as_slice())?),
+        Outcome::Faulted(_) => Ok(count_items(names, graph.out().as_slice())?),
+        Outcome::WriteFault => unreachable!(),
+        Outcome::Memory => Err(Stop::Memory),
+    }
+}
+
+/// Runs a program over the records of a number, within the limits that hold where no word says others, and counts what comes out. It runs
+/// with workers, or on one thread where a merge is free and so they might give another stream.
+pub fn count_sample<R: Threads + Wait + Sync, G: Gate>(
+    rt: &R,
     alloc: Global,
     program: Program,
     number: u32,
     count: u32,
+    gate: &G,
 ) -> Result<(Tally, Option<Fault>), Stop>
     requires number { number < 2_147_483_648 }
     requires formed { FitsBoxes program.boxes program.claim.net }
@@ -146,7 +183,11 @@ pub fn count_sample(
         DEFAULT_FUEL,
         DEFAULT_DEPTH,
         DEFAULT_QUEUE,
-        Items::new(alloc),
+        items,
     );
-    count_run(alloc, &run, &names, items)
+    if all_det(run.net()) {
+        count_together(rt, alloc, run, &names, gate)
+    } else {
+        count_alone(alloc, &run, &names)
+    }
 }

@@ -1,36 +1,33 @@
 //! The top calls.
-ghost use Rattle.std.specs.Prelude.{◌≡◌, ◌≢◌, ◌≤◌, ◌<◌, ℕ, List, Ok, IfErr, OnOk, map};
+ghost use Rattle.std.specs.Prelude.{◌≡◌, ◌≢◌, ◌≤◌, ◌<◌, ℕ, List, Ok, IfErr, OnOk, false, map, true};
 ghost use Rattle.std.specs.String.{string_bytes};
 ghost use Rattle.sn_io.specs.Told.{appended};
-ghost use Rattle.sn_top.specs.Load.{AreLimits, limits_of};
+ghost use Rattle.sn_load.specs.Load.{AreLimits, limits_of};
 ghost use Rattle.sn_top.specs.Seen.{GotLine, seen_file, seen_sink};
-ghost use Rattle.sn_top.specs.Status.{stop_line};
-ghost use Rattle.sn_top.specs.Words.{command_of, input_of, IsInRange, source_of};
-ghost use Rattle.sn_top.specs.Answer.{seen, whole, Finds, FindsFor, FindsSample, FindsText, FindsTypes, WhyEnded, WhyStopped, WhyUnchecked, WhyUncounted, WhyUnprinted, IsAnswered, HasUnread, IsCutShort, IsUnwritten, IsAnsweredFor, OfCommand, IsCutShortFor};
+ghost use Rattle.sn_load.specs.Status.{stop_line};
+ghost use Rattle.sn_top.specs.Answer.{GotEnd, end_status, is_plain, seen, Finds, FindsFor, FindsSample, FindsText, FindsTypes, WhyEnded, WhyStopped, WhyUnchecked, WhyUncounted, WhyUnprinted, IsAnswered, HasUnread, IsCutShort, IsUnwritten, IsAnsweredFor, OfCommand, IsCutShortFor};
+ghost use Rattle.sn_top.specs.Runs.{OnOneThread, WithWorkers, whole};
+ghost use Rattle.sn_words.specs.Command.{IsInRange, input_of, source_of};
+ghost use Rattle.sn_words.specs.Words.{command_of};
+ghost use Rattle.sn_model.specs.Ranges.{IsWithin};
+ghost use Rattle.sn_model.specs.declared.run.TheConstants.{LONGEST_QUEUE};
 
-use crate::canonical::canonical_text;
-use crate::load::load_source;
 use crate::outside::{read_file, write_line};
+use crate::ready::prepare;
 use crate::sample::count_sample;
-use crate::status::{Status, Stop, Which};
-use crate::transcript::run_program;
-use crate::types::flows_text;
-use crate::words::{Command, WordsFault, read_words, usage_line};
+use crate::transcript::print_once;
+use crate::workers::{Setup, print_with_workers};
 use itoa::Buffer;
 use sn_io::{Files, Gate, Sink, write_whole};
 use sn_list::Seq;
+use sn_load::{SOURCE_LIMIT, Status, Stop, Which, canonical_text, flows_text, load_source};
 use sn_sample::sample_source;
+use sn_words::{Command, WordsFault, read_words, usage_line};
 use std::alloc::Global;
 use std::sync::Wait;
 use std::thread::Threads;
 
-/// The most bytes of a source.
-pub const SOURCE_LIMIT: u64 = 1_048_576;
-
-/// The most bytes of an input.
-pub const INPUT_LIMIT: u64 = 16_777_216;
-
-/// Runs a source over the records of an input, and prints what comes out. Each file is read once.
+/// Runs a source over the records of an input on one thread, and prints what comes out.
 fn run_once<F: Files, O: Sink>(
     alloc: Global,
     source_name: &[u8],
@@ -42,9 +39,9 @@ fn run_once<F: Files, O: Sink>(
 ) -> Result<(), Stop>
     requires { AreLimits (limits_of fuel depth) }
     ensures done { OnOk result ((p : List ℕ)
-        × Finds (limits_of fuel depth) (F.bytes_of files.old source_name.now) (F.bytes_of files.old input_name.now) (Ok (whole p))
+        × Finds OnOneThread (limits_of fuel depth) (F.bytes_of files.old source_name.now) (F.bytes_of files.old input_name.now) (Ok (whole p))
         × (O.held out.new ≡ appended (O.held out.old) p)) }
-    ensures stopped { IfErr result (WhyStopped (limits_of fuel depth)
+    ensures stopped { IfErr result (WhyStopped OnOneThread (limits_of fuel depth)
         (seen_file F.bytes_of F.faults files.old files.new source_name.now)
         (seen_file F.bytes_of F.faults files.old files.new input_name.now)
         (seen_sink O.held O.faults out.old out.new)) }
@@ -52,10 +49,40 @@ fn run_once<F: Files, O: Sink>(
     ensures later { (name : List ℕ) → F.faults files.old name ≤ F.faults files.new name }
     ensures out_later { O.faults out.old ≤ O.faults out.new }
 {
-    let source = read_file(alloc, files, Which::Source, source_name, SOURCE_LIMIT)?;
-    let program = load_source(alloc, source.as_slice())?;
-    let input = read_file(alloc, files, Which::Input, input_name, INPUT_LIMIT)?;
-    match run_program(alloc, program, fuel, depth, input.as_slice(), out)? {
+    let ready = prepare(alloc, source_name, input_name, files)?;
+    match print_once(alloc, ready, fuel, depth, out)? {
+        None => Ok(()),
+        Some(fault) => Err(Stop::Faulted(fault)),
+    }
+}
+
+/// Runs a source over the records of an input with workers, and prints what comes out.
+fn run_with_workers<R: Threads + Wait + Sync, F: Files, O: Sink, G: Gate>(
+    rt: &R,
+    alloc: Global,
+    source_name: &[u8],
+    input_name: &[u8],
+    setup: Setup,
+    gate: &G,
+    files: &mut F,
+    out: &mut O,
+) -> Result<(), Stop>
+    requires limits { AreLimits (limits_of setup.fuel setup.depth) }
+    requires workers { (1 ≤ setup.workers) × (setup.workers ≤ 64) }
+    requires queue { IsWithin setup.queue LONGEST_QUEUE }
+    ensures done { OnOk result ((p : List ℕ)
+        × Finds WithWorkers (limits_of setup.fuel setup.depth) (F.bytes_of files.old source_name.now) (F.bytes_of files.old input_name.now) (Ok (whole p))
+        × (O.held out.new ≡ appended (O.held out.old) p)) }
+    ensures stopped { IfErr result (WhyStopped WithWorkers (limits_of setup.fuel setup.depth)
+        (seen_file F.bytes_of F.faults files.old files.new source_name.now)
+        (seen_file F.bytes_of F.faults files.old files.new input_name.now)
+        (seen_sink O.held O.faults out.old out.new)) }
+    ensures same { (name : List ℕ) → F.bytes_of files.new name ≡ F.bytes_of files.old name }
+    ensures later { (name : List ℕ) → F.faults files.old name ≤ F.faults files.new name }
+    ensures out_later { O.faults out.old ≤ O.faults out.new }
+{
+    let ready = prepare(alloc, source_name, input_name, files)?;
+    match print_with_workers(rt, alloc, ready, setup, gate, out)? {
         None => Ok(()),
         Some(fault) => Err(Stop::Faulted(fault)),
     }
@@ -108,9 +135,16 @@ fn run_print<F: Files, O: Sink>(
     Ok(())
 }
 
-/// Runs the built-in source over the records of a number, and prints the line of the counters of what comes out.
-fn run_sample<O: Sink>(alloc: Global, number: u32, count: u32, out: &mut O) -> Result<(), Stop>
-    requires { number < 2_147_483_648 }
+/// Runs the built-in source with workers over the records of a number, and prints the line of the counters of what comes out.
+fn run_sample<R: Threads + Wait + Sync, O: Sink, G: Gate>(
+    rt: &R,
+    alloc: Global,
+    number: u32,
+    count: u32,
+    gate: &G,
+    out: &mut O,
+) -> Result<(), Stop>
+    requires number { number < 2_147_483_648 }
     ensures done { OnOk result ((p : List ℕ)
         × FindsSample number count (Ok (whole p))
         × (O.held out.new ≡ appended (O.held out.old) p)) }
@@ -118,7 +152,7 @@ fn run_sample<O: Sink>(alloc: Global, number: u32, count: u32, out: &mut O) -> R
     ensures out_later { O.faults out.old ≤ O.faults out.new }
 {
     let program = load_source(alloc, sample_source())?;
-    let (tally, fault) = count_sample(alloc, program, number, count)?;
+    let (tally, fault) = count_sample(rt, alloc, program, number, count, gate)?;
     let mut line = Seq::new(alloc);
     tally.push_line(&mut line)?;
     write_whole(out, line.as_slice())?;
@@ -128,13 +162,25 @@ fn run_sample<O: Sink>(alloc: Global, number: u32, count: u32, out: &mut O) -> R
     }
 }
 
-fn run<F: Files, O: Sink>(
+/// Whether the calling thread does the command alone.
+fn is_plain(command: &Command) -> bool
+    ensures { result ≡ is_plain command.now }
+{
+    match command {
+        Command::Run { .. } | Command::Sample { .. } => false,
+        Command::Once { .. } | Command::Check { .. } | Command::Print { .. } => true,
+    }
+}
+
+/// Does a command on the calling thread alone.
+fn work_alone<F: Files, O: Sink>(
     alloc: Global,
     command: &Command,
     files: &mut F,
     out: &mut O,
 ) -> Result<(), Stop>
-    requires { IsInRange command.now }
+    requires plain { is_plain command.now ≡ true }
+    requires numbers { IsInRange command.now }
     ensures done { OnOk result ((p : List ℕ)
         × FindsFor command.now (seen_file F.bytes_of F.faults files.old files.new) (Ok (whole p))
         × (O.held out.new ≡ appended (O.held out.old) p)) }
@@ -162,7 +208,59 @@ fn run<F: Files, O: Sink>(
         ),
         Command::Check { source } => run_check(alloc, source.as_slice(), files, out),
         Command::Print { source } => run_print(alloc, source.as_slice(), files, out),
-        Command::Sample { number, count } => run_sample(alloc, *number, *count, out),
+        Command::Run { .. } | Command::Sample { .. } => unreachable!(),
+    }
+}
+
+/// Does a command with workers.
+fn work_together<R: Threads + Wait + Sync, F: Files, O: Sink, G: Gate>(
+    rt: &R,
+    alloc: Global,
+    command: &Command,
+    gate: &G,
+    files: &mut F,
+    out: &mut O,
+) -> Result<(), Stop>
+    requires many { is_plain command.now ≡ false }
+    requires numbers { IsInRange command.now }
+    ensures done { OnOk result ((p : List ℕ)
+        × FindsFor command.now (seen_file F.bytes_of F.faults files.old files.new) (Ok (whole p))
+        × (O.held out.new ≡ appended (O.held out.old) p)) }
+    ensures stopped { IfErr result (WhyEnded command.now
+        (seen_file F.bytes_of F.faults files.old files.new)
+        (seen_sink O.held O.faults out.old out.new)) }
+    ensures same { (name : List ℕ) → F.bytes_of files.new name ≡ F.bytes_of files.old name }
+    ensures later { (name : List ℕ) → F.faults files.old name ≤ F.faults files.new name }
+    ensures out_later { O.faults out.old ≤ O.faults out.new }
+{
+    match command {
+        Command::Run {
+            source,
+            input,
+            workers,
+            fuel,
+            depth,
+            queue,
+        } => {
+            let setup = Setup {
+                fuel: *fuel,
+                depth: *depth,
+                workers: *workers,
+                queue: *queue,
+            };
+            run_with_workers(
+                rt,
+                alloc,
+                source.as_slice(),
+                input.as_slice(),
+                setup,
+                gate,
+                files,
+                out,
+            )
+        }
+        Command::Sample { number, count } => run_sample(rt, alloc, *number, *count, gate, out),
+        Command::Once { .. } | Command::Check { .. } | Command::Print { .. } => unreachable!(),
     }
 }
 
@@ -177,10 +275,83 @@ fn tell<E: Sink>(command: &Command, stop: &Stop, err: &mut E)
     write_line(err, stop.label(), name, stop.detail());
 }
 
-/// Does a command on the calling thread. A failing `err` changes no status.
+/// Answers the status of what was done. Where a command stopped, the line that tells why is written; a failing `err` changes no status.
+fn conclude<E: Sink>(command: &Command, end: &Result<(), Stop>, err: &mut E) -> Status
+    ensures status { result ≡ end_status end.now }
+    ensures got { GotEnd (seen_sink E.held E.faults err.old err.new) end.now command.now }
+    ensures err_later { E.faults err.old ≤ E.faults err.new }
+{
+    match end {
+        Ok(()) => Status::Ok,
+        Err(stop) => {
+            tell(command, stop, err);
+            stop.status()
+        }
+    }
+}
+
+/// Does a command on the calling thread, which needs no others. It returns.
 pub fn serve_plain<F: Files, O: Sink, E: Sink>(
     alloc: Global,
     command: &Command,
+    files: &mut F,
+    out: &mut O,
+    err: &mut E,
+) -> Status
+    requires plain { is_plain command.now ≡ true }
+    requires numbers { IsInRange command.now }
+    ensures answer { result ≢ Status.Read → result ≢ Status.Memory → result ≢ Status.Write
+        → IsAnswered command.now (seen F.bytes_of F.faults O.held O.faults E.held E.faults files.old files.new out.old out.new err.old err.new) result }
+    ensures read { result ≡ Status.Read
+        → HasUnread command.now (seen F.bytes_of F.faults O.held O.faults E.held E.faults files.old files.new out.old out.new err.old err.new) }
+    ensures memory { result ≡ Status.Memory
+        → IsCutShort command.now (seen F.bytes_of F.faults O.held O.faults E.held E.faults files.old files.new out.old out.new err.old err.new) }
+    ensures write { result ≡ Status.Write
+        → IsUnwritten command.now (seen F.bytes_of F.faults O.held O.faults E.held E.faults files.old files.new out.old out.new err.old err.new) }
+    ensures same { (name : List ℕ) → F.bytes_of files.new name ≡ F.bytes_of files.old name }
+    ensures later { (name : List ℕ) → F.faults files.old name ≤ F.faults files.new name }
+    ensures out_later { O.faults out.old ≤ O.faults out.new }
+    ensures err_later { E.faults err.old ≤ E.faults err.new }
+{
+    let end = work_alone(alloc, command, files, out);
+    conclude(command, &end, err)
+}
+
+/// Does a command with workers, of which the calling thread is one.
+fn serve_together<R: Threads + Wait + Sync, F: Files, O: Sink, E: Sink, G: Gate>(
+    rt: &R,
+    alloc: Global,
+    command: &Command,
+    gate: &G,
+    files: &mut F,
+    out: &mut O,
+    err: &mut E,
+) -> Status
+    requires many { is_plain command.now ≡ false }
+    requires numbers { IsInRange command.now }
+    ensures answer { result ≢ Status.Read → result ≢ Status.Memory → result ≢ Status.Write
+        → IsAnswered command.now (seen F.bytes_of F.faults O.held O.faults E.held E.faults files.old files.new out.old out.new err.old err.new) result }
+    ensures read { result ≡ Status.Read
+        → HasUnread command.now (seen F.bytes_of F.faults O.held O.faults E.held E.faults files.old files.new out.old out.new err.old err.new) }
+    ensures memory { result ≡ Status.Memory
+        → IsCutShort command.now (seen F.bytes_of F.faults O.held O.faults E.held E.faults files.old files.new out.old out.new err.old err.new) }
+    ensures write { result ≡ Status.Write
+        → IsUnwritten command.now (seen F.bytes_of F.faults O.held O.faults E.held E.faults files.old files.new out.old out.new err.old err.new) }
+    ensures same { (name : List ℕ) → F.bytes_of files.new name ≡ F.bytes_of files.old name }
+    ensures later { (name : List ℕ) → F.faults files.old name ≤ F.faults files.new name }
+    ensures out_later { O.faults out.old ≤ O.faults out.new }
+    ensures err_later { E.faults err.old ≤ E.faults err.new }
+{
+    let end = work_together(rt, alloc, command, gate, files, out);
+    conclude(command, &end, err)
+}
+
+/// Does the command, as it needs, and answers its status.
+fn serve<R: Threads + Wait + Sync, F: Files, O: Sink, E: Sink, G: Gate>(
+    rt: &R,
+    alloc: Global,
+    command: &Command,
+    gate: &G,
     files: &mut F,
     out: &mut O,
     err: &mut E,
@@ -199,24 +370,22 @@ pub fn serve_plain<F: Files, O: Sink, E: Sink>(
     ensures out_later { O.faults out.old ≤ O.faults out.new }
     ensures err_later { E.faults err.old ≤ E.faults err.new }
 {
-    match run(alloc, command, files, out) {
-        Ok(()) => Status::Ok,
-        Err(stop) => {
-            tell(command, &stop, err);
-            stop.status()
-        }
+    if is_plain(command) {
+        serve_plain(alloc, command, files, out, err)
+    } else {
+        serve_together(rt, alloc, command, gate, files, out, err)
     }
 }
 
 /// Does the command that the words after the program's name ask for, or says on `err` which words are known.
 pub fn serve_words<R: Threads + Wait + Sync, F: Files, O: Sink, E: Sink, G: Gate>(
-    _rt: &R,
+    rt: &R,
     alloc: Global,
     words: &[String],
     files: &mut F,
     out: &mut O,
     err: &mut E,
-    _gate: &G,
+    gate: &G,
 ) -> Status
     ensures answer { result ≢ Status.Read → result ≢ Status.Memory → result ≢ Status.Write
         → IsAnsweredFor (command_of (map string_bytes words.now)) (seen F.bytes_of F.faults O.held O.faults E.held E.faults files.old files.new out.old out.new err.old err.new) result }
@@ -232,7 +401,7 @@ pub fn serve_words<R: Threads + Wait + Sync, F: Files, O: Sink, E: Sink, G: Gate
     ensures err_later { E.faults err.old ≤ E.faults err.new }
 {
     match read_words(alloc, words) {
-        Ok(command) => serve_plain(alloc, &command, files, out, err),
+        Ok(command) => serve(rt, alloc, &command, gate, files, out, err),
         Err(WordsFault::Usage) => {
             let _ = write_whole(err, usage_line());
             Status::Usage

@@ -1,34 +1,29 @@
 //! What a run prints: the lines of what comes of each record, before the next is taken.
-ghost use Rattle.std.specs.Prelude.{◌≡◌, ◌≤◌, ◌++◌, ◌∷◌, [], length, map, None, IfErr, IfOk, List, OnOk};
+ghost use Rattle.std.specs.Prelude.{◌≡◌, ◌≤◌, ◌++◌, ◌∷◌, [], map, None, IfErr, IfOk, List, OnOk};
 ghost use Rattle.sn_io.specs.Told.{appended};
 ghost use Rattle.sn_record.specs.declared.item.Item.{Item as SomeItem};
 ghost use Rattle.sn_net.specs.Item.{Rec, modelled};
 ghost use Rattle.sn_net.specs.WellFormed.{FitsBoxes};
-ghost use Rattle.sn_typing.specs.Accepted.{IsAccepted};
 ghost use Rattle.sn_model.specs.Meaning.{one_list};
 ghost use Rattle.sn_model.specs.Run.{boxes_of, net_of, setting_of};
 ghost use Rattle.sn_output.specs.Printed.{ending, printed};
-ghost use Rattle.sn_top.specs.Load.{AreLimits, limits_of};
-ghost use Rattle.sn_top.specs.Runs.{AreTypedRecords, HasRun, WhyNotRun, WhyUnfinished};
+ghost use Rattle.sn_load.specs.Load.{AreLimits, AreTypedRecords, limits_of};
+ghost use Rattle.sn_top.specs.Runs.{HasPrinted, OnOneThread, WhyCutOff, WhyUnfinished};
+ghost use Rattle.sn_top.specs.Ready.{setting_at};
 ghost use Rattle.sn_top.specs.Seen.{seen_sink};
 ghost use Rattle.sn_top.specs.Shown.{Shows};
-ghost use Rattle.sn_top.specs.declared.serve.TheConstants.{INPUT_LIMIT};
 
-use crate::load::{Program, read_input};
-use crate::status::Stop;
-use sn_input::Input;
+use crate::ready::Ready;
 use sn_io::{Sink, write_whole};
 use sn_list::{Memory, Seq};
+use sn_load::Stop;
 use sn_model::Run;
 use sn_names::Names;
-use sn_net::Claim;
 use sn_once::Once;
 use sn_output::push_line;
 use sn_record::{Fault, Item, Items, Record, Text};
+use sn_words::DEFAULT_QUEUE;
 use std::alloc::Global;
-
-/// How many entries a queue holds where no word says it.
-pub const DEFAULT_QUEUE: u32 = 16;
 
 /// The lines of a stream, and the fault that ends it.
 #[derive(Drop)]
@@ -99,7 +94,7 @@ fn print_run<O: Sink>(
     requires { AreTypedRecords (boxes_of run.now) (net_of run.now) records }
     ensures ended { IfOk result (λ fault. fault ≡ ending (one_list (setting_of run.now) (net_of run.now) (map Rec records))) }
     ensures whole { OnOk result (O.held out.new ≡ appended (O.held out.old) (printed names.now (one_list (setting_of run.now) (net_of run.now) (map Rec records)))) }
-    ensures stopped { IfErr result (WhyUnfinished (seen_sink O.held O.faults out.old out.new) (printed names.now (one_list (setting_of run.now) (net_of run.now) (map Rec records)))) }
+    ensures stopped { IfErr result (WhyCutOff (seen_sink O.held O.faults out.old out.new) (printed names.now (one_list (setting_of run.now) (net_of run.now) (map Rec records)))) }
     ensures later { O.faults out.old ≤ O.faults out.new }
 {
     let mut once = Once::new(alloc, run)?;
@@ -117,31 +112,28 @@ fn print_run<O: Sink>(
     Ok(None)
 }
 
-/// Runs a program over the records of an input, prints what comes out, and answers the fault that ends it. The fuel is that of each
+/// Runs a network over its records on one thread, prints what comes out, and answers the fault that ends it. The fuel is that of each
 /// call of a box, and the depth how many replicas a star may have.
-pub fn run_program<O: Sink>(
+pub fn print_once<O: Sink>(
     alloc: Global,
-    program: Program,
+    ready: Ready,
     fuel: u64,
     depth: u32,
-    bytes: &[u8],
     out: &mut O,
 ) -> Result<Option<Fault>, Stop>
     requires limits { AreLimits (limits_of fuel depth) }
-    requires formed { FitsBoxes program.boxes program.claim.net }
-    requires accepted { IsAccepted program.boxes program.claim }
-    requires within { length bytes.now ≤ INPUT_LIMIT }
-    ensures done { IfOk result (HasRun (limits_of fuel depth) program bytes.now (seen_sink O.held O.faults out.old out.new)) }
-    ensures ended { IfErr result (WhyNotRun (limits_of fuel depth) program bytes.now (seen_sink O.held O.faults out.old out.new)) }
+    requires formed { FitsBoxes ready.boxes ready.net }
+    requires typed { AreTypedRecords ready.boxes ready.net ready.records }
+    ensures done { IfOk result (HasPrinted (OnOneThread (setting_at ready (limits_of fuel depth)) ready.net ready.records ready.names) (seen_sink O.held O.faults out.old out.new)) }
+    ensures ended { IfErr result (WhyUnfinished (OnOneThread (setting_at ready (limits_of fuel depth)) ready.net ready.records ready.names) (seen_sink O.held O.faults out.old out.new)) }
     ensures later { O.faults out.old ≤ O.faults out.new }
 {
-    let Program {
-        names,
+    let Ready {
+        net,
         boxes,
-        claim,
-    } = program;
-    let Input { records, names, .. } = read_input(alloc, names, &claim, bytes)?;
-    let Claim { net, .. } = claim;
+        records,
+        names,
+    } = ready;
     let run = Run::new(net, boxes, fuel, depth, DEFAULT_QUEUE, Items::new(alloc));
     print_run(alloc, &run, &names, records, out)
 }

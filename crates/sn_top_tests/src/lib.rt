@@ -3,6 +3,12 @@
 #![tactic(auto)]
 
 #[cfg(test)]
+mod holding;
+#[cfg(test)]
+mod served;
+#[cfg(test)]
+mod together;
+#[cfg(test)]
 mod top;
 #[cfg(test)]
 mod words;

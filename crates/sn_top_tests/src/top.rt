@@ -1,9 +1,11 @@
-ghost use Rattle.std.specs.Prelude.{IfOk, ◌<◌};
-ghost use Rattle.sn_top.specs.Words.{IsInRange};
+ghost use Rattle.std.specs.Prelude.{◌≡◌, IfOk, true};
+ghost use Rattle.sn_words.specs.Command.{IsInRange};
+ghost use Rattle.sn_top.specs.Answer.{is_plain};
 
+use crate::served::{Served, files, serve_files, sink};
 use sn_io::{MemFiles, MemSink, OpenGate};
 use sn_list::{Memory, Seq};
-use sn_top::{Command, DEFAULT_DEPTH, DEFAULT_FUEL, INPUT_LIMIT, Status, serve_plain, serve_words};
+use sn_top::{Command, DEFAULT_DEPTH, DEFAULT_FUEL, INPUT_LIMIT, Status, serve_plain};
 use std::alloc::Global;
 use std::test::Fail;
 
@@ -16,7 +18,8 @@ const INPUT: &[u8] = b"{a=1}\n{a=2, <t>=7}\n";
 const OUTPUT: &[u8] = b"{b=1}\n{b=2, <t>=7}\n";
 
 fn command(alloc: Global) -> Result<Command, Memory>
-    ensures { IfOk result IsInRange }
+    ensures plain { IfOk result (λ command. is_plain command ≡ true) }
+    ensures numbers { IfOk result IsInRange }
 {
     let source = Seq::from_slice(alloc, b"s")?;
     let input = Seq::from_slice(alloc, b"i")?;
@@ -26,34 +29,6 @@ fn command(alloc: Global) -> Result<Command, Memory>
         fuel: DEFAULT_FUEL,
         depth: DEFAULT_DEPTH,
     })
-}
-
-fn files(alloc: Global, source: &[u8], input: &[u8]) -> Result<MemFiles, Memory> {
-    let mut files = MemFiles::new(alloc);
-    files.add(b"s", source)?;
-    files.add(b"i", input)?;
-    Ok(files)
-}
-
-fn sink(alloc: Global, piece: usize) -> Result<MemSink, Memory>
-    requires { 0 < piece }
-{
-    let mut sink = MemSink::new(alloc, piece);
-    sink.reserve(256)?;
-    Ok(sink)
-}
-
-#[derive(Drop)]
-struct Served {
-    status: Status,
-    out: MemSink,
-    err: MemSink,
-}
-
-impl Served {
-    fn is(&self, status: Status, out: &[u8], err: &[u8]) -> bool {
-        self.status == status && self.out.held() == out && self.err.held() == err
-    }
 }
 
 fn serve(alloc: Global, mut files: MemFiles, mut out: MemSink) -> Result<Served, Memory> {
@@ -297,7 +272,8 @@ fn missing_and_large_files_are_told(rt: HostRuntime) -> Result<(), Fail> {
 
 /// Does a command that reads the source `s` alone.
 fn serve_source(alloc: Global, command: &Command, source: &[u8]) -> Result<Served, Memory>
-    requires { IsInRange command.now }
+    requires plain { is_plain command.now ≡ true }
+    requires numbers { IsInRange command.now }
 {
     let mut files = files(alloc, source, b"")?;
     let mut out = sink(alloc, 7)?;
@@ -352,11 +328,16 @@ fn types_are_checked(rt: HostRuntime) -> Result<(), Fail> {
 
 #[test]
 fn records_of_a_number_are_counted(rt: HostRuntime) -> Result<(), Fail> {
-    let command = Command::Sample {
-        number: 1,
-        count: 3,
-    };
-    let served = serve_source(rt.alloc(), &command, b"")?;
+    let alloc = rt.alloc();
+    let words = ["sample", "1", "3"];
+    let served = serve_files(
+        &rt,
+        alloc,
+        &words,
+        MemFiles::new(alloc),
+        sink(alloc, 9)?,
+        &OpenGate,
+    )?;
     assert!(rt; served.is(Status::Ok, b"records=3 s=156 w=2498 mix=1208114\n", b""));
     Ok(())
 }
@@ -417,34 +398,26 @@ fn wanted_memory_is_told(rt: HostRuntime) -> Result<(), Fail> {
 #[test]
 fn words_are_served(rt: HostRuntime) -> Result<(), Fail> {
     let alloc = rt.alloc();
-    let mut words = Vec::new(alloc);
-    let mut stored = files(alloc, SOURCE, INPUT)?;
-    let mut out = sink(alloc, 64)?;
-    let mut err = sink(alloc, 256)?;
-    let status = serve_words(
+    let served = serve_files(
         &rt,
         alloc,
-        &words,
-        &mut stored,
-        &mut out,
-        &mut err,
+        &[],
+        MemFiles::new(alloc),
+        sink(alloc, 9)?,
         &OpenGate,
+    )?;
+    assert!(rt; served.status == Status::Usage && served.out.held().is_empty());
+    assert!(rt;
+        served
+            .err
+            .held()
+            .starts_with(b"usage: snet run SOURCE INPUT")
     );
-    assert_eq!(rt; status, Status::Usage);
-    assert!(rt; out.held().is_empty() && err.held().starts_with(b"usage: snet run SOURCE INPUT"));
-    for word in ["once", "s", "i"] {
-        words.push(String::from_str(alloc, word)?)?;
+    for command in ["once", "run"] {
+        let words = [command, "s", "i"];
+        let stored = files(alloc, SOURCE, INPUT)?;
+        let served = serve_files(&rt, alloc, &words, stored, sink(alloc, 64)?, &OpenGate)?;
+        assert!(rt; served.is(Status::Ok, OUTPUT, b""));
     }
-    let status = serve_words(
-        &rt,
-        alloc,
-        &words,
-        &mut stored,
-        &mut out,
-        &mut err,
-        &OpenGate,
-    );
-    assert_eq!(rt; status, Status::Ok);
-    assert!(rt; out.held() == OUTPUT);
     Ok(())
 }

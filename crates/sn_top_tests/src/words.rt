@@ -1,5 +1,5 @@
 use sn_list::Seq;
-use sn_top::{Command, WordsFault, read_words};
+use sn_words::{Command, WordsFault, read_words};
 use std::alloc::Global;
 use std::test::Fail;
 
@@ -47,6 +47,47 @@ fn gives_commands(rt: HostRuntime) -> Result<(), Fail> {
 }
 
 #[test]
+fn gives_runs(rt: HostRuntime) -> Result<(), Fail> {
+    let alloc = rt.alloc();
+    let table: [(&[&str], u32, u64, u32, u32); 4] = [
+        (&["run", "s", "i"], 4, 1_000_000, 1_000, 16),
+        (
+            &["run", "--workers=8", "s", "--", "i"],
+            8,
+            1_000_000,
+            1_000,
+            16,
+        ),
+        (
+            &["run", "s", "--queue", "1024", "i", "--workers=0064"],
+            64,
+            1_000_000,
+            1_000,
+            1_024,
+        ),
+        (
+            &["run", "--queue=1", "--fuel=5", "s", "i", "--depth", "7"],
+            4,
+            5,
+            7,
+            1,
+        ),
+    ];
+    for (words, workers, fuel, depth, queue) in table {
+        let wanted = Command::Run {
+            source: Seq::from_slice(alloc, b"s")?,
+            input: Seq::from_slice(alloc, b"i")?,
+            workers,
+            fuel,
+            depth,
+            queue,
+        };
+        assert!(rt; read(alloc, words)? == Ok(wanted));
+    }
+    Ok(())
+}
+
+#[test]
 fn gives_commands_of_a_source(rt: HostRuntime) -> Result<(), Fail> {
     let alloc = rt.alloc();
     let source = Seq::from_slice(alloc, b"s")?;
@@ -63,8 +104,19 @@ fn gives_commands_of_a_source(rt: HostRuntime) -> Result<(), Fail> {
 
 #[test]
 fn refuses_words(rt: HostRuntime) -> Result<(), Fail> {
-    let table: [&[&str]; 26] = [
+    let table: [&[&str]; 37] = [
         &[],
+        &["help"],
+        &["--help"],
+        &["--", "run", "s", "i"],
+        &["run", "s", "i", "--workers", "0"],
+        &["run", "s", "i", "--workers", "65"],
+        &["run", "s", "i", "--fuel", "5", "--fuel", "5"],
+        &["run", "s", "i", "--queue=1025"],
+        &["run", "s", "i", "--work", "5"],
+        &["run", "s", "i", "-h"],
+        &["once", "s", "i", "--workers", "2"],
+        &["check", "s", "--workers=2"],
         &["once", "s"],
         &["once", "s", "i", "t"],
         &["once", "--x", "s", "i"],

@@ -11,6 +11,7 @@ loop-init g c = record {
   of = c.requires.of;
   goes = stays c.args.out.now.names.now (seen c.args.graph.now) _ _;
   names = refl;
+  same_sink = refl;
 }
 
 pub loop-preserved-in-Went : goal.loop-preserved-in-Went
@@ -20,6 +21,7 @@ loop-preserved-in-Went g c = record {
   of = c.turn.ensures.of;
   goes = goes_on c.args.out.now.names.now _ _ _ _ c.turn.result Went c.loop.invariant.names c.in-Went.is c.loop.invariant.goes c.turn.ensures.goes;
   names = c.turn.ensures.names ∙ c.loop.invariant.names;
+  same_sink = c.turn.ensures.same_sink ∙ c.loop.invariant.same_sink;
 }
 
 pub loop-preserved : goal.loop-preserved
@@ -29,6 +31,7 @@ loop-preserved g c = record {
   of = c.turn.ensures.of;
   goes = idled c.args.out.now.names.now _ _ (goes_on c.args.out.now.names.now _ _ _ _ c.turn.result Idle c.loop.invariant.names c.in-Idle.is c.loop.invariant.goes c.turn.ensures.goes);
   names = c.turn.ensures.names ∙ c.loop.invariant.names;
+  same_sink = c.turn.ensures.same_sink ∙ c.loop.invariant.same_sink;
 }
 
 pub returns-in-Ended-clause-goes : goal.returns-in-Ended-clause-goes

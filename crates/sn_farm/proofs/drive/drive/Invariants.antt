@@ -12,4 +12,5 @@ invariant-loop g l = record {
   of : IsGraphOf l.graph l.hall.run.now.value;
   goes : Goes l.fn.out.names.now (shows (seen l.fn.graph) (g.S.Sink.held l.fn.out.sink.now) (g.S.Sink.faults l.fn.out.sink.now)) (shows (seen l.graph) (g.S.Sink.held l.out.sink.now) (g.S.Sink.faults l.out.sink.now)) Went;
   names : l.out.names.now ≡ l.fn.out.names.now;
+  same_sink : l.out.sink.ghost_name ≡ l.fn.out.sink.ghost_name;
 }

@@ -1,8 +1,11 @@
-use Rattle.sn_outcomes.proofs.Done.{once_done, check_done, print_done, sample_done}
+use Rattle.sn_outcomes.proofs.Done.{once_done, run_done, check_done, print_done, sample_done}
 use Rattle.sn_outcomes.proofs.laws.accepted_commands_are_done.Goals as goal
 
 pub returns-clause-once : goal.returns-clause-once
 returns-clause-once c = once_done
+
+pub returns-clause-run : goal.returns-clause-run
+returns-clause-run c = run_done
 
 pub returns-clause-check : goal.returns-clause-check
 returns-clause-check c = check_done

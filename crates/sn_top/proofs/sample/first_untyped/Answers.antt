@@ -3,7 +3,7 @@ use Rattle.sn_record.specs.declared.item.Item.{Item}
 use Rattle.sn_record.specs.declared.item.Item.TheVariants as item
 use Rattle.std.specs.FinMap as finite
 use Rattle.sn_top.specs.Sample.{is_item_of_type}
-use Rattle.sn_top.proofs.Loading.{first_at, none_at}
+use Rattle.sn_load.proofs.Loading.{first_at, none_at}
 use Rattle.sn_top.proofs.sample.first_untyped.Goals as goal
 
 pub returns-then-not-is_item_of_type : goal.returns-then-not-is_item_of_type

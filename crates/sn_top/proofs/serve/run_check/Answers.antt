@@ -2,7 +2,7 @@ use Rattle.std.proofs.Common.{refl}
 use Rattle.std.proofs.lemmas.Result.{err_from_is_err_and}
 use Rattle.sn_io.specs.Told.{AppendsPrefix}
 use Rattle.sn_top.specs.Seen.{File, Sink, seen_file, seen_sink}
-use Rattle.sn_top.specs.Load.{IsLoaded}
+use Rattle.sn_load.specs.Load.{IsLoaded}
 use Rattle.sn_top.proofs.Checking.{finds_types, not_checked, types_cut, types_unread}
 use Rattle.sn_top.proofs.Serving.{HasBytes}
 use Rattle.sn_top.proofs.serve.run_check.Goals as goal

@@ -1,76 +1,37 @@
-use Rattle.std.proofs.Common.{◌≡◌, Some, None, refl, subst}
-use Rattle.std.specs.Prelude.{IfSome}
+use Rattle.std.proofs.Common.{refl, None, Some}
 use Rattle.std.proofs.lemmas.Result.{err_from_is_err_and}
+use Rattle.sn_load.specs.Load.{limits_of}
+use Rattle.sn_top.specs.Runs.{OnOneThread}
 use Rattle.sn_top.specs.Seen.{File, Sink, seen_file, seen_sink}
-use Rattle.sn_top.specs.Load.{limits_of, IsLoaded}
-use Rattle.sn_top.proofs.Serving.{source_unread, not_loaded, input_unread, not_run, finds_run, HasBytes}
+use Rattle.sn_top.proofs.Serving.{finds_printed, not_finished, not_ready}
 use Rattle.sn_top.proofs.serve.run_once.Goals as goal
 
-pub returns-in_err-source-clause-stopped : goal.returns-in_err-source-clause-stopped
-returns-in_err-source-clause-stopped g c =
+pub returns-in_err-ready-clause-stopped : goal.returns-in_err-ready-clause-stopped
+returns-in_err-ready-clause-stopped g c =
     let p = err_from_is_err_and c.from_residual.result c.from_residual.ensures.1 in
-    let source : File = seen_file g.F.Files.bytes_of g.F.Files.faults c.args.files.now c.read_file.new.files c.args.source_name.now in
-    let input : File = seen_file g.F.Files.bytes_of g.F.Files.faults c.args.files.now c.read_file.new.files c.args.input_name.now in
+    let source : File = seen_file g.F.Files.bytes_of g.F.Files.faults c.args.files.now c.prepare.new.files c.args.source_name.now in
+    let input : File = seen_file g.F.Files.bytes_of g.F.Files.faults c.args.files.now c.prepare.new.files c.args.input_name.now in
     let out : Sink = seen_sink g.O.Sink.held g.O.Sink.faults c.args.out.now c.args.out.now in
-    rw (p.1, p.2) (source_unread (limits_of c.args.fuel c.args.depth) source input out refl c.in_err-source.field-0.0 c.in_err-source.ensures.unread)
+    rw (p.1, p.2) (not_ready OnOneThread (limits_of c.args.fuel c.args.depth) source input out refl c.in_err-ready.field-0.0 c.in_err-ready.ensures.stopped)
 
-pub returns-in_err-program-clause-stopped : goal.returns-in_err-program-clause-stopped
-returns-in_err-program-clause-stopped g c =
-    let p = err_from_is_err_and c.from_residual-in_err-program.result c.from_residual-in_err-program.ensures.1 in
-    let source : File = seen_file g.F.Files.bytes_of g.F.Files.faults c.args.files.now c.read_file.new.files c.args.source_name.now in
-    let input : File = seen_file g.F.Files.bytes_of g.F.Files.faults c.args.files.now c.read_file.new.files c.args.input_name.now in
-    let out : Sink = seen_sink g.O.Sink.held g.O.Sink.faults c.args.out.now c.args.out.now in
-    let read : HasBytes source _ c.in_ok-source.source = record { told = c.in_ok-source.ensures.whole; within = c.in_ok-source.ensures.within } in
-    rw (p.1, p.2) (not_loaded (limits_of c.args.fuel c.args.depth) source input out refl c.in_ok-source.source read c.in_err-program.field-0.0 (rw c.as_slice.ensures at c.in_err-program.ensures.ended))
-
-pub returns-in_err-input-clause-stopped : goal.returns-in_err-input-clause-stopped
-returns-in_err-input-clause-stopped g c =
-    let p = err_from_is_err_and c.from_residual-in_err-input.result c.from_residual-in_err-input.ensures.1 in
-    let source : File = seen_file g.F.Files.bytes_of g.F.Files.faults c.args.files.now c.read_file-2.new.files c.args.source_name.now in
-    let input : File = seen_file g.F.Files.bytes_of g.F.Files.faults c.args.files.now c.read_file-2.new.files c.args.input_name.now in
-    let out : Sink = seen_sink g.O.Sink.held g.O.Sink.faults c.args.out.now c.args.out.now in
-    let read : HasBytes source _ c.in_ok-source.source = record { told = c.in_ok-source.ensures.whole; within = c.in_ok-source.ensures.within } in
-    let program : IsLoaded c.in_ok-source.source c.in_ok-program.program = rw c.as_slice.ensures at c.in_ok-program.ensures.loaded in
-    let between : File = seen_file g.F.Files.bytes_of g.F.Files.faults c.read_file.new.files c.read_file-2.new.files c.args.input_name.now in
-    rw (p.1, p.2) (input_unread (limits_of c.args.fuel c.args.depth) source input out refl c.in_ok-source.source read c.in_ok-program.program program between
-    (c.read_file.ensures.same c.args.input_name.now) (c.read_file.ensures.later c.args.input_name.now) refl c.in_err-input.field-0.0 c.in_err-input.ensures.unread)
-
-pub run_program-requires-clause-formed : goal.run_program-requires-clause-formed
-run_program-requires-clause-formed g c = c.in_ok-program.ensures.loaded.formed
-
-pub run_program-requires-clause-accepted : goal.run_program-requires-clause-accepted
-run_program-requires-clause-accepted g c = c.in_ok-program.ensures.loaded.accepted
-
-pub returns-in_err-run_program-clause-stopped : goal.returns-in_err-run_program-clause-stopped
-returns-in_err-run_program-clause-stopped g c =
-    let p = err_from_is_err_and c.from_residual-in_err-run_program.result c.from_residual-in_err-run_program.ensures.1 in
-    let source : File = seen_file g.F.Files.bytes_of g.F.Files.faults c.args.files.now c.read_file-2.new.files c.args.source_name.now in
-    let input : File = seen_file g.F.Files.bytes_of g.F.Files.faults c.args.files.now c.read_file-2.new.files c.args.input_name.now in
-    let out : Sink = seen_sink g.O.Sink.held g.O.Sink.faults c.args.out.now c.run_program.new.out in
-    let read : HasBytes source _ c.in_ok-source.source = record { told = c.in_ok-source.ensures.whole; within = c.in_ok-source.ensures.within } in
-    let program : IsLoaded c.in_ok-source.source c.in_ok-program.program = rw c.as_slice.ensures at c.in_ok-program.ensures.loaded in
-    let has : HasBytes input _ c.in_ok-input.input = record { told = subst (λ t. IfSome t (λ x. c.in_ok-input.input ≡ x)) (c.read_file.ensures.same c.args.input_name.now) c.in_ok-input.ensures.whole; within = c.in_ok-input.ensures.within } in
-    let why = rw c.as_slice-2.ensures at c.in_err-run_program.ensures.ended in
-    rw (p.1, p.2) (not_run (limits_of c.args.fuel c.args.depth) source input out c.in_ok-source.source read c.in_ok-program.program program c.in_ok-input.input has c.in_err-run_program.field-0.0 why)
+pub returns-in_err-print_once-clause-stopped : goal.returns-in_err-print_once-clause-stopped
+returns-in_err-print_once-clause-stopped g c =
+    let p = err_from_is_err_and c.from_residual-in_err-print_once.result c.from_residual-in_err-print_once.ensures.1 in
+    let source : File = seen_file g.F.Files.bytes_of g.F.Files.faults c.args.files.now c.prepare.new.files c.args.source_name.now in
+    let input : File = seen_file g.F.Files.bytes_of g.F.Files.faults c.args.files.now c.prepare.new.files c.args.input_name.now in
+    let out : Sink = seen_sink g.O.Sink.held g.O.Sink.faults c.args.out.now c.print_once.new.out in
+    rw (p.1, p.2) (not_finished OnOneThread (limits_of c.args.fuel c.args.depth) source input out c.in_ok-ready.ready c.in_ok-ready.ensures.ready c.in_err-print_once.field-0.0 c.in_err-print_once.ensures.ended)
 
 pub returns-in-None-clause-done : goal.returns-in-None-clause-done
 returns-in-None-clause-done g c =
-    let source : File = seen_file g.F.Files.bytes_of g.F.Files.faults c.args.files.now c.read_file-2.new.files c.args.source_name.now in
-    let input : File = seen_file g.F.Files.bytes_of g.F.Files.faults c.args.files.now c.read_file-2.new.files c.args.input_name.now in
-    let out : Sink = seen_sink g.O.Sink.held g.O.Sink.faults c.args.out.now c.run_program.new.out in
-    let read : HasBytes source _ c.in_ok-source.source = record { told = c.in_ok-source.ensures.whole; within = c.in_ok-source.ensures.within } in
-    let program : IsLoaded c.in_ok-source.source c.in_ok-program.program = rw c.as_slice.ensures at c.in_ok-program.ensures.loaded in
-    let has : HasBytes input _ c.in_ok-input.input = record { told = subst (λ t. IfSome t (λ x. c.in_ok-input.input ≡ x)) (c.read_file.ensures.same c.args.input_name.now) c.in_ok-input.ensures.whole; within = c.in_ok-input.ensures.within } in
-    let run = rw c.as_slice-2.ensures at c.in_ok-run_program.ensures.done in
-    finds_run (limits_of c.args.fuel c.args.depth) source input out c.in_ok-source.source read c.in_ok-program.program program c.in_ok-input.input has c.in_ok-run_program.field-0 None run c.in-None.is
+    let source : File = seen_file g.F.Files.bytes_of g.F.Files.faults c.args.files.now c.prepare.new.files c.args.source_name.now in
+    let input : File = seen_file g.F.Files.bytes_of g.F.Files.faults c.args.files.now c.prepare.new.files c.args.input_name.now in
+    let out : Sink = seen_sink g.O.Sink.held g.O.Sink.faults c.args.out.now c.print_once.new.out in
+    finds_printed OnOneThread (limits_of c.args.fuel c.args.depth) source input out c.in_ok-ready.ready c.in_ok-ready.ensures.ready c.in_ok-print_once.field-0 None c.in_ok-print_once.ensures.done c.in-None.is
 
-pub returns-clause-stopped : goal.returns-clause-stopped
-returns-clause-stopped g c =
-    let source : File = seen_file g.F.Files.bytes_of g.F.Files.faults c.args.files.now c.read_file-2.new.files c.args.source_name.now in
-    let input : File = seen_file g.F.Files.bytes_of g.F.Files.faults c.args.files.now c.read_file-2.new.files c.args.input_name.now in
-    let out : Sink = seen_sink g.O.Sink.held g.O.Sink.faults c.args.out.now c.run_program.new.out in
-    let read : HasBytes source _ c.in_ok-source.source = record { told = c.in_ok-source.ensures.whole; within = c.in_ok-source.ensures.within } in
-    let program : IsLoaded c.in_ok-source.source c.in_ok-program.program = rw c.as_slice.ensures at c.in_ok-program.ensures.loaded in
-    let has : HasBytes input _ c.in_ok-input.input = record { told = subst (λ t. IfSome t (λ x. c.in_ok-input.input ≡ x)) (c.read_file.ensures.same c.args.input_name.now) c.in_ok-input.ensures.whole; within = c.in_ok-input.ensures.within } in
-    let run = rw c.as_slice-2.ensures at c.in_ok-run_program.ensures.done in
-    finds_run (limits_of c.args.fuel c.args.depth) source input out c.in_ok-source.source read c.in_ok-program.program program c.in_ok-input.input has c.in_ok-run_program.field-0 (Some c.in-Some.fault) run c.in-Some.is
+pub returns-in-Some-clause-stopped : goal.returns-in-Some-clause-stopped
+returns-in-Some-clause-stopped g c =
+    let source : File = seen_file g.F.Files.bytes_of g.F.Files.faults c.args.files.now c.prepare.new.files c.args.source_name.now in
+    let input : File = seen_file g.F.Files.bytes_of g.F.Files.faults c.args.files.now c.prepare.new.files c.args.input_name.now in
+    let out : Sink = seen_sink g.O.Sink.held g.O.Sink.faults c.args.out.now c.print_once.new.out in
+    finds_printed OnOneThread (limits_of c.args.fuel c.args.depth) source input out c.in_ok-ready.ready c.in_ok-ready.ensures.ready c.in_ok-print_once.field-0 (Some c.in-Some.fault) c.in_ok-print_once.ensures.done c.in-Some.is

@@ -2,7 +2,7 @@ use Rattle.std.proofs.Common.{refl}
 use Rattle.std.proofs.lemmas.Result.{err_from_is_err_and}
 use Rattle.sn_io.specs.Told.{AppendsPrefix}
 use Rattle.sn_top.specs.Seen.{File, Sink, seen_file, seen_sink}
-use Rattle.sn_top.specs.Source.{HasText}
+use Rattle.sn_load.specs.Source.{HasText}
 use Rattle.sn_top.proofs.Printed.{finds_text, no_text, text_cut, text_unread}
 use Rattle.sn_top.proofs.Serving.{HasBytes}
 use Rattle.sn_top.proofs.serve.run_print.Goals as goal

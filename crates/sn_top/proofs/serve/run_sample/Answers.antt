@@ -4,7 +4,7 @@ use Rattle.sn_io.specs.Told.{AppendsPrefix}
 use Rattle.sn_sample.specs.Counts.{counts_of}
 use Rattle.sn_sample.specs.Tally.{counts_line}
 use Rattle.sn_sample.specs.Source.{source_text}
-use Rattle.sn_top.specs.Load.{IsLoaded}
+use Rattle.sn_load.specs.Load.{IsLoaded}
 use Rattle.sn_top.specs.Seen.{Sink, seen_sink}
 use Rattle.sn_top.proofs.Sampling.{finds_line, line_cut, not_counted, not_loaded, source_short}
 use Rattle.sn_top.proofs.serve.run_sample.Goals as goal
@@ -19,10 +19,10 @@ returns-in_err-program-clause-stopped g c =
     rw (p.1, p.2) (not_loaded c.args.number c.args.count out refl c.in_err-program.field-0.0 (rw c.sample_source.ensures at c.in_err-program.ensures.ended))
 
 pub count_sample-requires-clause-formed : goal.count_sample-requires-clause-formed
-count_sample-requires-clause-formed g c = c.in_ok-program.ensures.loaded.formed
+count_sample-requires-clause-formed g c κs within = c.in_ok-program.ensures.loaded.formed
 
 pub count_sample-requires-clause-accepted : goal.count_sample-requires-clause-accepted
-count_sample-requires-clause-accepted g c = c.in_ok-program.ensures.loaded.accepted
+count_sample-requires-clause-accepted g c κs within = c.in_ok-program.ensures.loaded.accepted
 
 pub returns-in_err-tally-clause-stopped : goal.returns-in_err-tally-clause-stopped
 returns-in_err-tally-clause-stopped g c =

@@ -1,30 +1,23 @@
-use Rattle.std.proofs.Common.{refl, sym, ◌∙◌}
 use Rattle.sn_top.specs.Answer.{Outside, seen}
-use Rattle.sn_top.proofs.Served.{done, answered, unread, cut_short, unwritten}
+use Rattle.sn_top.proofs.Served.{concludes, concludes_short, concludes_unread, concludes_unwritten}
 use Rattle.sn_top.proofs.serve.serve_plain.Goals as goal
 
-pub returns-in-Ok-clause-answer : goal.returns-in-Ok-clause-answer
-returns-in-Ok-clause-answer g c =
-    let outside : Outside = seen g.F.Files.bytes_of g.F.Files.faults g.O.Sink.held g.O.Sink.faults g.E.Sink.held g.E.Sink.faults c.args.files.now c.run.new.files c.args.out.now c.run.new.out c.args.err.now c.args.err.now in
-    let found = c.in-Ok.ensures.done in
-    λ _ _ _. done c.args.command.now outside found.0 found.1 found.2 refl
+pub returns-clause-answer : goal.returns-clause-answer
+returns-clause-answer g c =
+    let outside : Outside = seen g.F.Files.bytes_of g.F.Files.faults g.O.Sink.held g.O.Sink.faults g.E.Sink.held g.E.Sink.faults c.args.files.now c.work_alone-end.new.files c.args.out.now c.work_alone-end.new.out c.args.err.now c.conclude.new.err in
+    concludes c.args.command.now outside c.work_alone-end.result c.conclude.result c.conclude.ensures.status c.work_alone-end.ensures.done c.work_alone-end.ensures.stopped c.conclude.ensures.got
 
-pub returns-in-Err-clause-answer : goal.returns-in-Err-clause-answer
-returns-in-Err-clause-answer g c =
-    let outside : Outside = seen g.F.Files.bytes_of g.F.Files.faults g.O.Sink.held g.O.Sink.faults g.E.Sink.held g.E.Sink.faults c.args.files.now c.run.new.files c.args.out.now c.run.new.out c.args.err.now c.tell.new.err in
-    rw c.status.ensures (answered c.args.command.now outside c.in-Err.stop c.in-Err.ensures.stopped c.tell.ensures.got)
+pub returns-clause-read : goal.returns-clause-read
+returns-clause-read g c =
+    let outside : Outside = seen g.F.Files.bytes_of g.F.Files.faults g.O.Sink.held g.O.Sink.faults g.E.Sink.held g.E.Sink.faults c.args.files.now c.work_alone-end.new.files c.args.out.now c.work_alone-end.new.out c.args.err.now c.conclude.new.err in
+    concludes_unread c.args.command.now outside c.work_alone-end.result c.conclude.result c.conclude.ensures.status c.work_alone-end.ensures.done c.work_alone-end.ensures.stopped c.conclude.ensures.got
 
-pub returns-in-Err-clause-read : goal.returns-in-Err-clause-read
-returns-in-Err-clause-read g c is =
-    let outside : Outside = seen g.F.Files.bytes_of g.F.Files.faults g.O.Sink.held g.O.Sink.faults g.E.Sink.held g.E.Sink.faults c.args.files.now c.run.new.files c.args.out.now c.run.new.out c.args.err.now c.tell.new.err in
-    unread c.args.command.now outside c.in-Err.stop c.in-Err.ensures.stopped c.tell.ensures.got (sym c.status.ensures ∙ is)
+pub returns-clause-memory : goal.returns-clause-memory
+returns-clause-memory g c =
+    let outside : Outside = seen g.F.Files.bytes_of g.F.Files.faults g.O.Sink.held g.O.Sink.faults g.E.Sink.held g.E.Sink.faults c.args.files.now c.work_alone-end.new.files c.args.out.now c.work_alone-end.new.out c.args.err.now c.conclude.new.err in
+    concludes_short c.args.command.now outside c.work_alone-end.result c.conclude.result c.conclude.ensures.status c.work_alone-end.ensures.done c.work_alone-end.ensures.stopped c.conclude.ensures.got
 
-pub returns-in-Err-clause-memory : goal.returns-in-Err-clause-memory
-returns-in-Err-clause-memory g c is =
-    let outside : Outside = seen g.F.Files.bytes_of g.F.Files.faults g.O.Sink.held g.O.Sink.faults g.E.Sink.held g.E.Sink.faults c.args.files.now c.run.new.files c.args.out.now c.run.new.out c.args.err.now c.tell.new.err in
-    cut_short c.args.command.now outside c.in-Err.stop c.in-Err.ensures.stopped c.tell.ensures.got (sym c.status.ensures ∙ is)
-
-pub returns-in-Err-clause-write : goal.returns-in-Err-clause-write
-returns-in-Err-clause-write g c is =
-    let outside : Outside = seen g.F.Files.bytes_of g.F.Files.faults g.O.Sink.held g.O.Sink.faults g.E.Sink.held g.E.Sink.faults c.args.files.now c.run.new.files c.args.out.now c.run.new.out c.args.err.now c.tell.new.err in
-    unwritten c.args.command.now outside c.in-Err.stop c.in-Err.ensures.stopped c.tell.ensures.got (sym c.status.ensures ∙ is)
+pub returns-clause-write : goal.returns-clause-write
+returns-clause-write g c =
+    let outside : Outside = seen g.F.Files.bytes_of g.F.Files.faults g.O.Sink.held g.O.Sink.faults g.E.Sink.held g.E.Sink.faults c.args.files.now c.work_alone-end.new.files c.args.out.now c.work_alone-end.new.out c.args.err.now c.conclude.new.err in
+    concludes_unwritten c.args.command.now outside c.work_alone-end.result c.conclude.result c.conclude.ensures.status c.work_alone-end.ensures.done c.work_alone-end.ensures.stopped c.conclude.ensures.got

@@ -11,7 +11,7 @@ use Rattle.sn_model.specs.Meaning.{one_list}
 use Rattle.sn_model.specs.Run.{boxes_of, net_of, setting_of}
 use Rattle.sn_once.specs.Rest.{rest_of}
 use Rattle.sn_output.specs.Printed.{printed}
-use Rattle.sn_top.specs.Runs.{AreTypedRecords}
+use Rattle.sn_load.specs.Load.{AreTypedRecords}
 use Rattle.sn_top.proofs.Printing.{not_ended}
 use Rattle.sn_top.proofs.Running.{begun, closed_ended, closed_printed, cut, ended_none, first_typed, held_so_far, printed_all, rest_typed, some_ended, still_going, stream_so_far}
 use Rattle.sn_top.proofs.transcript.print_run.Goals as goal

@@ -7,7 +7,7 @@ use Rattle.sn_model.specs.Meaning.{one_list}
 use Rattle.sn_model.specs.Run.{boxes_of, net_of, setting_of}
 use Rattle.sn_once.specs.Rest.{IsOf, rest_of}
 use Rattle.sn_output.specs.Printed.{ending, printed}
-use Rattle.sn_top.specs.Runs.{AreTypedRecords}
+use Rattle.sn_load.specs.Load.{AreTypedRecords}
 use Rattle.sn_top.proofs.transcript.print_run.Given as goal
 
 abbrev pub invariant-loop-record : goal.invariant-loop-record

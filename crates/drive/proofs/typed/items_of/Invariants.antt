@@ -1,5 +1,0 @@
-use Rattle.sn_model.specs.Typed.{AreTyped}
-use Rattle.drive.proofs.typed.items_of.Given as goal
-
-abbrev pub invariant-loop-record : goal.invariant-loop-record
-invariant-loop-record l = AreTyped l.boxes l.claim.net l.items

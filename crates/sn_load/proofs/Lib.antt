@@ -1,0 +1,4 @@
+pub mod Loading
+pub mod Texts
+pub mod Flowing
+pub mod Typing

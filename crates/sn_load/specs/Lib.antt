@@ -1,0 +1,5 @@
+pub mod Status
+pub mod Load
+pub mod Source
+pub mod Scope
+pub mod Flows

@@ -1,0 +1,174 @@
+-- Statuses, and the lines on `err`.
+use Rattle.std.specs.Prelude.{ℕ, List, [], ◌++◌, codes}
+use Rattle.std.specs.Fmt.{decimal}
+use Rattle.sn_record.specs.declared.item.FaultKind.{FaultKind}
+use Rattle.sn_record.specs.declared.item.FaultKind.TheVariants as kind
+use Rattle.sn_output.specs.Line.{printed_label}
+use Rattle.sn_load.specs.declared.status.Status.{Status}
+use Rattle.sn_load.specs.declared.status.Status.TheVariants as status
+use Rattle.sn_load.specs.declared.status.Which.{Which}
+use Rattle.sn_load.specs.declared.status.Which.TheVariants.{Source, Input}
+use Rattle.sn_load.specs.declared.status.Refusal.{Refusal}
+use Rattle.sn_load.specs.declared.status.Refusal.TheVariants.{TooLarge, Source as SourceAt, NoMain, TooDeep, LargeTree, TooManyNames, IllTyped, Variants, Line}
+use Rattle.sn_load.specs.declared.status.LineFault.{LineFault}
+use Rattle.sn_load.specs.declared.status.LineFault.TheVariants as line
+use Rattle.sn_load.specs.declared.status.SourceFault.{SourceFault}
+use Rattle.sn_load.specs.declared.status.TypeFault.{TypeFault}
+use Rattle.sn_load.specs.declared.status.TypeFault.TheVariants as type
+use Rattle.sn_load.specs.declared.status.SourceFault.TheVariants.{BadUtf8, BadChar, NumberTooWide, TextOpen, Unexpected, Unknown, Twice, Arity, GuardTag}
+use Rattle.sn_load.specs.declared.status.Stop.{Stop}
+use Rattle.sn_load.specs.declared.status.Stop.TheVariants as stop
+
+abbrev pub status_code : Status → ℕ
+status_code status.Ok = 0
+status_code status.Usage = 2
+status_code status.Read = 3
+status_code status.Source = 4
+status_code status.IllTyped = 5
+status_code status.Input = 6
+status_code status.Fault = 7
+status_code status.Memory = 8
+status_code status.Write = 9
+status_code status.TooLarge = 10
+status_code status.Limit = 11
+
+-- a line that is wrong, a record that is not of the input type, and one that is one too many
+abbrev pub line_status : LineFault → Status
+line_status (line.BadLine n) = status.Input
+line_status (line.Twice n kind name) = status.Input
+line_status (line.Untyped n) = status.Input
+line_status (line.TooMany n) = status.Limit
+
+abbrev pub refusal_status : Refusal → Status
+refusal_status (TooLarge which) = status.TooLarge
+refusal_status (SourceAt fault at) = status.Source
+refusal_status NoMain = status.Source
+refusal_status (TooDeep at) = status.Limit
+refusal_status (LargeTree at) = status.Limit
+refusal_status TooManyNames = status.Limit
+refusal_status (IllTyped fault at variant) = status.IllTyped
+refusal_status (Variants at) = status.Limit
+refusal_status (Line fault) = line_status fault
+
+abbrev pub stop_status : Stop → Status
+stop_status (stop.Refused refusal) = refusal_status refusal
+stop_status (stop.Faulted fault) = status.Fault
+stop_status (stop.Unread which) = status.Read
+stop_status stop.Memory = status.Memory
+stop_status stop.Write = status.Write
+
+abbrev pub name_of : Which → List ℕ → List ℕ → List ℕ
+name_of Source source input = source
+name_of Input source input = input
+
+abbrev pub fault_label : SourceFault → List ℕ
+fault_label BadUtf8 = codes "source: BadUtf8 at "
+fault_label BadChar = codes "source: BadChar at "
+fault_label NumberTooWide = codes "source: NumberTooWide at "
+fault_label TextOpen = codes "source: TextOpen at "
+fault_label Unexpected = codes "source: Unexpected at "
+fault_label Unknown = codes "source: Unknown at "
+fault_label Twice = codes "source: Twice at "
+fault_label Arity = codes "source: Arity at "
+fault_label GuardTag = codes "source: GuardTag at "
+
+abbrev pub type_label : TypeFault → List ℕ
+type_label type.NoRoute = codes "type: NoRoute at "
+type_label type.BadOutput = codes "type: BadOutput at "
+
+abbrev pub line_label : LineFault → List ℕ
+line_label (line.BadLine n) = codes "input: BadLine "
+line_label (line.Twice n kind name) = codes "input: Twice "
+line_label (line.Untyped n) = codes "input: Untyped "
+line_label (line.TooMany n) = codes "limit: Records at line "
+
+abbrev pub ending_label : FaultKind → List ℕ
+ending_label kind.Fuel = codes "fault: Fuel at "
+ending_label kind.Overflow = codes "fault: Overflow at "
+ending_label kind.DivZero = codes "fault: DivZero at "
+ending_label kind.Kind = codes "fault: Kind at "
+ending_label kind.Index = codes "fault: Index at "
+ending_label kind.Depth = codes "fault: Depth at "
+
+abbrev pub refusal_label : Refusal → List ℕ
+refusal_label (TooLarge which) = codes "too large: "
+refusal_label (SourceAt fault at) = fault_label fault
+refusal_label NoMain = codes "source: NoMain"
+refusal_label (TooDeep at) = codes "limit: TooDeep at "
+refusal_label (LargeTree at) = codes "limit: TooLarge at "
+refusal_label TooManyNames = codes "limit: Names"
+refusal_label (IllTyped fault at variant) = type_label fault
+refusal_label (Variants at) = codes "limit: Variants at "
+refusal_label (Line fault) = line_label fault
+
+abbrev pub stop_label : Stop → List ℕ
+stop_label (stop.Refused refusal) = refusal_label refusal
+stop_label (stop.Faulted fault) = ending_label fault.kind
+stop_label (stop.Unread which) = codes "read: "
+stop_label stop.Memory = codes "memory"
+stop_label stop.Write = codes "write"
+
+-- the number of the line
+abbrev pub line_number : LineFault → ℕ
+line_number (line.BadLine n) = n
+line_number (line.Twice n kind name) = n
+line_number (line.Untyped n) = n
+line_number (line.TooMany n) = n
+
+abbrev pub refusal_name : Refusal → List ℕ → List ℕ → List ℕ
+refusal_name (TooLarge which) source input = name_of which source input
+refusal_name (SourceAt fault at) source input = decimal at
+refusal_name NoMain source input = []
+refusal_name (TooDeep at) source input = decimal at
+refusal_name (LargeTree at) source input = decimal at
+refusal_name TooManyNames source input = []
+refusal_name (IllTyped fault at variant) source input = decimal at
+refusal_name (Variants at) source input = decimal at
+refusal_name (Line fault) source input = decimal (line_number fault)
+
+abbrev pub stop_name : Stop → List ℕ → List ℕ → List ℕ
+stop_name (stop.Refused refusal) source input = refusal_name refusal source input
+stop_name (stop.Faulted fault) source input = decimal fault.place
+stop_name (stop.Unread which) source input = name_of which source input
+stop_name stop.Memory source input = []
+stop_name stop.Write source input = []
+
+-- the place in the source, or the number of the input's line, that the line on `err` speaks of
+abbrev pub refusal_place : Refusal → ℕ
+refusal_place (TooLarge which) = 0
+refusal_place (SourceAt fault at) = at
+refusal_place NoMain = 0
+refusal_place (TooDeep at) = at
+refusal_place (LargeTree at) = at
+refusal_place TooManyNames = 0
+refusal_place (IllTyped fault at variant) = at
+refusal_place (Variants at) = at
+refusal_place (Line fault) = line_number fault
+
+abbrev pub stop_place : Stop → ℕ
+stop_place (stop.Refused refusal) = refusal_place refusal
+stop_place (stop.Faulted fault) = fault.place
+stop_place (stop.Unread which) = 0
+stop_place stop.Memory = 0
+stop_place stop.Write = 0
+
+-- the label that stands twice in a line
+abbrev pub line_detail : LineFault → List ℕ
+line_detail (line.BadLine n) = []
+line_detail (line.Twice n kind name) = codes " " ++ printed_label kind name
+line_detail (line.Untyped n) = []
+line_detail (line.TooMany n) = []
+
+-- the label, or the variant for which types are wrong
+abbrev pub refusal_detail : Refusal → List ℕ
+refusal_detail (IllTyped fault at variant) = codes " for " ++ variant
+refusal_detail (Line fault) = line_detail fault
+refusal_detail refusal = []
+
+abbrev pub stop_detail : Stop → List ℕ
+stop_detail (stop.Refused refusal) = refusal_detail refusal
+stop_detail why = []
+
+-- the line on `err`, which names a file by its word
+abbrev pub stop_line : Stop → List ℕ → List ℕ → List ℕ
+stop_line why source input = stop_label why ++ (stop_name why source input ++ (stop_detail why ++ codes "\n"))

@@ -1,0 +1,98 @@
+//! What a run with workers prints.
+ghost use Rattle.std.specs.Prelude.{◌≡◌, ◌≤◌, IfErr, IfOk, List, None, Some};
+ghost use Rattle.sn_record.specs.declared.item.Fault.{Fault as EndingFault};
+ghost use Rattle.sn_io.specs.Causes.{Rose};
+ghost use Rattle.sn_io.specs.Told.{AppendsPrefix};
+ghost use Rattle.sn_output.specs.Printed.{printed};
+ghost use Rattle.sn_farm.specs.Farmed.{HasPrinted as FarmHasPrinted};
+ghost use Rattle.sn_farm.specs.declared.outcome.Outcome.TheVariants as outcome;
+ghost use Rattle.sn_model.specs.Run.{MayGive};
+ghost use Rattle.sn_net.specs.Item.{ModelItem};
+ghost use Rattle.sn_net.specs.WellFormed.{FitsBoxes};
+ghost use Rattle.sn_model.specs.Ranges.{IsWithin};
+ghost use Rattle.sn_model.specs.declared.run.TheConstants.{LONGEST_QUEUE};
+ghost use Rattle.sn_load.specs.Load.{AreLimits, AreTypedRecords, limits_of};
+ghost use Rattle.sn_top.specs.Ready.{setting_at};
+ghost use Rattle.sn_top.specs.Runs.{HasPrinted, WhyUnfinished, WithWorkers};
+ghost use Rattle.sn_top.specs.Seen.{seen_sink};
+
+use crate::ready::Ready;
+use sn_farm::{Outcome, farm_run};
+use sn_io::{Gate, Sink};
+use sn_load::{Stop, items_of};
+use sn_model::Run;
+use sn_names::Names;
+use sn_output::LineSink;
+use sn_record::Fault;
+use std::alloc::Global;
+use std::sync::{Arc, Wait};
+use std::thread::Threads;
+
+/// How a run with workers is set: the fuel of each call of a box, how many replicas a star may have, how many workers there are, and how
+/// many entries a queue between them holds.
+#[derive(Clone, Copy)]
+pub struct Setup {
+    pub fuel: u64,
+    pub depth: u32,
+    pub workers: u32,
+    pub queue: u32,
+}
+
+/// Drives a run to its end with workers, and prints the line of each record that comes out.
+fn farm_to<R: Threads + Wait + Sync, O: Sink, G: Gate>(
+    rt: &R,
+    alloc: Global,
+    run: &Arc<Run>,
+    names: &Names,
+    workers: u32,
+    gate: &G,
+    out: &mut O,
+) -> Outcome
+    requires workers { (1 ≤ workers) × (workers ≤ 64) }
+    ensures part { ∥ ((ys : List ModelItem) × MayGive run.now.value ys × AppendsPrefix (O.held out.old) (O.held out.new) (printed names.now ys)) ∥₁ }
+    ensures whole { result ≡ outcome.Whole → FarmHasPrinted names.now run.now.value None (O.held out.old) (O.held out.new) }
+    ensures faulted { (fault : EndingFault) → result ≡ outcome.Faulted fault → FarmHasPrinted names.now run.now.value (Some fault) (O.held out.old) (O.held out.new) }
+    ensures rose { result ≡ outcome.WriteFault → Rose (O.faults out.old) (O.faults out.new) }
+    ensures later { O.faults out.old ≤ O.faults out.new }
+{
+    let mut lines = LineSink { sink: out, names };
+    farm_run(rt, alloc, run, workers, gate, &mut lines)
+}
+
+/// Runs a network over its records with workers, of which the calling thread is one. It prints each record that comes out, and answers
+/// the fault that ends them.
+pub fn print_with_workers<R: Threads + Wait + Sync, O: Sink, G: Gate>(
+    rt: &R,
+    alloc: Global,
+    ready: Ready,
+    setup: Setup,
+    gate: &G,
+    out: &mut O,
+) -> Result<Option<Fault>, Stop>
+    requires limits { AreLimits (limits_of setup.fuel setup.depth) }
+    requires workers { (1 ≤ setup.workers) × (setup.workers ≤ 64) }
+    requires queue { IsWithin setup.queue LONGEST_QUEUE }
+    requires formed { FitsBoxes ready.boxes ready.net }
+    requires typed { AreTypedRecords ready.boxes ready.net ready.records }
+    ensures done { IfOk result (HasPrinted (WithWorkers (setting_at ready (limits_of setup.fuel setup.depth)) ready.net ready.records ready.names) (seen_sink O.held O.faults out.old out.new)) }
+    ensures ended { IfErr result (WhyUnfinished (WithWorkers (setting_at ready (limits_of setup.fuel setup.depth)) ready.net ready.records ready.names) (seen_sink O.held O.faults out.old out.new)) }
+    ensures later { O.faults out.old ≤ O.faults out.new }
+{
+    let Ready {
+        net,
+        boxes,
+        records,
+        names,
+    } = ready;
+    let items = items_of(alloc, records)?;
+    let run = Run::new(net, boxes, setup.fuel, setup.depth, setup.queue, items);
+    let Ok(run) = Arc::new(alloc, run) else {
+        return Err(Stop::Memory);
+    };
+    match farm_to(rt, alloc, &run, &names, setup.workers, gate, out) {
+        Outcome::Whole => Ok(None),
+        Outcome::Faulted(fault) => Ok(Some(fault)),
+        Outcome::WriteFault => Err(Stop::Write),
+        Outcome::Memory => Err(Stop::Memory),
+    }
+}

@@ -1,0 +1,165 @@
+//! Runs with workers.
+use crate::holding::Holding;
+use crate::served::{files, serve_files, sink};
+use sn_io::OpenGate;
+use sn_list::Memory;
+use sn_top::Status;
+use std::alloc::Global;
+use std::sync::Wait;
+use std::test::*;
+use std::thread::Threads;
+
+/// A slow and a quick box, whose records are merged in order.
+const IN_ORDER: &str =
+    "box slow ((a) -> (x)) { fun spin(i) = if i < 1 then 0 else spin(i - 1); spin(5000); out 1(a) } box quick ((b) -> (x)) { out 1(b) } net main ({a} | {b} -> {x}) connect slow || quick;";
+
+/// The same, merged freely.
+const FREE: &str =
+    "box slow ((a) -> (x)) { fun spin(i) = if i < 1 then 0 else spin(i - 1); spin(5000); out 1(a) } box quick ((b) -> (x)) { out 1(b) } net main ({a} | {b} -> {x}) connect slow | quick;";
+
+const TWO_EACH: &str = "{a=1}\n{b=2}\n{a=3}\n{b=4}\n";
+
+const FOUR_IN_ORDER: &str =
+    "box p ((a) -> (x)) { out 1(a) } box q ((b) -> (x)) { out 1(b) } box r ((c) -> (x)) { out 1(c) } box s ((d) -> (x)) { out 1(d) } net main ({a} | {b} | {c} | {d} -> {x}) connect p || q || r || s;";
+
+const FOUR_FREE: &str =
+    "box p ((a) -> (x)) { out 1(a) } box q ((b) -> (x)) { out 1(b) } box r ((c) -> (x)) { out 1(c) } box s ((d) -> (x)) { out 1(d) } net main ({a} | {b} | {c} | {d} -> {x}) connect p | q | r | s;";
+
+/// A record for each of the four boxes.
+const ONE_EACH: &str = "{a=1}\n{b=2}\n{c=3}\n{d=4}\n";
+
+/// A call that is held longer than this many turns has failed the test.
+const LIMIT: u64 = 1_000_000;
+
+/// Whether so many workers print one of the texts, and nothing on `err`.
+fn prints_one_of<R: Threads + Wait + Sync>(
+    rt: &R,
+    alloc: Global,
+    source: &str,
+    input: &str,
+    workers: &str,
+    texts: &[&str],
+) -> Result<bool, Memory> {
+    let words = ["run", "s", "i", "--workers", workers, "--queue", "1"];
+    let stored = files(alloc, source.as_bytes(), input.as_bytes())?;
+    let served = serve_files(rt, alloc, &words, stored, sink(alloc, 5)?, &OpenGate)?;
+    Ok(
+        texts
+            .iter()
+            .any(|text| served.is(Status::Ok, text.as_bytes(), b"")),
+    )
+}
+
+#[test]
+fn any_number_of_workers_prints_what_one_thread_does(rt: HostRuntime) -> Result<(), Fail> {
+    let texts = ["{x=1}\n{x=2}\n{x=3}\n{x=4}\n"];
+    for workers in ["1", "2", "8"] {
+        assert!(rt; prints_one_of(&rt, rt.alloc(), IN_ORDER, TWO_EACH, workers, &texts)?);
+    }
+    Ok(())
+}
+
+#[test]
+fn a_free_choice_prints_what_it_may(rt: HostRuntime) -> Result<(), Fail> {
+    let texts = [
+        "{x=1}\n{x=2}\n{x=3}\n",
+        "{x=1}\n{x=3}\n{x=2}\n",
+        "{x=2}\n{x=1}\n{x=3}\n",
+    ];
+    for workers in ["1", "2", "8"] {
+        assert!(rt;
+            prints_one_of(
+                &rt,
+                rt.alloc(),
+                FREE,
+                "{a=1}\n{b=2}\n{a=3}\n",
+                workers,
+                &texts
+            )?
+        );
+    }
+    Ok(())
+}
+
+/// Whether `wanted` calls run at once with so many workers. Each call is held for it for so many turns.
+fn run_at_once<R: Threads + Wait + Sync>(
+    rt: &R,
+    alloc: Global,
+    source: &str,
+    input: &str,
+    workers: &str,
+    gate: Holding,
+) -> Result<bool, Memory> {
+    let words = ["run", "s", "i", "--workers", workers];
+    let stored = files(alloc, source.as_bytes(), input.as_bytes())?;
+    let served = serve_files(rt, alloc, &words, stored, sink(alloc, 64)?, &gate)?;
+    Ok(served.status == Status::Ok && gate.is_met())
+}
+
+#[test]
+fn two_calls_run_at_once(rt: HostRuntime) -> Result<(), Fail> {
+    for source in [IN_ORDER, FREE] {
+        assert!(rt;
+            run_at_once(
+                &rt,
+                rt.alloc(),
+                source,
+                TWO_EACH,
+                "4",
+                Holding::new(2, LIMIT)
+            )?
+        );
+    }
+    Ok(())
+}
+
+#[test]
+fn four_workers_call_three_at_once(rt: HostRuntime) -> Result<(), Fail> {
+    for source in [FOUR_IN_ORDER, FOUR_FREE] {
+        assert!(rt;
+            run_at_once(
+                &rt,
+                rt.alloc(),
+                source,
+                ONE_EACH,
+                "4",
+                Holding::new(3, LIMIT)
+            )?
+        );
+    }
+    Ok(())
+}
+
+#[test]
+fn two_workers_never_call_three_at_once(rt: HostRuntime) -> Result<(), Fail> {
+    for source in [FOUR_IN_ORDER, FOUR_FREE] {
+        assert!(rt;
+            !run_at_once(
+                &rt,
+                rt.alloc(),
+                source,
+                ONE_EACH,
+                "2",
+                Holding::new(3, 1_000)
+            )?
+        );
+    }
+    Ok(())
+}
+
+#[test]
+fn one_worker_never_calls_two_at_once(rt: HostRuntime) -> Result<(), Fail> {
+    for source in [FOUR_IN_ORDER, FOUR_FREE] {
+        assert!(rt;
+            !run_at_once(
+                &rt,
+                rt.alloc(),
+                source,
+                ONE_EACH,
+                "1",
+                Holding::new(2, 1_000)
+            )?
+        );
+    }
+    Ok(())
+}
