@@ -1,8 +1,8 @@
 //! The program's commands, as `clap` is told of them.
 ghost use Rattle.std.specs.Prelude.{◌≡◌, IfOk, false, map};
-ghost use Rattle.clap.specs.Words.{app_of, new_app};
+ghost use Rattle.clap.specs.Words.{app_of, new_app, with_rule, with_subcommand};
 ghost use Rattle.clap.specs.declared.builder.Command.TheViews.{out-Command as fields_of};
-ghost use Rattle.sn_words.specs.Clap.{bare, program, with_options, with_words};
+ghost use Rattle.sn_words.specs.Clap.{bare, leaf_of, program, told_option, told_word, with_options, with_words};
 
 use crate::numbers::{DEPTH, FUEL, QUEUE, WORKERS};
 use clap::Arg;
@@ -17,6 +17,30 @@ pub(crate) const SEED: &str = "SEED";
 
 pub(crate) const COUNT: &str = "COUNT";
 
+/// A command with one more positional word, which is wanted.
+fn with_word<'a>(
+    alloc: Global,
+    form: clap::Command<'a>,
+    word: &'a str,
+) -> Result<clap::Command<'a>, AllocError>
+    ensures shape { IfOk result (λ longer. app_of longer ≡ with_rule (app_of form.entry) (told_word word.entry.now)) }
+    ensures local { IfOk result (λ longer. (fields_of form.entry).has_globals ≡ false → (fields_of longer).has_globals ≡ false) }
+{
+    form.arg(Arg::new(alloc, word).required(true))
+}
+
+/// A command with one more option, which has a value.
+fn with_option<'a>(
+    alloc: Global,
+    form: clap::Command<'a>,
+    option: &'a str,
+) -> Result<clap::Command<'a>, AllocError>
+    ensures shape { IfOk result (λ longer. app_of longer ≡ with_rule (app_of form.entry) (told_option option.entry.now)) }
+    ensures local { IfOk result (λ longer. (fields_of form.entry).has_globals ≡ false → (fields_of longer).has_globals ≡ false) }
+{
+    form.arg(Arg::new(alloc, option).long(option))
+}
+
 /// One command, as `clap` is told of it: its positional words in order, and its options.
 fn command_form<'a>(
     alloc: Global,
@@ -29,10 +53,10 @@ fn command_form<'a>(
 {
     let mut form = clap::Command::new(alloc, name);
     for word in words {
-        form = form.arg(Arg::new(alloc, word).required(true))?;
+        form = with_word(alloc, form, word)?;
     }
     for option in options {
-        form = form.arg(Arg::new(alloc, option).long(option))?;
+        form = with_option(alloc, form, option)?;
     }
     Ok(form)
 }
@@ -48,24 +72,40 @@ fn bare_form<'a>(alloc: Global) -> clap::Command<'a>
         .subcommand_required(true)
 }
 
+/// The program with one more command. Nothing but the program is alive where a command is asked for, since each form of
+/// `clap` that is given up is proved part by part.
+fn with_command<'a>(
+    alloc: Global,
+    program: clap::Command<'a>,
+    name: &'a str,
+    words: &[&'a str],
+    options: &[&'a str],
+) -> Result<clap::Command<'a>, AllocError>
+    ensures { IfOk result (λ form. app_of form ≡ with_subcommand (app_of program.entry) (leaf_of name.entry.now (map (λ word. word.now) words.now) (map (λ option. option.now) options.now)).top) }
+{
+    let command = command_form(alloc, name, words, options)?;
+    program.subcommand(command)
+}
+
 /// The program's commands, as `clap` is told of them.
 pub(crate) fn program_form<'a>(alloc: Global) -> Result<clap::Command<'a>, AllocError>
     ensures { IfOk result (λ form. app_of form ≡ program) }
 {
-    let run = command_form(
+    let form = with_command(
         alloc,
+        bare_form(alloc),
         "run",
         &[SOURCE, INPUT],
         &[WORKERS.name, FUEL.name, DEPTH.name, QUEUE.name],
     )?;
-    let once = command_form(alloc, "once", &[SOURCE, INPUT], &[FUEL.name, DEPTH.name])?;
-    let check = command_form(alloc, "check", &[SOURCE], &[])?;
-    let print = command_form(alloc, "print", &[SOURCE], &[])?;
-    let sample = command_form(alloc, "sample", &[SEED, COUNT], &[])?;
-    bare_form(alloc)
-        .subcommand(run)?
-        .subcommand(once)?
-        .subcommand(check)?
-        .subcommand(print)?
-        .subcommand(sample)
+    let form = with_command(
+        alloc,
+        form,
+        "once",
+        &[SOURCE, INPUT],
+        &[FUEL.name, DEPTH.name],
+    )?;
+    let form = with_command(alloc, form, "check", &[SOURCE], &[])?;
+    let form = with_command(alloc, form, "print", &[SOURCE], &[])?;
+    with_command(alloc, form, "sample", &[SEED, COUNT], &[])
 }
