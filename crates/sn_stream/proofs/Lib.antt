@@ -1,0 +1,4 @@
+pub mod Entries
+pub mod Flowing
+pub mod Kept
+pub mod Crossing
