@@ -2,3 +2,4 @@ pub mod Entries
 pub mod Flowing
 pub mod Kept
 pub mod Crossing
+pub mod Numbered

@@ -1,3 +1,4 @@
 pub mod Flow
 pub mod Ends
 pub mod Coding
+pub mod Ended

@@ -5,6 +5,8 @@
 mod ends;
 mod item;
 mod rule;
+mod sending;
 
 pub use ends::{GetEnd, PutEnd, make};
 pub use item::StreamItem;
+pub use sending::send;
