@@ -9,4 +9,4 @@ mod sending;
 
 pub use ends::{GetEnd, PutEnd, make};
 pub use item::StreamItem;
-pub use sending::send;
+pub use sending::{receive, send, send_all};

@@ -1,14 +1,15 @@
-//! Sending a history that is known as items and then the end.
-ghost use Rattle.std.specs.Prelude.{◌≡◌, ◌≤◌, ◌+◌, IfErr, IfOk, if◌then◌else◌, length, take};
-ghost use Rattle.sn_stream.specs.Ends.{history_of, passed};
+//! Sending a history that is known as items and then the end, and receiving entries.
+ghost use Rattle.std.specs.Prelude.{◌≡◌, ◌≤◌, ◌+◌, [], IfErr, IfOk, OnOk, if◌then◌else◌, length, take};
+ghost use Rattle.sn_stream.specs.Ends.{history_of, moves, passed};
 ghost use Rattle.sn_stream.specs.Ended.{ended, numbered};
 
-use crate::ends::PutEnd;
+use crate::ends::{GetEnd, PutEnd};
 use crate::item::StreamItem;
 use sn_list::Memory;
 use sn_record::Item;
 use std::alloc::Global;
 use std::sync::Wait;
+use std::thread::yield_now;
 
 /// The entry of this number, from 0, of the items and then the end.
 fn entry(alloc: Global, items: &[Item], number: usize) -> Result<StreamItem, Memory>
@@ -42,4 +43,59 @@ pub fn send<R: Wait>(
         return Ok(false);
     };
     Ok(true)
+}
+
+/// The same, and waits until there is room.
+fn send_when_there_is_room<R: Wait>(
+    rt: &R,
+    alloc: Global,
+    put: &mut PutEnd,
+    items: &[Item],
+    number: usize,
+) -> Result<(), Memory>
+    requires history { history_of put.old ≡ ended items.now }
+    requires sent { passed put.old.moved ≡ take number (ended items.now) }
+    requires within { number ≤ length items.now }
+    ensures sent { OnOk result (passed put.new.moved ≡ take (number + 1) (ended items.now)) }
+    ensures made { put.new.made ≡ put.old.made }
+{
+    for _ in rt.forever() {
+        if send(rt, alloc, put, items, number)? {
+            break;
+        }
+        yield_now();
+    }
+    Ok(())
+}
+
+/// Puts the items and then the end, which are the whole history of the stream, and waits where there is no room. Where memory is wanted
+/// for a copy of an item, those before it were put.
+pub fn send_all<R: Wait>(
+    rt: &R,
+    alloc: Global,
+    put: &mut PutEnd,
+    items: &[Item],
+) -> Result<(), Memory>
+    requires history { history_of put.old ≡ ended items.now }
+    requires fresh { put.old.moved ≡ [] }
+    ensures whole { OnOk result (passed put.new.moved ≡ ended items.now) }
+    ensures made { put.new.made ≡ put.old.made }
+{
+    for number in 0..items.len() {
+        send_when_there_is_room(rt, alloc, put, items, number)?;
+    }
+    send_when_there_is_room(rt, alloc, put, items, items.len())
+}
+
+/// Gets the next entry, and waits until there is one.
+pub fn receive<R: Wait>(rt: &R, get: &mut GetEnd) -> StreamItem
+    ensures { get.new ≡ moves get.old result }
+{
+    for _ in rt.forever() {
+        if let Some(entry) = get.get(rt) {
+            return entry;
+        }
+        yield_now();
+    }
+    unreachable!()
 }
