@@ -1,4 +1,4 @@
-//! The tests of the queues of jobs and of the farm, over sources and inputs as they are written. They stand above all crates that a source
+//! The tests of the queues of jobs, of streams and of the farm, over sources and inputs as they are written. They stand above all crates that a source
 //! needs, and nothing but the tests is proved here.
 #![tactic(auto)]
 
@@ -10,5 +10,7 @@ mod load;
 mod refusal;
 #[cfg(test)]
 mod runs;
+#[cfg(test)]
+mod streams;
 #[cfg(test)]
 mod tests;

@@ -9,4 +9,4 @@ mod sending;
 
 pub use ends::{GetEnd, PutEnd, make};
 pub use item::StreamItem;
-pub use sending::{receive, send, send_all};
+pub use sending::{make_at_root, receive, send, send_all};

@@ -1,15 +1,40 @@
 //! Sending a history that is known as items and then the end, and receiving entries.
-ghost use Rattle.std.specs.Prelude.{◌≡◌, ◌≤◌, ◌+◌, [], IfErr, IfOk, OnOk, if◌then◌else◌, length, take};
-ghost use Rattle.sn_stream.specs.Ends.{history_of, moves, passed};
+ghost use Rattle.std.specs.Prelude.{◌≡◌, ◌≤◌, ◌+◌, [], List, IfErr, IfOk, IsTrue, OnOk, if◌then◌else◌, length, map, take};
+ghost use Rattle.sn_model.specs.Ranges.{IsWithin};
+ghost use Rattle.sn_model.specs.Run.{given, items_of};
+ghost use Rattle.sn_model.specs.declared.run.TheConstants.{LONGEST_QUEUE};
+ghost use Rattle.sn_net.specs.Item.{modelled};
+ghost use Rattle.sn_net_histories.specs.declared.place.Port.TheVariants as some_port;
+ghost use Rattle.sn_record.specs.declared.item.Item.{Item as SomeItem};
+ghost use Rattle.sn_stream.specs.Ends.{history_of, is_open, moves, passed};
 ghost use Rattle.sn_stream.specs.Ended.{ended, numbered};
 
-use crate::ends::{GetEnd, PutEnd};
+use crate::ends::{GetEnd, PutEnd, make};
 use crate::item::StreamItem;
 use sn_list::Memory;
+use sn_model::Run;
+use sn_net_histories::{Place, Port};
 use sn_record::Item;
 use std::alloc::Global;
-use std::sync::Wait;
+use std::sync::{Arc, Wait};
 use std::thread::yield_now;
+
+/// A stream for what comes into the whole network of a run, or for what leaves it.
+pub fn make_at_root(
+    alloc: Global,
+    run: &Arc<Run>,
+    port: Port,
+    capacity: u32,
+) -> Result<(PutEnd, GetEnd), Memory>
+    requires capacity { IsWithin capacity LONGEST_QUEUE }
+    requires port { IsTrue (is_open port) }
+    ensures put { IfOk result (λ ends. ends.0.moved ≡ []) }
+    ensures get { IfOk result (λ ends. ends.1 ≡ ends.0) }
+    ensures comes { port ≡ some_port.In → IfOk result (λ ends. history_of ends.0 ≡ ended (items_of run.now.value)) }
+    ensures leaves { port ≡ some_port.Out → IfOk result (λ ends. (ys : List SomeItem) → map modelled ys ≡ given run.now.value → history_of ends.0 ≡ ended ys) }
+{
+    make(alloc, run, &Place::root(alloc, port), capacity)
+}
 
 /// The entry of this number, from 0, of the items and then the end.
 fn entry(alloc: Global, items: &[Item], number: usize) -> Result<StreamItem, Memory>
