@@ -3,8 +3,8 @@ ghost use Rattle.sn_ast.specs.declared.terminal.Terminal.TheVariants as some_tok
 ghost use Rattle.sn_box_parser.specs.BoxDeclResidual.{AfterBody, StepsFrom, StepsIn};
 ghost use Rattle.sn_box_parser.specs.declared.machine.Mode.TheVariants as some_mode;
 
-use crate::machine::{BoxDeclParser, BoxDeclStep, BoxDeclStop, Function, Mode, Opened};
-use sn_ast::measure::append;
+use crate::machine::{BoxDeclParser, BoxDeclStep, BoxDeclStop, Mode};
+use crate::parts::{Function, Opened};
 use sn_ast::{BExpr, Ident, Kept, Seq, Symbol, Terminal};
 use sn_expr_parser::{BoxParser, BoxStop};
 use std::alloc::Global;
@@ -65,14 +65,9 @@ pub fn param(
     let Terminal::Name(param) = token else {
         return Err(BoxDeclStop::Refused);
     };
-    let Function { name, params } = function;
-    let mut params = params;
-    sn_stack::append(&mut params, param)?;
+    let function = function.with_param(param)?;
     Ok(BoxDeclStep::More(BoxDeclParser {
-        mode: Mode::AfterParam {
-            opened,
-            function: Function { name, params },
-        },
+        mode: Mode::AfterParam { opened, function },
     }))
 }
 
@@ -154,11 +149,8 @@ fn after_body(
     if symbol != Symbol::Semicolon {
         return Err(BoxDeclStop::Refused);
     }
-    let Opened { head, functions } = opened;
-    let functions = append(functions, function.with_body(body))?;
+    let opened = opened.with_function(function.with_body(body))?;
     Ok(BoxDeclStep::More(BoxDeclParser {
-        mode: Mode::Body {
-            opened: Opened { head, functions },
-        },
+        mode: Mode::Body { opened },
     }))
 }

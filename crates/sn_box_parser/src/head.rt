@@ -1,7 +1,8 @@
 ghost use Rattle.sn_box_parser.specs.BoxDeclResidual.{StepsIn};
 ghost use Rattle.sn_box_parser.specs.declared.machine.Mode.TheVariants as some_mode;
 
-use crate::machine::{BoxDeclParser, BoxDeclStep, BoxDeclStop, Head, Mode, Opened};
+use crate::machine::{BoxDeclParser, BoxDeclStep, BoxDeclStop, Mode};
+use crate::parts::{Head, Opened};
 use sn_ast::measure::no_row;
 use sn_ast::{Bracket, Ident, Seq, Symbol, Terminal, Tuple};
 use sn_type_parser::{LabelParser, LabelStep, LabelStop};
@@ -123,25 +124,12 @@ pub fn in_output(
             },
         })),
         Ok(LabelStep::Done(labels)) => {
-            let Head {
-                name,
-                input,
-                outputs,
-            } = head;
-            let mut outputs = outputs;
-            let output = Tuple {
+            let head = head.with_output(Tuple {
                 labels,
                 at: opening,
-            };
-            sn_stack::append(&mut outputs, output)?;
+            })?;
             Ok(BoxDeclStep::More(BoxDeclParser {
-                mode: Mode::AfterOutput {
-                    head: Head {
-                        name,
-                        input,
-                        outputs,
-                    },
-                },
+                mode: Mode::AfterOutput { head },
             }))
         }
         Err(LabelStop::Memory) => Err(BoxDeclStop::Memory),

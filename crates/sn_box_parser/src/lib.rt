@@ -10,6 +10,6 @@ mod function;
 mod head;
 pub mod laws;
 mod machine;
-mod node;
+mod parts;
 
 pub use machine::{BoxDeclParser, BoxDeclStep, BoxDeclStop};

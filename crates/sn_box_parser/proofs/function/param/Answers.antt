@@ -5,4 +5,4 @@ pub returns-in_default : goal.returns-in_default
 returns-in_default c = λ w t. no_param _ c.in_default.not-Name
 
 pub returns : goal.returns
-returns c = λ w t. rw (c.in-Name.is, c.in_ok-append.ensures.ok) (param_from, param_to)
+returns c = λ w t. rw (c.in-Name.is, c.in_ok-function.ensures) (param_from, param_to)
