@@ -5,6 +5,7 @@ ghost use Rattle.sn_box_parser.specs.declared.machine.Mode.TheVariants as some_m
 
 use crate::machine::{BoxDeclParser, BoxDeclStep, BoxDeclStop, Mode};
 use crate::parts::{Function, Opened};
+use crate::tokens::{into_name, symbol_at};
 use sn_ast::{BExpr, Ident, Kept, Seq, Symbol, Terminal};
 use sn_expr_parser::{BoxParser, BoxStop};
 use std::alloc::Global;
@@ -13,7 +14,7 @@ use std::alloc::Global;
 pub fn name(opened: Opened, token: Terminal) -> Result<BoxDeclStep, BoxDeclStop>
     ensures { StepsIn (some_mode.FunctionName opened) token result }
 {
-    let Terminal::Name(name) = token else {
+    let Some(name) = into_name(token) else {
         return Err(BoxDeclStop::Refused);
     };
     Ok(BoxDeclStep::More(BoxDeclParser {
@@ -25,7 +26,7 @@ pub fn name(opened: Opened, token: Terminal) -> Result<BoxDeclStep, BoxDeclStop>
 pub fn opening(opened: Opened, name: Ident, token: Terminal) -> Result<BoxDeclStep, BoxDeclStop>
     ensures { StepsIn (some_mode.FunctionOpening opened name) token result }
 {
-    let Some(_) = token.symbol_at(Symbol::OpenParen) else {
+    let Some(_) = symbol_at(token, Symbol::OpenParen) else {
         return Err(BoxDeclStop::Refused);
     };
     Ok(BoxDeclStep::More(BoxDeclParser {
@@ -62,7 +63,7 @@ pub fn param(
 ) -> Result<BoxDeclStep, BoxDeclStop>
     ensures { StepsIn (some_mode.Param opened function) token result }
 {
-    let Terminal::Name(param) = token else {
+    let Some(param) = into_name(token) else {
         return Err(BoxDeclStop::Refused);
     };
     let function = function.with_param(param)?;
@@ -84,7 +85,7 @@ pub fn after_param(
             mode: Mode::Param { opened, function },
         }));
     }
-    let Some(_) = token.symbol_at(Symbol::CloseParen) else {
+    let Some(_) = symbol_at(token, Symbol::CloseParen) else {
         return Err(BoxDeclStop::Refused);
     };
     Ok(BoxDeclStep::More(BoxDeclParser {
@@ -101,7 +102,7 @@ pub fn assign(
 ) -> Result<BoxDeclStep, BoxDeclStop>
     ensures { StepsIn (some_mode.Assign opened function) token result }
 {
-    let Some(_) = token.symbol_at(Symbol::Assign) else {
+    let Some(_) = symbol_at(token, Symbol::Assign) else {
         return Err(BoxDeclStop::Refused);
     };
     Ok(BoxDeclStep::More(BoxDeclParser {

@@ -11,5 +11,6 @@ mod head;
 pub mod laws;
 mod machine;
 mod parts;
+mod tokens;
 
 pub use machine::{BoxDeclParser, BoxDeclStep, BoxDeclStop};
