@@ -25,7 +25,7 @@ use Rattle.sn_box_parser.specs.BoxDeclResidual.{AfterBody, AfterOutput, AfterPar
 use Rattle.sn_box_parser.specs.declared.machine.BoxDeclParser.{BoxDeclParser}
 use Rattle.sn_box_parser.specs.declared.machine.Mode.{Mode}
 use Rattle.sn_box_parser.specs.declared.machine.Mode.TheVariants as mode
-use Rattle.sn_box_parser.specs.declared.machine.Opened.{Opened}
+use Rattle.sn_box_parser.specs.declared.parts.Opened.{Opened}
 use Rattle.sn_box_parser.proofs.Steps.{opening_to}
 
 -- No box is complete without a further token.

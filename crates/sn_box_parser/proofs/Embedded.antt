@@ -26,7 +26,7 @@ use Rattle.sn_box_parser.specs.declared.machine.BoxDeclStep.{BoxDeclStep}
 use Rattle.sn_box_parser.specs.declared.machine.BoxDeclStep.TheVariants.{More, Done}
 use Rattle.sn_box_parser.specs.declared.machine.BoxDeclStop.{BoxDeclStop}
 use Rattle.sn_box_parser.specs.declared.machine.BoxDeclStop.TheVariants.{Memory, Refused}
-use Rattle.sn_box_parser.specs.declared.machine.Opened.{Opened}
+use Rattle.sn_box_parser.specs.declared.parts.Opened.{Opened}
 
 -- What one state takes another takes, where the same completes both from this token on.
 pub steps_through : (before after : List Terminal → Read → Type 0) (x : Terminal) (r : Result BoxDeclStep BoxDeclStop) →

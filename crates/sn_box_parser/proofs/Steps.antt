@@ -15,7 +15,7 @@ use Rattle.sn_ast.specs.declared.terminal.Symbol.TheVariants.{OpenParen, ClosePa
 use Rattle.sn_ast.specs.declared.terminal.Terminal.{Terminal}
 use Rattle.sn_ast.specs.declared.terminal.Terminal.TheVariants.{Name, Keyword, Symbol}
 use Rattle.sn_box_parser.specs.BoxDeclResidual.{AfterBody, AfterOutput, AfterParam, AfterPart, NextArrow, NextAssign, NextBody, NextBrace, NextFunction, NextOpening, NextParam, NextParams, NextTuple, Read, WithOutput, after_body, after_output, after_param, after_part, next_arrow, next_assign, next_brace, next_function, next_opening, next_param, next_params, next_tuple, read}
-use Rattle.sn_box_parser.specs.declared.machine.Opened.{Opened}
+use Rattle.sn_box_parser.specs.declared.parts.Opened.{Opened}
 
 pub opening_from : {name : Ident} {at : ℕ} {w us : List Terminal} {d : Kept Decl} →
     RestOfBox kept name (Symbol OpenParen at ∷ w) d us → NextTuple (NextArrow name) w (read d us)

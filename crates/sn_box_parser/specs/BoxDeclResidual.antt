@@ -24,7 +24,7 @@ use Rattle.sn_box_parser.specs.declared.machine.BoxDeclStop.{BoxDeclStop}
 use Rattle.sn_box_parser.specs.declared.machine.BoxDeclStop.TheVariants.{Memory, Refused}
 use Rattle.sn_box_parser.specs.declared.machine.Mode.{Mode}
 use Rattle.sn_box_parser.specs.declared.machine.Mode.TheVariants as mode
-use Rattle.sn_box_parser.specs.declared.machine.Opened.{Opened}
+use Rattle.sn_box_parser.specs.declared.parts.Opened.{Opened}
 
 -- a box at the front, and what follows it
 pub record Read : Type 0 where

@@ -4,7 +4,8 @@ ghost use Rattle.sn_ast.specs.declared.terminal.Terminal.TheVariants as some_tok
 ghost use Rattle.sn_box_parser.specs.BoxDeclResidual.{AfterPart, StepsFrom, StepsIn};
 ghost use Rattle.sn_box_parser.specs.declared.machine.Mode.TheVariants as some_mode;
 
-use crate::machine::{BoxDeclParser, BoxDeclStep, BoxDeclStop, Mode, Opened, Sequence};
+use crate::machine::{BoxDeclParser, BoxDeclStep, BoxDeclStop, Mode};
+use crate::parts::{Opened, Sequence};
 use sn_ast::{BExpr, Kept, Keyword, Symbol, Terminal};
 use sn_expr_parser::{BoxParser, BoxStop};
 use std::alloc::Global;

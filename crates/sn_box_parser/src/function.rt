@@ -3,8 +3,9 @@ ghost use Rattle.sn_ast.specs.declared.terminal.Terminal.TheVariants as some_tok
 ghost use Rattle.sn_box_parser.specs.BoxDeclResidual.{AfterBody, StepsFrom, StepsIn};
 ghost use Rattle.sn_box_parser.specs.declared.machine.Mode.TheVariants as some_mode;
 
-use crate::machine::{BoxDeclParser, BoxDeclStep, BoxDeclStop, Function, Mode, Opened};
-use sn_ast::measure::append;
+use crate::machine::{BoxDeclParser, BoxDeclStep, BoxDeclStop, Mode};
+use crate::parts::{Function, Opened};
+use crate::tokens::{into_name, symbol_at};
 use sn_ast::{BExpr, Ident, Kept, Seq, Symbol, Terminal};
 use sn_expr_parser::{BoxParser, BoxStop};
 use std::alloc::Global;
@@ -13,7 +14,7 @@ use std::alloc::Global;
 pub fn name(opened: Opened, token: Terminal) -> Result<BoxDeclStep, BoxDeclStop>
     ensures { StepsIn (some_mode.FunctionName opened) token result }
 {
-    let Terminal::Name(name) = token else {
+    let Some(name) = into_name(token) else {
         return Err(BoxDeclStop::Refused);
     };
     Ok(BoxDeclStep::More(BoxDeclParser {
@@ -25,7 +26,7 @@ pub fn name(opened: Opened, token: Terminal) -> Result<BoxDeclStep, BoxDeclStop>
 pub fn opening(opened: Opened, name: Ident, token: Terminal) -> Result<BoxDeclStep, BoxDeclStop>
     ensures { StepsIn (some_mode.FunctionOpening opened name) token result }
 {
-    let Some(_) = token.symbol_at(Symbol::OpenParen) else {
+    let Some(_) = symbol_at(token, Symbol::OpenParen) else {
         return Err(BoxDeclStop::Refused);
     };
     Ok(BoxDeclStep::More(BoxDeclParser {
@@ -62,17 +63,12 @@ pub fn param(
 ) -> Result<BoxDeclStep, BoxDeclStop>
     ensures { StepsIn (some_mode.Param opened function) token result }
 {
-    let Terminal::Name(param) = token else {
+    let Some(param) = into_name(token) else {
         return Err(BoxDeclStop::Refused);
     };
-    let Function { name, params } = function;
-    let mut params = params;
-    sn_stack::append(&mut params, param)?;
+    let function = function.with_param(param)?;
     Ok(BoxDeclStep::More(BoxDeclParser {
-        mode: Mode::AfterParam {
-            opened,
-            function: Function { name, params },
-        },
+        mode: Mode::AfterParam { opened, function },
     }))
 }
 
@@ -89,7 +85,7 @@ pub fn after_param(
             mode: Mode::Param { opened, function },
         }));
     }
-    let Some(_) = token.symbol_at(Symbol::CloseParen) else {
+    let Some(_) = symbol_at(token, Symbol::CloseParen) else {
         return Err(BoxDeclStop::Refused);
     };
     Ok(BoxDeclStep::More(BoxDeclParser {
@@ -106,7 +102,7 @@ pub fn assign(
 ) -> Result<BoxDeclStep, BoxDeclStop>
     ensures { StepsIn (some_mode.Assign opened function) token result }
 {
-    let Some(_) = token.symbol_at(Symbol::Assign) else {
+    let Some(_) = symbol_at(token, Symbol::Assign) else {
         return Err(BoxDeclStop::Refused);
     };
     Ok(BoxDeclStep::More(BoxDeclParser {
@@ -154,11 +150,8 @@ fn after_body(
     if symbol != Symbol::Semicolon {
         return Err(BoxDeclStop::Refused);
     }
-    let Opened { head, functions } = opened;
-    let functions = append(functions, function.with_body(body))?;
+    let opened = opened.with_function(function.with_body(body))?;
     Ok(BoxDeclStep::More(BoxDeclParser {
-        mode: Mode::Body {
-            opened: Opened { head, functions },
-        },
+        mode: Mode::Body { opened },
     }))
 }

@@ -1,7 +1,9 @@
 ghost use Rattle.sn_box_parser.specs.BoxDeclResidual.{StepsIn};
 ghost use Rattle.sn_box_parser.specs.declared.machine.Mode.TheVariants as some_mode;
 
-use crate::machine::{BoxDeclParser, BoxDeclStep, BoxDeclStop, Head, Mode, Opened};
+use crate::machine::{BoxDeclParser, BoxDeclStep, BoxDeclStop, Mode};
+use crate::parts::{Head, Opened};
+use crate::tokens::symbol_at;
 use sn_ast::measure::no_row;
 use sn_ast::{Bracket, Ident, Seq, Symbol, Terminal, Tuple};
 use sn_type_parser::{LabelParser, LabelStep, LabelStop};
@@ -11,7 +13,7 @@ use std::alloc::Global;
 pub fn opening(name: Ident, token: Terminal) -> Result<BoxDeclStep, BoxDeclStop>
     ensures { StepsIn (some_mode.Opening name) token result }
 {
-    let Some(_) = token.symbol_at(Symbol::OpenParen) else {
+    let Some(_) = symbol_at(token, Symbol::OpenParen) else {
         return Err(BoxDeclStop::Refused);
     };
     Ok(BoxDeclStep::More(BoxDeclParser {
@@ -23,7 +25,7 @@ pub fn opening(name: Ident, token: Terminal) -> Result<BoxDeclStep, BoxDeclStop>
 pub fn input(alloc: Global, name: Ident, token: Terminal) -> Result<BoxDeclStep, BoxDeclStop>
     ensures { StepsIn (some_mode.Input name) token result }
 {
-    let Some(opening) = token.symbol_at(Symbol::OpenParen) else {
+    let Some(opening) = symbol_at(token, Symbol::OpenParen) else {
         return Err(BoxDeclStop::Refused);
     };
     Ok(BoxDeclStep::More(BoxDeclParser {
@@ -75,7 +77,7 @@ pub fn arrow(
 ) -> Result<BoxDeclStep, BoxDeclStop>
     ensures { StepsIn (some_mode.Arrow name input) token result }
 {
-    let Some(_) = token.symbol_at(Symbol::Arrow) else {
+    let Some(_) = symbol_at(token, Symbol::Arrow) else {
         return Err(BoxDeclStop::Refused);
     };
     Ok(BoxDeclStep::More(BoxDeclParser {
@@ -93,7 +95,7 @@ pub fn arrow(
 pub fn output(alloc: Global, head: Head, token: Terminal) -> Result<BoxDeclStep, BoxDeclStop>
     ensures { StepsIn (some_mode.Output head) token result }
 {
-    let Some(opening) = token.symbol_at(Symbol::OpenParen) else {
+    let Some(opening) = symbol_at(token, Symbol::OpenParen) else {
         return Err(BoxDeclStop::Refused);
     };
     Ok(BoxDeclStep::More(BoxDeclParser {
@@ -123,25 +125,12 @@ pub fn in_output(
             },
         })),
         Ok(LabelStep::Done(labels)) => {
-            let Head {
-                name,
-                input,
-                outputs,
-            } = head;
-            let mut outputs = outputs;
-            let output = Tuple {
+            let head = head.with_output(Tuple {
                 labels,
                 at: opening,
-            };
-            sn_stack::append(&mut outputs, output)?;
+            })?;
             Ok(BoxDeclStep::More(BoxDeclParser {
-                mode: Mode::AfterOutput {
-                    head: Head {
-                        name,
-                        input,
-                        outputs,
-                    },
-                },
+                mode: Mode::AfterOutput { head },
             }))
         }
         Err(LabelStop::Memory) => Err(BoxDeclStop::Memory),
@@ -158,7 +147,7 @@ pub fn after_output(head: Head, token: Terminal) -> Result<BoxDeclStep, BoxDeclS
             mode: Mode::Output { head },
         }));
     }
-    let Some(_) = token.symbol_at(Symbol::CloseParen) else {
+    let Some(_) = symbol_at(token, Symbol::CloseParen) else {
         return Err(BoxDeclStop::Refused);
     };
     Ok(BoxDeclStep::More(BoxDeclParser {
@@ -170,7 +159,7 @@ pub fn after_output(head: Head, token: Terminal) -> Result<BoxDeclStep, BoxDeclS
 pub fn brace(alloc: Global, head: Head, token: Terminal) -> Result<BoxDeclStep, BoxDeclStop>
     ensures { StepsIn (some_mode.Brace head) token result }
 {
-    let Some(_) = token.symbol_at(Symbol::OpenBrace) else {
+    let Some(_) = symbol_at(token, Symbol::OpenBrace) else {
         return Err(BoxDeclStop::Refused);
     };
     Ok(BoxDeclStep::More(BoxDeclParser {

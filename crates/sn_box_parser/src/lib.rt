@@ -10,6 +10,7 @@ mod function;
 mod head;
 pub mod laws;
 mod machine;
-mod node;
+mod parts;
+mod tokens;
 
 pub use machine::{BoxDeclParser, BoxDeclStep, BoxDeclStop};

@@ -5,8 +5,9 @@ ghost use Rattle.sn_ast.specs.declared.declaration.Decl.{Decl as SomeDecl};
 ghost use Rattle.sn_ast.specs.declared.terminal.Terminal.{Terminal as SomeTerminal};
 ghost use Rattle.sn_box_parser.specs.BoxDeclResidual.{Completes, Read, Steps, read};
 
+use crate::parts::{Function, Head, Opened, Sequence};
 use crate::{body, function, head};
-use sn_ast::{BExpr, Decl, FunDecl, Ident, Kept, Seq, Terminal, Tuple};
+use sn_ast::{Decl, Ident, Kept, Terminal, Tuple};
 use sn_expr_parser::BoxParser;
 use sn_list::Memory;
 use sn_type_parser::LabelParser;
@@ -37,35 +38,6 @@ pub enum BoxDeclStep {
     More(BoxDeclParser),
     /// The token was the brace that closes the body.
     Done(Kept<Decl>),
-}
-
-/// A box's name, its input, and its outputs so far.
-#[derive(Drop)]
-pub struct Head {
-    pub name: Ident,
-    pub input: Tuple,
-    pub outputs: Seq<Tuple>,
-}
-
-/// A box whose body is read, and the functions so far.
-#[derive(Drop)]
-pub struct Opened {
-    pub head: Head,
-    pub functions: Kept<Seq<FunDecl>>,
-}
-
-/// A function's name, and its parameters so far.
-#[derive(Drop)]
-pub struct Function {
-    pub name: Ident,
-    pub params: Seq<Ident>,
-}
-
-/// The place of a body's sequence, and its parts so far, if there are any.
-#[derive(Drop)]
-pub struct Sequence {
-    pub at: u32,
-    pub so_far: Option<Kept<Seq<BExpr>>>,
 }
 
 /// What comes next.
@@ -153,9 +125,15 @@ pub enum Mode {
 }
 
 /// A box that is being read.
-#[derive(Drop)]
 pub struct BoxDeclParser {
     pub mode: Mode,
+}
+
+/// Written out, so that whoever gives a parser up calls this, and is not proved over each part of it.
+impl Drop for BoxDeclParser {
+    fn drop(self) {
+        let BoxDeclParser { mode: _mode } = self;
+    }
 }
 
 impl BoxDeclParser {

@@ -278,13 +278,9 @@ pub assign_to : {fs : List Frame} {at assign : ℕ} {name : Ident} {w : List Ter
     NextAssign fs at name (Symbol Assign assign ∷ w) t
 assign_to y = next_assign y
 
-pub no_assign : {fs : List Frame} {at assign : ℕ} {s : SomeSymbol} {name : Ident} {w : List Terminal} {t : Read} → (s ≡ Assign → ⊥) →
-    NextAssign fs at name (Symbol s assign ∷ w) t → ⊥
-no_assign n (next_assign y) = n refl
-
-pub no_assign_symbol : {fs : List Frame} {at : ℕ} {x : Terminal} {name : Ident} {w : List Terminal} {t : Read} →
-    ((s : SomeSymbol) (at : ℕ) → x ≡ Symbol s at → ⊥) → NextAssign fs at name (x ∷ w) t → ⊥
-no_assign_symbol n (next_assign {assign} y) = n Assign assign refl
+pub no_assign : {fs : List Frame} {at : ℕ} {x : Terminal} {name : Ident} {w : List Terminal} {t : Read} →
+    ((assign : ℕ) → x ≡ Symbol Assign assign → ⊥) → NextAssign fs at name (x ∷ w) t → ⊥
+no_assign n (next_assign {assign} y) = n assign refl
 
 -- operands
 pub number_from : {fs : List Frame} {l : Level BExpr} {n : ℤ} {at : ℕ} {w : List Terminal} {t : Read} → Next fs l (Number n at ∷ w) t →
@@ -576,6 +572,23 @@ pub middle_symbol : {fs : List Frame} {part : MiddlePart} {e : Kept BExpr} {s : 
     Up (Middle part ∷ fs) e (Symbol s at ∷ w) t → ⊥
 middle_symbol u = elim u [ ]
 
+-- a frame whose part may not end before a symbol, and before a keyword
+pub frame_symbol : {fs : List Frame} {e : Kept BExpr} {s : SomeSymbol} {at : ℕ} {w : List Terminal} {t : Read} (f : Frame) →
+    ((l : Level BExpr) (place : ℕ) (so_far : Option (Kept (List BExpr))) → f ≡ Parens l place so_far → ⊥) →
+    ((l : Level BExpr) (h : Head) (row : Kept (List BExpr)) → f ≡ Arguments l h row → ⊥) → ((part : LastPart) → f ≡ Last part → ⊥) →
+    Up (f ∷ fs) e (Symbol s at ∷ w) t → ⊥
+frame_symbol (Parens l place so_far) p q r u = p l place so_far refl
+frame_symbol (Arguments l h row) p q r u = q l h row refl
+frame_symbol (Middle part) p q r u = middle_symbol u
+frame_symbol (Last part) p q r u = r part refl
+
+pub frame_keyword : {fs : List Frame} {e : Kept BExpr} {k : SomeKeyword} {at : ℕ} {w : List Terminal} {t : Read} (f : Frame) →
+    ((part : MiddlePart) → f ≡ Middle part → ⊥) → ((part : LastPart) → f ≡ Last part → ⊥) → Up (f ∷ fs) e (Keyword k at ∷ w) t → ⊥
+frame_keyword (Parens l place so_far) p q u = parens_keyword u
+frame_keyword (Arguments l h row) p q u = arguments_keyword u
+frame_keyword (Middle part) p q u = p part refl
+frame_keyword (Last part) p q u = q part refl
+
 pub top_keyword : {e : Kept BExpr} {k : SomeKeyword} {at : ℕ} {w : List Terminal} {t : Read} → Up [] e (Keyword k at ∷ w) t → ⊥
 top_keyword (whole k) = k
 
@@ -622,6 +635,14 @@ pub last_step_same : (fs gs hs : List Frame) (e f g : Kept BExpr) (part : LastPa
 last_step_same fs gs hs e f g part i j k us t =
     let p : Up fs e us t ↔ Up (Last part ∷ hs) f us t = rw i at (k us t) in
     rw j (λ y. last_from (p.0 y), λ y. p.1 (in_last y))
+
+-- where no frame is left, and where the next is no last part
+pub innermost_none : (fs gs hs : List Frame) (e f : Kept BExpr) → gs ≡ [] → ((us : List Terminal) (t : Read) → Up fs e us t ↔ Up gs f us t) → Innermost fs e None hs f
+innermost_none fs gs hs e f i k = record { same = λ us t. rw i at (k us t); other = λ part j. cc }
+
+pub innermost_some : (fs gs hs : List Frame) (e f : Kept BExpr) (o p : Frame) → gs ≡ p ∷ hs → o ≡ p → ((part : LastPart) → p ≡ Last part → ⊥) →
+    ((us : List Terminal) (t : Read) → Up fs e us t ↔ Up gs f us t) → Innermost fs e (Some o) hs f
+innermost_some fs gs hs e f o p i j n k = record { same = λ us t. rw j (rw i at (k us t)); other = λ part m. n part cc }
 
 -- What one state takes another takes, where the same goes on from both.
 pub through : (P Q : List Terminal → Read → Type 0) (x : Terminal) (r : Result BoxParser BoxStop) →

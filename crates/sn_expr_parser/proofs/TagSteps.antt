@@ -333,6 +333,14 @@ conditional_step fs gs hs e f g at c x i j k us t =
     let p : Up fs e us t ↔ Up (Right at c x ∷ hs) f us t = rw i at (k us t) in
     rw j (λ y. right_from (p.0 y), λ y. p.1 (in_right y))
 
+-- where no frame is left, and where the next is no right part
+pub innermost_none : (fs gs hs : List Frame) (e f : Kept TExpr) → gs ≡ [] → ((us : List Terminal) (t : Read) → Up fs e us t ↔ Up gs f us t) → Innermost fs e None hs f
+innermost_none fs gs hs e f i k = record { same = λ us t. rw i at (k us t); other = λ at c x j. cc }
+
+pub innermost_some : (fs gs hs : List Frame) (e f : Kept TExpr) (o p : Frame) → gs ≡ p ∷ hs → o ≡ p → ((at : ℕ) (c x : Kept TExpr) → p ≡ Right at c x → ⊥) →
+    ((us : List Terminal) (t : Read) → Up fs e us t ↔ Up gs f us t) → Innermost fs e (Some o) hs f
+innermost_some fs gs hs e f o p i j n k = record { same = λ us t. rw j (rw i at (k us t)); other = λ at c x m. n at c x cc }
+
 -- What one state takes another takes, where the same goes on from both.
 pub through : (P Q : List Terminal → Read → Type 0) (x : Terminal) (r : Result TagParser TagStop) →
     ((w : List Terminal) (t : Read) → P (x ∷ w) t ↔ Q (x ∷ w) t) → StepsFrom Q x r → StepsFrom P x r

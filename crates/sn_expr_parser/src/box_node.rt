@@ -11,11 +11,24 @@ use sn_list::Memory;
 use std::alloc::Global;
 
 /// What arguments are given to: a function by its name, an output variant by its number, or a list.
-#[derive(Drop)]
 pub enum Head {
     Function(Ident),
     Variant { at: u32, number: u64 },
     Elements { at: u32 },
+}
+
+/// Written out, so that a function that gives a head up calls this, and is not proved over each form of it.
+impl Drop for Head {
+    fn drop(self) {
+        match self {
+            Head::Function(_name) => (),
+            Head::Variant {
+                at: _at,
+                number: _number,
+            } => (),
+            Head::Elements { at: _at } => (),
+        }
+    }
 }
 
 impl Head {

@@ -1,5 +1,5 @@
 //! The parser of expressions in boxes.
-ghost use Rattle.std.specs.Prelude.{◌≡◌, ℕ, [], ◌∷◌, List, ◌↔◌, IfOk};
+ghost use Rattle.std.specs.Prelude.{◌≡◌, ℕ, [], ◌∷◌, List, ◌↔◌, IfOk, MatchOption, MatchResult};
 ghost use Rattle.sn_ast.specs.BoxExprs.{BoxExpr};
 ghost use Rattle.sn_ast.specs.Kept.{Kept as SomeKept, kept};
 ghost use Rattle.sn_ast.specs.Terminals.{infix_of};
@@ -9,7 +9,8 @@ ghost use Rattle.sn_ast.specs.declared.terminal.Terminal.{Terminal as SomeTermin
 ghost use Rattle.sn_ast.specs.declared.terminal.Terminal.TheVariants.{Keyword as AKeyword, Symbol as ASymbol};
 ghost use Rattle.sn_expr_parser.specs.BoxResidual.{Read, read, may_end, ends, is_open_paren, closes, next_frame, completed, Up, Completes, StepsFrom, StepsIn, Steps, Innermost};
 ghost use Rattle.sn_expr_parser.specs.Levels.{fresh};
-ghost use Rattle.sn_expr_parser.specs.declared.boxes.Frame.TheVariants.{Parens, Arguments, Middle};
+ghost use Rattle.sn_expr_parser.specs.declared.boxes.Frame.TheVariants.{Parens, Arguments, Middle, Last};
+ghost use Rattle.sn_expr_parser.specs.declared.boxes.LastPart.{LastPart as SomeLast};
 ghost use Rattle.sn_expr_parser.specs.declared.boxes.MiddlePart.TheVariants.{Bound, Test, Then};
 ghost use Rattle.sn_expr_parser.specs.declared.boxes.Mode.TheVariants.{Begin, LetName, LetAssign, Want, AfterName, AfterOut, Opening, FirstArgument, FirstStep, Have};
 
@@ -35,7 +36,6 @@ pub enum BoxStop {
 }
 
 /// A part of a form that a keyword follows, and what of the form stands before it.
-#[derive(Drop)]
 enum MiddlePart {
     /// What a name is bound to, before `in`.
     Bound { at: u32, name: Ident },
@@ -45,8 +45,24 @@ enum MiddlePart {
     Then { at: u32, test: Kept<BExpr> },
 }
 
+/// Written out, so that whoever gives such a part up calls this, and is not proved over each form of it.
+impl Drop for MiddlePart {
+    fn drop(self) {
+        match self {
+            MiddlePart::Bound {
+                at: _at,
+                name: _name,
+            } => (),
+            MiddlePart::Test { at: _at } => (),
+            MiddlePart::Then {
+                at: _at,
+                test: _test,
+            } => (),
+        }
+    }
+}
+
 /// The last part of a form, which ends where the expression does, and what of the form stands before it.
-#[derive(Drop)]
 enum LastPart {
     Body {
         at: u32,
@@ -60,8 +76,25 @@ enum LastPart {
     },
 }
 
+/// Written out, as for `MiddlePart`.
+impl Drop for LastPart {
+    fn drop(self) {
+        match self {
+            LastPart::Body {
+                at: _at,
+                name: _name,
+                bound: _bound,
+            } => (),
+            LastPart::Else {
+                at: _at,
+                test: _test,
+                first: _first,
+            } => (),
+        }
+    }
+}
+
 /// An open form in which an expression stands.
-#[derive(Drop)]
 enum Frame {
     /// Parentheses, with what stands before them, the place of the first token in them, and the parts before a `;`.
     Parens {
@@ -77,6 +110,26 @@ enum Frame {
     },
     Middle(MiddlePart),
     Last(LastPart),
+}
+
+/// Written out, so that whoever gives a frame or a stack of them up calls this, and is not proved over each form of it.
+impl Drop for Frame {
+    fn drop(self) {
+        match self {
+            Frame::Parens {
+                level: _level,
+                at: _at,
+                so_far: _so_far,
+            } => (),
+            Frame::Arguments {
+                level: _level,
+                head: _head,
+                row: _row,
+            } => (),
+            Frame::Middle(_part) => (),
+            Frame::Last(_part) => (),
+        }
+    }
 }
 
 /// What comes next.
@@ -210,6 +263,63 @@ fn otherwise(at: u32, test: Kept<BExpr>, first: Kept<BExpr>, keyword: Keyword) -
     }
 }
 
+/// What takes a frame apart, which only methods can.
+impl Frame {
+    /// The last part of a form, if the frame is one, and else the frame.
+    fn into_last(self) -> Result<LastPart, Frame>
+        ensures { MatchResult result (λ part. self ≡ Last part) (λ frame. (frame ≡ self) × ((part : SomeLast) → self ≡ Last part → ⊥)) }
+    {
+        match self {
+            Frame::Last(part) => Ok(part),
+            other => Err(other),
+        }
+    }
+
+    /// Takes the symbol after an expression that stands in the frame.
+    fn take_symbol(
+        self,
+        alloc: Global,
+        frames: Stack<Frame>,
+        whole: Kept<BExpr>,
+        symbol: Symbol,
+    ) -> Result<BoxParser, BoxStop>
+        requires { (part : SomeLast) → self ≡ Last part → ⊥ }
+        ensures { (place : ℕ) → StepsFrom (Up (self ∷ frames) whole) (ASymbol symbol place) result }
+    {
+        match self {
+            Frame::Parens { level, at, so_far } => {
+                in_parens(alloc, frames, level, at, so_far, whole, symbol)
+            }
+            Frame::Arguments { level, head, row } => {
+                in_arguments(frames, level, head, row, whole, symbol)
+            }
+            other => {
+                drop(other);
+                Err(BoxStop::Refused)
+            }
+        }
+    }
+
+    /// Takes the keyword after an expression that stands in the frame.
+    fn take_keyword(
+        self,
+        frames: Stack<Frame>,
+        whole: Kept<BExpr>,
+        keyword: Keyword,
+    ) -> Result<BoxParser, BoxStop>
+        requires { (part : SomeLast) → self ≡ Last part → ⊥ }
+        ensures { (at : ℕ) → StepsFrom (Up (self ∷ frames) whole) (AKeyword keyword at) result }
+    {
+        match self {
+            Frame::Middle(part) => in_middle(frames, part, whole, keyword),
+            other => {
+                drop(other);
+                Err(BoxStop::Refused)
+            }
+        }
+    }
+}
+
 /// An expression begins in one more frame.
 fn within(frames: Stack<Frame>, frame: Frame) -> Result<BoxParser, Memory>
     ensures { IfOk result (λ s. s ≡ record { frames = frame ∷ frames; mode = Begin }) }
@@ -272,13 +382,18 @@ fn let_assign(
 ) -> Result<BoxParser, BoxStop>
     ensures { StepsIn frames (LetAssign at name) token result }
 {
-    let Terminal::Symbol { symbol, .. } = token else {
-        return Err(BoxStop::Refused);
-    };
-    let Symbol::Assign = symbol else {
+    let Some(_) = symbol_at(token, Symbol::Assign) else {
         return Err(BoxStop::Refused);
     };
     Ok(within(frames, Frame::Middle(MiddlePart::Bound { at, name }))?)
+}
+
+/// The token's place, if it is this symbol. Takes the token: a caller that has it at several exits would be proved over
+/// each form of it at each of them.
+fn symbol_at(token: Terminal, symbol: Symbol) -> Option<u32>
+    ensures { MatchOption result ((at : ℕ) → token ≡ ASymbol symbol at → ⊥) (λ at. token ≡ ASymbol symbol at) }
+{
+    token.symbol_at(symbol)
 }
 
 /// Takes the token where an operand comes next.
@@ -551,11 +666,14 @@ fn without_last_parts(
     let mut frames = frames;
     let mut whole = whole;
     loop {
-        match frames.pop() {
-            Some(Frame::Last(part)) => {
+        let Some(frame) = frames.pop() else {
+            return Ok((None, frames, whole));
+        };
+        match frame.into_last() {
+            Ok(part) => {
                 whole = part.completed(alloc, whole)?;
             }
-            other => return Ok((other, frames, whole)),
+            Err(frame) => return Ok((Some(frame), frames, whole)),
         }
     }
 }
@@ -573,14 +691,7 @@ fn up_to_symbol(
     let (frame, frames, whole) = without_last_parts(alloc, frames, whole)?;
     match frame {
         None => Err(ended(whole, symbol, at)),
-        Some(Frame::Parens { level, at, so_far }) => {
-            in_parens(alloc, frames, level, at, so_far, whole, symbol)
-        }
-        Some(Frame::Arguments { level, head, row }) => {
-            in_arguments(frames, level, head, row, whole, symbol)
-        }
-        Some(Frame::Middle(_)) => Err(BoxStop::Refused),
-        Some(Frame::Last(_)) => unreachable!(),
+        Some(frame) => frame.take_symbol(alloc, frames, whole, symbol),
     }
 }
 
@@ -595,11 +706,8 @@ fn up_to_keyword(
 {
     let (frame, frames, whole) = without_last_parts(alloc, frames, whole)?;
     match frame {
-        Some(Frame::Middle(part)) => in_middle(frames, part, whole, keyword),
-        Some(Frame::Parens { .. }) => Err(BoxStop::Refused),
-        Some(Frame::Arguments { .. }) => Err(BoxStop::Refused),
-        Some(Frame::Last(_)) => unreachable!(),
         None => Err(BoxStop::Refused),
+        Some(frame) => frame.take_keyword(frames, whole, keyword),
     }
 }
 

@@ -1,5 +1,5 @@
 //! What stands before an operand, in either expression language.
-ghost use Rattle.std.specs.Prelude.{◌≡◌, IfOk};
+ghost use Rattle.std.specs.Prelude.{◌≡◌, IfOk, Some};
 ghost use Rattle.sn_ast.specs.Kept.{kept, pair};
 ghost use Rattle.sn_ast.specs.Operators.{Operations, with_sign, with_operator, with_and, with_or};
 ghost use Rattle.sn_expr_parser.specs.Levels.{fresh, signed, operated, conjoined, disjoined, sum_of, or_in, with_next_sign, after_product, after_sum, after_comparison, after_and, after_or, after};
@@ -201,11 +201,11 @@ impl<E: Expression> Level<E> {
         ensures { IfOk result (λ l. l ≡ after E.operations self between at part) }
     {
         match between {
-            Infix::Product(operator) => Ok(Some(self.after_product(alloc, operator, at, part)?)),
-            Infix::Sum(operator) => Ok(Some(self.after_sum(alloc, operator, at, part)?)),
+            Infix::Product(operator) => self.after_product(alloc, operator, at, part),
+            Infix::Sum(operator) => self.after_sum(alloc, operator, at, part),
             Infix::Comparison(operator) => self.after_comparison(alloc, operator, at, part),
-            Infix::Conjunction => Ok(Some(self.after_and(alloc, at, part)?)),
-            Infix::Disjunction => Ok(Some(self.after_or(alloc, at, part)?)),
+            Infix::Conjunction => self.after_and(alloc, at, part),
+            Infix::Disjunction => self.after_or(alloc, at, part),
         }
     }
 
@@ -215,8 +215,8 @@ impl<E: Expression> Level<E> {
         operator: Operator,
         at: u32,
         part: Kept<E>,
-    ) -> Result<Level<E>, Memory>
-        ensures { IfOk result (λ l. l ≡ after_product E.operations self operator at part) }
+    ) -> Result<Option<Level<E>>, Memory>
+        ensures { IfOk result (λ l. l ≡ Some (after_product E.operations self operator at part)) }
     {
         let Level {
             or,
@@ -226,16 +226,15 @@ impl<E: Expression> Level<E> {
             product,
             signs,
         } = self;
-        let part = with_signs(alloc, signs, part)?;
-        let part = operated(alloc, product, part)?;
-        Ok(Level {
+        let part = product_of(alloc, product, signs, part)?;
+        Ok(Some(Level {
             or,
             and,
             comparison,
             sum,
             product: Some((part, operator, at)),
             signs: Stack::new(alloc),
-        })
+        }))
     }
 
     fn after_sum(
@@ -244,8 +243,8 @@ impl<E: Expression> Level<E> {
         operator: Operator,
         at: u32,
         part: Kept<E>,
-    ) -> Result<Level<E>, Memory>
-        ensures { IfOk result (λ l. l ≡ after_sum E.operations self operator at part) }
+    ) -> Result<Option<Level<E>>, Memory>
+        ensures { IfOk result (λ l. l ≡ Some (after_sum E.operations self operator at part)) }
     {
         let Level {
             or,
@@ -256,14 +255,14 @@ impl<E: Expression> Level<E> {
             signs,
         } = self;
         let part = sum_of(alloc, sum, product, signs, part)?;
-        Ok(Level {
+        Ok(Some(Level {
             or,
             and,
             comparison,
             sum: Some((part, operator, at)),
             product: None,
             signs: Stack::new(alloc),
-        })
+        }))
     }
 
     fn after_comparison(
@@ -297,8 +296,8 @@ impl<E: Expression> Level<E> {
         }))
     }
 
-    fn after_and(self, alloc: Global, at: u32, part: Kept<E>) -> Result<Level<E>, Memory>
-        ensures { IfOk result (λ l. l ≡ after_and E.operations self at part) }
+    fn after_and(self, alloc: Global, at: u32, part: Kept<E>) -> Result<Option<Level<E>>, Memory>
+        ensures { IfOk result (λ l. l ≡ Some (after_and E.operations self at part)) }
     {
         let Level {
             or,
@@ -309,21 +308,29 @@ impl<E: Expression> Level<E> {
             signs,
         } = self;
         let part = sum_of(alloc, sum, product, signs, part)?;
-        let part = operated(alloc, comparison, part)?;
-        let part = conjoined(alloc, and, part)?;
-        let mut level = Level::new(alloc);
-        level.or = or;
-        level.and = Some((part, at));
-        Ok(level)
+        let part = conjunction_of(alloc, and, comparison, part)?;
+        Ok(Some(Level {
+            or,
+            and: Some((part, at)),
+            comparison: None,
+            sum: None,
+            product: None,
+            signs: Stack::new(alloc),
+        }))
     }
 
-    fn after_or(self, alloc: Global, at: u32, part: Kept<E>) -> Result<Level<E>, Memory>
-        ensures { IfOk result (λ l. l ≡ after_or E.operations self at part) }
+    fn after_or(self, alloc: Global, at: u32, part: Kept<E>) -> Result<Option<Level<E>>, Memory>
+        ensures { IfOk result (λ l. l ≡ Some (after_or E.operations self at part)) }
     {
         let part = self.finished(alloc, part)?;
-        let mut level = Level::new(alloc);
-        level.or = Some((part, at));
-        Ok(level)
+        Ok(Some(Level {
+            or: Some((part, at)),
+            and: None,
+            comparison: None,
+            sum: None,
+            product: None,
+            signs: Stack::new(alloc),
+        }))
     }
 
     /// The disjunction that the operand `part` completes.
@@ -339,8 +346,7 @@ impl<E: Expression> Level<E> {
             signs,
         } = self;
         let part = sum_of(alloc, sum, product, signs, part)?;
-        let part = operated(alloc, comparison, part)?;
-        let part = conjoined(alloc, and, part)?;
+        let part = conjunction_of(alloc, and, comparison, part)?;
         disjoined(alloc, or, part)
     }
 }
@@ -355,7 +361,32 @@ fn sum_of<E: Expression>(
 ) -> Result<Kept<E>, Memory>
     ensures { IfOk result (λ r. r ≡ sum_of E.operations sum product signs part) }
 {
-    let part = with_signs(alloc, signs, part)?;
-    let part = operated(alloc, product, part)?;
+    let part = product_of(alloc, product, signs, part)?;
     operated(alloc, sum, part)
+}
+
+/// The product that the operand `part` completes.
+fn product_of<E: Expression>(
+    alloc: Global,
+    product: Waiting<E>,
+    signs: Stack<(Sign, u32)>,
+    part: Kept<E>,
+) -> Result<Kept<E>, Memory>
+    ensures { IfOk result (λ r. r ≡ operated E.operations product (signed E.operations signs part)) }
+{
+    let part = with_signs(alloc, signs, part)?;
+    operated(alloc, product, part)
+}
+
+/// The conjunction that the sum `part` completes.
+fn conjunction_of<E: Expression>(
+    alloc: Global,
+    and: Option<(Kept<E>, u32)>,
+    comparison: Waiting<E>,
+    part: Kept<E>,
+) -> Result<Kept<E>, Memory>
+    ensures { IfOk result (λ r. r ≡ conjoined E.operations and (operated E.operations comparison part)) }
+{
+    let part = operated(alloc, comparison, part)?;
+    conjoined(alloc, and, part)
 }

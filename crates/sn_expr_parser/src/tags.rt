@@ -1,5 +1,5 @@
 //! The parser of expressions over tags.
-ghost use Rattle.std.specs.Prelude.{◌≡◌, ℕ, [], ◌∷◌, List, ◌↔◌, IfOk};
+ghost use Rattle.std.specs.Prelude.{◌≡◌, ℕ, [], ◌∷◌, List, ◌↔◌, IfOk, MatchResult};
 ghost use Rattle.sn_ast.specs.Kept.{Kept as SomeKept, kept};
 ghost use Rattle.sn_ast.specs.TagExprs.{TagExpr, with_condition};
 ghost use Rattle.sn_ast.specs.Terminals.{infix_of};
@@ -9,7 +9,7 @@ ghost use Rattle.sn_ast.specs.declared.terminal.Terminal.{Terminal as SomeTermin
 ghost use Rattle.sn_ast.specs.declared.terminal.Terminal.TheVariants.{Symbol as ASymbol};
 ghost use Rattle.sn_expr_parser.specs.Levels.{fresh};
 ghost use Rattle.sn_expr_parser.specs.TagResidual.{Read, read, may_end, ends, Up, Tested, Completes, StepsFrom, StepsIn, Steps, Innermost};
-ghost use Rattle.sn_expr_parser.specs.declared.tags.Frame.TheVariants.{Parens, Middle};
+ghost use Rattle.sn_expr_parser.specs.declared.tags.Frame.TheVariants.{Parens, Middle, Right};
 ghost use Rattle.sn_expr_parser.specs.declared.tags.Mode.TheVariants.{Want, Have};
 
 use crate::level::{Expression, Level, all_boxed};
@@ -33,7 +33,6 @@ pub enum TagStop {
 }
 
 /// An open form in which an expression stands.
-#[derive(Drop)]
 enum Frame {
     /// Parentheses, and what stands before them.
     Parens {
@@ -50,6 +49,24 @@ enum Frame {
         test: Kept<TExpr>,
         middle: Kept<TExpr>,
     },
+}
+
+/// Written out, so that whoever gives a frame or a stack of them up calls this, and is not proved over each form of it.
+impl Drop for Frame {
+    fn drop(self) {
+        match self {
+            Frame::Parens { level: _level } => (),
+            Frame::Middle {
+                at: _at,
+                test: _test,
+            } => (),
+            Frame::Right {
+                at: _at,
+                test: _test,
+                middle: _middle,
+            } => (),
+        }
+    }
 }
 
 /// What comes next: an operand, or what may follow one.
@@ -144,6 +161,41 @@ fn conditional(
     let (((test, middle), right), measure) = all.into_parts();
     let form = TForm::Cond(test, middle, right);
     Ok(raise(Some(measure.with(TExpr { at, form }))))
+}
+
+/// What takes a frame apart, which only methods can.
+impl Frame {
+    /// The place of a conditional, its test and its middle, if the frame is its right part, and else the frame.
+    fn into_right(self) -> Result<(u32, Kept<TExpr>, Kept<TExpr>), Frame>
+        ensures { MatchResult result (λ r. self ≡ Right r.0 r.1 r.2) (λ frame. (frame ≡ self) × ((at : ℕ) (test middle : SomeKept SomeExpr) → self ≡ Right at test middle → ⊥)) }
+    {
+        match self {
+            Frame::Right { at, test, middle } => Ok((at, test, middle)),
+            other => Err(other),
+        }
+    }
+
+    /// Takes the symbol after an expression that stands in the frame.
+    fn take_symbol(
+        self,
+        alloc: Global,
+        frames: Stack<Frame>,
+        whole: Kept<TExpr>,
+        symbol: Symbol,
+    ) -> Result<TagParser, TagStop>
+        requires { (at : ℕ) (test middle : SomeKept SomeExpr) → self ≡ Right at test middle → ⊥ }
+        ensures { (place : ℕ) → StepsFrom (Up (self ∷ frames) whole) (ASymbol symbol place) result }
+    {
+        match self {
+            Frame::Parens { level } => in_parens(frames, level, whole, symbol),
+            Frame::Middle { at, test } => in_middle(alloc, frames, at, test, whole, symbol),
+            Frame::Right {
+                at: _at,
+                test: _test,
+                middle: _middle,
+            } => unreachable!(),
+        }
+    }
 }
 
 /// An expression begins in one more frame.
@@ -281,11 +333,14 @@ fn without_conditionals(
     let mut frames = frames;
     let mut whole = whole;
     loop {
-        match frames.pop() {
-            Some(Frame::Right { at, test, middle }) => {
+        let Some(frame) = frames.pop() else {
+            return Ok((None, frames, whole));
+        };
+        match frame.into_right() {
+            Ok((at, test, middle)) => {
                 whole = conditional(alloc, at, test, middle, whole)?;
             }
-            other => return Ok((other, frames, whole)),
+            Err(frame) => return Ok((Some(frame), frames, whole)),
         }
     }
 }
@@ -303,9 +358,7 @@ fn up(
     let (frame, frames, whole) = without_conditionals(alloc, frames, whole)?;
     match frame {
         None => Err(ended(whole, symbol, at)),
-        Some(Frame::Parens { level }) => in_parens(frames, level, whole, symbol),
-        Some(Frame::Middle { at, test }) => in_middle(alloc, frames, at, test, whole, symbol),
-        Some(Frame::Right { .. }) => unreachable!(),
+        Some(frame) => frame.take_symbol(alloc, frames, whole, symbol),
     }
 }
 

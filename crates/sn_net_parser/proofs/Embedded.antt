@@ -25,7 +25,7 @@ use Rattle.sn_net_parser.specs.declared.machine.Mode.TheVariants as mode
 use Rattle.sn_net_parser.specs.declared.machine.NetParser.{NetParser}
 use Rattle.sn_net_parser.specs.declared.machine.NetStop.{NetStop}
 use Rattle.sn_net_parser.specs.declared.machine.NetStop.TheVariants.{Memory, Refused, Ended}
-use Rattle.sn_net_parser.specs.declared.machine.Repeated.{Repeated}
+use Rattle.sn_net_parser.specs.declared.node.Repeated.{Repeated}
 use Rattle.sn_type_parser.specs.LabelResidual.{Completes as LabelsComplete}
 use Rattle.sn_type_parser.specs.Reads.{Read as SomeRead, read as read_part}
 use Rattle.sn_type_parser.specs.declared.labels.LabelParser.{LabelParser}

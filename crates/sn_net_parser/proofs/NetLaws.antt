@@ -25,7 +25,7 @@ use Rattle.sn_net_parser.specs.declared.machine.Around.{Around}
 use Rattle.sn_net_parser.specs.declared.machine.Mode.{Mode}
 use Rattle.sn_net_parser.specs.declared.machine.Mode.TheVariants as mode
 use Rattle.sn_net_parser.specs.declared.machine.NetParser.{NetParser}
-use Rattle.sn_net_parser.specs.declared.machine.Repeated.{Repeated}
+use Rattle.sn_net_parser.specs.declared.node.Repeated.{Repeated}
 use Rattle.sn_type_parser.proofs.LabelLaws.{no_end as no_end_labels, completable as completes_labels}
 use Rattle.sn_type_parser.proofs.Witnesses.{a_name}
 use Rattle.sn_type_parser.specs.Reads.{read as read_part}

@@ -18,7 +18,7 @@ use Rattle.sn_ast.specs.declared.terminal.Terminal.TheVariants.{Name, Tag, Keywo
 use Rattle.sn_net_parser.specs.Levels.{after_bar, after_dots, finished, fresh, identity_node, name_node}
 use Rattle.sn_net_parser.specs.Residual.{Up, Down, Next, AfterBracket, AfterPattern, NextPattern, NextGuard, AfterExit, NextExit, NextTag, Read, read, Ends, semicolon, whole, closed, down, next, closed_bracket, some_filter, after_pattern, next_pattern, next_guard, unguarded, guarded, next_exit, next_tag}
 use Rattle.sn_net_parser.specs.declared.level.Level.{Level}
-use Rattle.sn_net_parser.specs.declared.machine.Repeated.{Repeated}
+use Rattle.sn_net_parser.specs.declared.node.Repeated.{Repeated}
 
 pub name_from : {ls : List Level} {l : Level} {w : List Terminal} {t : Read} {i : Ident} → Next ls l (Name i ∷ w) t → Down ls l (name_node i) w t
 name_from (next name d) = d

@@ -22,13 +22,13 @@ use Rattle.sn_filter_parser.specs.declared.filter.FilterParser.{FilterParser}
 use Rattle.sn_net_parser.specs.Levels.{identity_node}
 use Rattle.sn_net_parser.specs.declared.level.Level.{Level}
 use Rattle.sn_net_parser.specs.declared.machine.Around.{Around}
-use Rattle.sn_net_parser.specs.declared.machine.Cell.{Cell}
+use Rattle.sn_net_parser.specs.declared.node.Cell.{Cell}
 use Rattle.sn_net_parser.specs.declared.machine.Mode.{Mode}
 use Rattle.sn_net_parser.specs.declared.machine.Mode.TheVariants as mode
 use Rattle.sn_net_parser.specs.declared.machine.NetParser.{NetParser}
 use Rattle.sn_net_parser.specs.declared.machine.NetStop.{NetStop}
 use Rattle.sn_net_parser.specs.declared.machine.NetStop.TheVariants.{Memory, Refused, Ended}
-use Rattle.sn_net_parser.specs.declared.machine.Repeated.{Repeated}
+use Rattle.sn_net_parser.specs.declared.node.Repeated.{Repeated}
 use Rattle.sn_type_parser.specs.LabelResidual.{Completes as LabelsComplete}
 use Rattle.sn_type_parser.specs.Reads.{read as read_part}
 use Rattle.sn_type_parser.specs.declared.labels.LabelParser.{LabelParser}

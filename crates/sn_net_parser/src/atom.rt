@@ -1,11 +1,10 @@
-ghost use Rattle.sn_ast.specs.declared.terminal.Symbol.TheVariants as some_symbol;
 ghost use Rattle.sn_net_parser.specs.Residual.{StepsIn};
 ghost use Rattle.sn_net_parser.specs.declared.machine.Mode.TheVariants as some_mode;
 ghost use Rattle.sn_ast.specs.declared.terminal.Terminal.TheVariants as some_token;
 
-use crate::level::Level;
-use crate::machine::{Around, Cell, Mode, NetParser, NetStop};
-use crate::node;
+use crate::machine::{Around, Mode, NetParser, NetStop};
+use crate::node::{self, Cell};
+use crate::tokens::symbol_at;
 use sn_ast::{Bracket, Seq, Symbol, Terminal, Variant};
 use sn_filter_parser::{FilterParser, FilterStep, FilterStop};
 use sn_type_parser::{LabelParser, LabelStep, LabelStop};
@@ -36,7 +35,7 @@ fn begin_symbol(
     ensures { StepsIn around some_mode.Want (some_token.Symbol symbol at) result }
 {
     match symbol {
-        Symbol::OpenParen => open(around, at),
+        Symbol::OpenParen => around.open(at),
         Symbol::OpenBracket => Ok(NetParser {
             around,
             mode: Mode::Bracket { at },
@@ -52,21 +51,6 @@ fn begin_symbol(
         }),
         _ => Err(NetStop::Refused),
     }
-}
-
-fn open(around: Around, at: u32) -> Result<NetParser, NetStop>
-    ensures { StepsIn around some_mode.Want (some_token.Symbol some_symbol.OpenParen at) result }
-{
-    let Around { outer, level } = around;
-    let mut outer = outer;
-    outer.push(level)?;
-    Ok(NetParser {
-        around: Around {
-            outer,
-            level: Level::new(),
-        },
-        mode: Mode::Want,
-    })
 }
 
 /// Takes the token after `[`.
@@ -121,7 +105,7 @@ pub fn pattern(
 ) -> Result<NetParser, NetStop>
     ensures { StepsIn around (some_mode.Pattern cell) token result }
 {
-    let Some(opening) = token.symbol_at(Symbol::OpenBrace) else {
+    let Some(opening) = symbol_at(token, Symbol::OpenBrace) else {
         return Err(NetStop::Refused);
     };
     Ok(NetParser {
@@ -154,18 +138,13 @@ pub fn in_pattern(
             },
         }),
         Ok(LabelStep::Done(labels)) => {
-            let Cell { at, patterns } = cell;
-            let mut patterns = patterns;
-            let pattern = Variant {
+            let cell = cell.with_pattern(Variant {
                 labels,
                 at: opening,
-            };
-            sn_stack::append(&mut patterns, pattern)?;
+            })?;
             Ok(NetParser {
                 around,
-                mode: Mode::AfterPattern {
-                    cell: Cell { at, patterns },
-                },
+                mode: Mode::AfterPattern { cell },
             })
         }
         Err(LabelStop::Memory) => Err(NetStop::Memory),
@@ -183,14 +162,11 @@ pub fn after_pattern(around: Around, cell: Cell, token: Terminal) -> Result<NetP
             mode: Mode::Pattern { cell },
         });
     }
-    let Some(_) = token.symbol_at(Symbol::CloseSync) else {
+    let Some(_) = symbol_at(token, Symbol::CloseSync) else {
         return Err(NetStop::Refused);
     };
-    let Cell { at, patterns } = cell;
     Ok(NetParser {
         around,
-        mode: Mode::Have {
-            part: node::sync(at, patterns),
-        },
+        mode: Mode::Have { part: cell.sync() },
     })
 }

@@ -10,5 +10,6 @@ mod level;
 mod machine;
 mod node;
 mod post;
+mod tokens;
 
 pub use machine::{NetParser, NetStop};

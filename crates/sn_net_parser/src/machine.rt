@@ -1,13 +1,20 @@
-ghost use Rattle.std.specs.Prelude.{◌≡◌, List};
+ghost use Rattle.std.specs.Prelude.{◌≡◌, List, Some};
 ghost use Rattle.sn_ast.specs.Kept.{Kept as SomeKept, kept};
 ghost use Rattle.sn_ast.specs.Networks.{Network};
 ghost use Rattle.sn_ast.specs.declared.network.NetExpr.{NetExpr as SomeNet};
+ghost use Rattle.sn_ast.specs.Terminals.{link_of};
+ghost use Rattle.sn_ast.specs.declared.terminal.Link.TheVariants as some_link;
+ghost use Rattle.sn_ast.specs.declared.terminal.Symbol.TheVariants as some_symbol;
 ghost use Rattle.sn_ast.specs.declared.terminal.Terminal.{Terminal as SomeTerminal};
-ghost use Rattle.sn_net_parser.specs.Residual.{Completes, Ends, Read, Steps, read};
+ghost use Rattle.sn_ast.specs.declared.terminal.Terminal.TheVariants as some_token;
+ghost use Rattle.sn_net_parser.specs.Residual.{Completes, Ends, Read, Steps, StepsIn, read};
+ghost use Rattle.sn_net_parser.specs.declared.machine.Mode.TheVariants as some_mode;
 
 use crate::level::Level;
+use crate::node::{Cell, Repeated};
 use crate::{atom, post};
-use sn_ast::{Kept, NetExpr, Seq, Terminal, Variant};
+use sn_ast::measure::parens;
+use sn_ast::{Kept, NetExpr, Symbol, Terminal, Variant};
 use sn_expr_parser::TagParser;
 use sn_filter_parser::FilterParser;
 use sn_list::Memory;
@@ -37,25 +44,107 @@ impl From<Memory> for NetStop {
 }
 
 /// The open levels of parentheses that a part stands in, and the innermost of them.
-#[derive(Drop)]
 pub struct Around {
     pub outer: Stack<Level>,
     pub level: Level,
 }
 
-/// A star or a split whose operator was read, and the network before it.
-#[derive(Drop)]
-pub struct Repeated {
-    pub det: bool,
-    pub at: u32,
-    pub body: Kept<NetExpr>,
+/// Written out, so that whoever gives it up calls this, and is not proved over each part of it.
+impl Drop for Around {
+    fn drop(self) {
+        let Around {
+            outer: _outer,
+            level: _level,
+        } = self;
+    }
 }
 
-/// The patterns of a synchrocell so far, and the place of its opening bracket.
-#[derive(Drop)]
-pub struct Cell {
-    pub at: u32,
-    pub patterns: Seq<Variant>,
+/// What takes the levels apart, which only methods can.
+impl Around {
+    /// Takes an opening parenthesis.
+    pub fn open(self, at: u32) -> Result<NetParser, NetStop>
+        ensures { StepsIn self some_mode.Want (some_token.Symbol some_symbol.OpenParen at) result }
+    {
+        let Around { outer, level } = self;
+        let mut outer = outer;
+        outer.push(level)?;
+        Ok(NetParser {
+            around: Around {
+                outer,
+                level: Level::new(),
+            },
+            mode: Mode::Want,
+        })
+    }
+
+    /// Takes the dots after a part.
+    pub fn dots(self, alloc: Global, part: Kept<NetExpr>, at: u32) -> Result<NetParser, NetStop>
+        ensures { StepsIn self (some_mode.Have part) (some_token.Symbol some_symbol.Dots at) result }
+    {
+        let Around { outer, level } = self;
+        let level = level.after_dots(alloc, at, part)?;
+        Ok(NetParser {
+            around: Around { outer, level },
+            mode: Mode::Want,
+        })
+    }
+
+    /// Takes the operator of a choice after a part.
+    pub fn branch(
+        self,
+        alloc: Global,
+        part: Kept<NetExpr>,
+        symbol: Symbol,
+        det: bool,
+        at: u32,
+    ) -> Result<NetParser, NetStop>
+        requires { link_of symbol ≡ Some (some_link.Branch det) }
+        ensures { StepsIn self (some_mode.Have part) (some_token.Symbol symbol at) result }
+    {
+        let Around { outer, level } = self;
+        if !level.goes_on(det) {
+            return Err(NetStop::Refused);
+        }
+        let level = level.after_bar(alloc, det, at, part)?;
+        Ok(NetParser {
+            around: Around { outer, level },
+            mode: Mode::Want,
+        })
+    }
+
+    /// Takes the parenthesis that closes the innermost level.
+    pub fn close(self, part: Kept<NetExpr>, at: u32) -> Result<NetParser, NetStop>
+        ensures { StepsIn self (some_mode.Have part) (some_token.Symbol some_symbol.CloseParen at) result }
+    {
+        let Around { outer, level } = self;
+        let mut outer = outer;
+        let Some(outside) = outer.pop() else {
+            return Err(NetStop::Refused);
+        };
+        let inner = level.finish(part)?;
+        Ok(NetParser {
+            around: Around {
+                outer,
+                level: outside,
+            },
+            mode: Mode::Have {
+                part: parens(inner),
+            },
+        })
+    }
+
+    /// Takes the semicolon, which ends a network in no parentheses.
+    pub fn end(self, part: Kept<NetExpr>, at: u32) -> Result<NetParser, NetStop>
+        ensures { StepsIn self (some_mode.Have part) (some_token.Symbol some_symbol.Semicolon at) result }
+    {
+        let Around { outer, level } = self;
+        let mut outer = outer;
+        if let Some(_) = outer.pop() {
+            return Err(NetStop::Refused);
+        }
+        let network = level.finish(part)?;
+        Err(NetStop::Ended { network, at })
+    }
 }
 
 /// What comes next.
@@ -116,10 +205,19 @@ pub enum Mode {
 }
 
 /// A network that is being read.
-#[derive(Drop)]
 pub struct NetParser {
     pub around: Around,
     pub mode: Mode,
+}
+
+/// Written out, so that whoever gives a parser up calls this, and is not proved over each part of it.
+impl Drop for NetParser {
+    fn drop(self) {
+        let NetParser {
+            around: _around,
+            mode: _mode,
+        } = self;
+    }
 }
 
 impl NetParser {

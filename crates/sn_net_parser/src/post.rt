@@ -1,14 +1,12 @@
-ghost use Rattle.std.specs.Prelude.{◌≡◌, Some, None};
+ghost use Rattle.std.specs.Prelude.{◌≡◌, None};
 ghost use Rattle.sn_ast.specs.Terminals.{link_of};
-ghost use Rattle.sn_ast.specs.declared.terminal.Link.TheVariants as some_link;
-ghost use Rattle.sn_ast.specs.declared.terminal.Symbol.TheVariants as some_symbol;
 ghost use Rattle.sn_ast.specs.declared.terminal.Terminal.TheVariants as some_token;
 ghost use Rattle.sn_net_parser.specs.Residual.{GuardSteps, StepsIn};
 ghost use Rattle.sn_net_parser.specs.declared.machine.Mode.TheVariants as some_mode;
 
-use crate::machine::{Around, Mode, NetParser, NetStop, Repeated};
-use crate::node;
-use sn_ast::measure::parens;
+use crate::machine::{Around, Mode, NetParser, NetStop};
+use crate::node::Repeated;
+use crate::tokens::symbol_at;
 use sn_ast::{Bracket, Kept, Keyword, Link, NetExpr, Symbol, TExpr, Terminal, Variant};
 use sn_expr_parser::{TagParser, TagStop};
 use sn_type_parser::{LabelParser, LabelStep, LabelStop};
@@ -27,7 +25,7 @@ pub fn go_on(
         return Err(NetStop::Refused);
     };
     match symbol.link() {
-        Some(Link::Branch { det }) => branch(alloc, around, part, symbol, det, at),
+        Some(Link::Branch { det }) => around.branch(alloc, part, symbol, det, at),
         Some(Link::Star { det }) => Ok(NetParser {
             around,
             mode: Mode::Exit {
@@ -64,77 +62,11 @@ fn unlinked(
     ensures { StepsIn around (some_mode.Have part) (some_token.Symbol symbol at) result }
 {
     match symbol {
-        Symbol::Dots => dots(alloc, around, part, at),
-        Symbol::CloseParen => close(around, part, at),
-        Symbol::Semicolon => end(around, part, at),
+        Symbol::Dots => around.dots(alloc, part, at),
+        Symbol::CloseParen => around.close(part, at),
+        Symbol::Semicolon => around.end(part, at),
         _ => Err(NetStop::Refused),
     }
-}
-
-fn dots(alloc: Global, around: Around, part: Kept<NetExpr>, at: u32) -> Result<NetParser, NetStop>
-    ensures { StepsIn around (some_mode.Have part) (some_token.Symbol some_symbol.Dots at) result }
-{
-    let Around { outer, level } = around;
-    let level = level.after_dots(alloc, at, part)?;
-    Ok(NetParser {
-        around: Around { outer, level },
-        mode: Mode::Want,
-    })
-}
-
-fn branch(
-    alloc: Global,
-    around: Around,
-    part: Kept<NetExpr>,
-    symbol: Symbol,
-    det: bool,
-    at: u32,
-) -> Result<NetParser, NetStop>
-    requires { link_of symbol ≡ Some (some_link.Branch det) }
-    ensures { StepsIn around (some_mode.Have part) (some_token.Symbol symbol at) result }
-{
-    let Around { outer, level } = around;
-    if !level.goes_on(det) {
-        return Err(NetStop::Refused);
-    }
-    let level = level.after_bar(alloc, det, at, part)?;
-    Ok(NetParser {
-        around: Around { outer, level },
-        mode: Mode::Want,
-    })
-}
-
-fn close(around: Around, part: Kept<NetExpr>, at: u32) -> Result<NetParser, NetStop>
-    ensures { StepsIn around (some_mode.Have part) (some_token.Symbol some_symbol.CloseParen at) result }
-{
-    let Around { outer, level } = around;
-    let mut outer = outer;
-    let Some(outside) = outer.pop() else {
-        return Err(NetStop::Refused);
-    };
-    let inner = level.finish(part)?;
-    Ok(NetParser {
-        around: Around {
-            outer,
-            level: outside,
-        },
-        mode: Mode::Have {
-            part: parens(inner),
-        },
-    })
-}
-
-/// Takes the semicolon, which ends a network in no parentheses.
-fn end(around: Around, part: Kept<NetExpr>, at: u32) -> Result<NetParser, NetStop>
-    ensures { StepsIn around (some_mode.Have part) (some_token.Symbol some_symbol.Semicolon at) result }
-{
-    let Around { outer, level } = around;
-    let mut outer = outer;
-    if let Some(_) = outer.pop() {
-        return Err(NetStop::Refused);
-    }
-    let network = level.finish(part)?;
-    Err(NetStop::Ended { network, at })
 }
 
 /// Takes the token where a star's exit comes next.
@@ -146,7 +78,7 @@ pub fn exit(
 ) -> Result<NetParser, NetStop>
     ensures { StepsIn around (some_mode.Exit star) token result }
 {
-    let Some(opening) = token.symbol_at(Symbol::OpenBrace) else {
+    let Some(opening) = symbol_at(token, Symbol::OpenBrace) else {
         return Err(NetStop::Refused);
     };
     Ok(NetParser {
@@ -209,7 +141,7 @@ pub fn after_exit(
             mode: Mode::Guard { star, exit },
         });
     }
-    let part = node::star(alloc, star.det, star.at, star.body, exit)?;
+    let part = star.star(alloc, exit)?;
     go_on(alloc, around, part, token)
 }
 
@@ -223,7 +155,7 @@ pub fn guard(
 ) -> Result<NetParser, NetStop>
     ensures { StepsIn around (some_mode.Guard star exit) token result }
 {
-    let Some(_) = token.symbol_at(Symbol::OpenParen) else {
+    let Some(_) = symbol_at(token, Symbol::OpenParen) else {
         return Err(NetStop::Refused);
     };
     Ok(NetParser {
@@ -278,7 +210,7 @@ fn guarded(
     if symbol != Symbol::CloseParen {
         return Err(NetStop::Refused);
     }
-    let part = node::guarded_star(alloc, star.det, star.at, star.body, exit, guard)?;
+    let part = star.guarded_star(alloc, exit, guard)?;
     Ok(NetParser {
         around,
         mode: Mode::Have { part },
@@ -297,7 +229,7 @@ pub fn index(
     let Terminal::Tag(tag) = token else {
         return Err(NetStop::Refused);
     };
-    let part = node::split(alloc, split.det, split.at, split.body, tag)?;
+    let part = split.split(alloc, tag)?;
     Ok(NetParser {
         around,
         mode: Mode::Have { part },

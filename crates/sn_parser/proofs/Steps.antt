@@ -1,5 +1,5 @@
 -- One token at a time: what completes the state before it begins with it, and goes on as what completes the state after it.
-use Rattle.std.proofs.Common.{ℕ, List, [], ◌∷◌, ◌≡◌, Option, None, refl, subst}
+use Rattle.std.proofs.Common.{ℕ, List, [], ◌∷◌, ◌≡◌, Option, None, Result, Ok, Err, refl, subst}
 use Rattle.sn_ast.specs.Declarations.{Declarations, Declaration, no_more, declaration, box, net, type_name, sig_name, no_inner, inner, last_inner, more_inner, no_signature, signature}
 use Rattle.sn_ast.specs.Kept.{Kept, kept}
 use Rattle.sn_ast.specs.Rows.{no_parts}
@@ -12,9 +12,11 @@ use Rattle.sn_ast.specs.declared.terminal.Symbol.{Symbol as SomeSymbol}
 use Rattle.sn_ast.specs.declared.terminal.Symbol.TheVariants.{OpenParen, OpenBrace, CloseBrace, Assign}
 use Rattle.sn_ast.specs.declared.terminal.Terminal.{Terminal}
 use Rattle.sn_ast.specs.declared.terminal.Terminal.TheVariants.{Name, Keyword, Symbol}
-use Rattle.sn_parser.specs.Residual.{Next, Connecting, AfterSig, AfterName, NextType, NextSig, Named, Ending, outermost, inside, connecting, ending, after_sig, after_name, next_type, next_sig, box_named, net_named, type_named, sig_named}
+use Rattle.sn_parser.specs.Residual.{LeadsTo, StepsFrom, Next, Connecting, AfterSig, AfterName, NextType, NextSig, Named, Ending, outermost, inside, connecting, ending, after_sig, after_name, next_type, next_sig, box_named, net_named, type_named, sig_named}
 use Rattle.sn_parser.specs.Scopes.{Decls}
 use Rattle.sn_parser.specs.declared.machine.OpenNet.{OpenNet}
+use Rattle.sn_parser.specs.declared.machine.Parser.{Parser}
+use Rattle.sn_parser.specs.declared.machine.Stop.{Stop}
 use Rattle.sn_parser.specs.declared.machine.Word.{Word}
 use Rattle.sn_parser.specs.declared.machine.Word.TheVariants as word
 
@@ -181,3 +183,8 @@ ending_to a = ending a
 
 pub no_ending : {s : SomeSymbol} {after : List Terminal → Decls → Type 0} {all : Decls} {at : ℕ} {w : List Terminal} (y : SomeSymbol) → (y ≡ s → ⊥) → Ending s after (Symbol y at ∷ w) all → ⊥
 no_ending y n (ending a) = n refl
+
+-- Where a step leads to the state p unless memory is wanted, it steps as p does.
+pub leads : (before : List Terminal → Decls → Type 0) (x : Terminal) (p : Parser) (r : Result Parser Stop) → LeadsTo p r → StepsFrom before x (Ok p) → StepsFrom before x r
+leads before x p (Ok s) e h = rw e h
+leads before x p (Err stop) e h = rw e tt

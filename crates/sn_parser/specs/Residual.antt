@@ -158,6 +158,11 @@ Steps s x r = StepsFrom (Completes s) x r
 abbrev pub EndSteps : (List Terminal → Decls → Type 0) → SomeSymbol → Result Parser Stop → Type 0
 EndSteps before s r = (at : ℕ) → StepsFrom before (Symbol s at) r
 
+-- the step leads to the state p, unless memory is wanted
+abbrev pub LeadsTo : Parser → Result Parser Stop → Type 0
+LeadsTo p (Ok s) = s ≡ p
+LeadsTo p (Err stop) = stop ≡ Memory
+
 -- at the end of the tokens: the declarations, or nothing where some are still wanted
 abbrev pub EndsIn : Around → Mode → Option Decls → Type 0
 EndsIn a m (Some done) = (all : Decls) → CompletesIn a m [] all ↔ (done ≡ all)

@@ -21,10 +21,7 @@ pub fn in_box(
             around,
             mode: Mode::InBox { at, rest },
         }),
-        Ok(BoxDeclStep::Done(decl)) => {
-            let parser = around.finish(alloc, at, decl)?;
-            Ok(parser)
-        }
+        Ok(BoxDeclStep::Done(decl)) => around.finish(alloc, at, decl),
         Err(BoxDeclStop::Memory) => Err(Stop::Memory),
         Err(BoxDeclStop::Refused) => Err(Stop::Refused),
     }

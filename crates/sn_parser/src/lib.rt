@@ -10,6 +10,7 @@ mod box_decl;
 mod machine;
 mod net_decl;
 mod parsing;
+mod tokens;
 mod type_decl;
 
 pub use parsing::{ParseFault, parse};

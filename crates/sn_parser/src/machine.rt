@@ -1,15 +1,17 @@
 ghost use Rattle.std.specs.Prelude.{◌≡◌, ◌↔◌, ◌∷◌, IfOk, List, []};
-ghost use Rattle.sn_ast.specs.Declarations.{Declarations};
+ghost use Rattle.sn_ast.specs.Declarations.{Declarations, with_connect};
 ghost use Rattle.sn_ast.specs.Kept.{kept};
 ghost use Rattle.sn_ast.specs.Rows.{append};
 ghost use Rattle.sn_ast.specs.declared.terminal.Terminal.{Terminal as SomeTerminal};
 ghost use Rattle.sn_ast.specs.declared.terminal.Terminal.TheVariants as some_token;
-ghost use Rattle.sn_parser.specs.Residual.{Completes, Ends, EndsIn, Named, Steps, StepsIn};
-ghost use Rattle.sn_parser.specs.Scopes.{Decls, after_declaration, wanting, with_inner};
+ghost use Rattle.sn_parser.specs.Residual.{Completes, Ends, EndsIn, LeadsTo, Named, Steps, StepsIn};
+ghost use Rattle.sn_parser.specs.Scopes.{Decls, after_declaration, wanting, with_inner, with_inner_scope};
 ghost use Rattle.sn_parser.specs.declared.machine.Mode.TheVariants as some_mode;
 
+use crate::tokens::into_name;
 use crate::{box_decl, net_decl, type_decl};
-use sn_ast::{Decl, Ident, Kept, Keyword, Seq, Sig, Symbol, Terminal, measure};
+use sn_ast::measure::{self, join, raise};
+use sn_ast::{Decl, Ident, Kept, Keyword, NetDecl, NetExpr, Seq, Sig, Symbol, Terminal};
 use sn_box_parser::BoxDeclParser;
 use sn_list::Memory;
 use sn_net_parser::NetParser;
@@ -40,18 +42,37 @@ impl From<Memory> for Stop {
 pub type Outermost = (u32, Kept<Decl>);
 
 /// A net whose network is not read yet: what its declaration began with.
-#[derive(Drop)]
 pub struct OpenNet {
     pub name: Ident,
     pub sig: Option<Sig>,
     pub decls: Kept<Seq<Decl>>,
 }
 
+/// Written out, so that whoever gives a net up calls this, and is not proved over each part of it.
+impl Drop for OpenNet {
+    fn drop(self) {
+        let OpenNet {
+            name: _name,
+            sig: _sig,
+            decls: _decls,
+        } = self;
+    }
+}
+
 /// The finished declarations: those of the outermost scope, and those of each open net.
-#[derive(Drop)]
 pub struct Around {
     pub done: Seq<Outermost>,
     pub nets: Stack<OpenNet>,
+}
+
+/// Written out, so that whoever gives it up calls this, and is not proved over each part of it.
+impl Drop for Around {
+    fn drop(self) {
+        let Around {
+            done: _done,
+            nets: _nets,
+        } = self;
+    }
 }
 
 /// The first word of a declaration.
@@ -64,7 +85,6 @@ pub enum Word {
 }
 
 /// What comes next.
-#[derive(Drop)]
 pub enum Mode {
     /// A declaration, or the end of the scope.
     Want,
@@ -87,11 +107,110 @@ pub enum Mode {
     InNetwork { net: OpenNet, network: NetParser },
 }
 
+/// Written out, so that whoever gives a mode up calls this, and is not proved over each form of it.
+impl Drop for Mode {
+    fn drop(self) {
+        match self {
+            Mode::Want => (),
+            Mode::Named { word: _word } => (),
+            Mode::InBox {
+                at: _at,
+                rest: _rest,
+            } => (),
+            Mode::TypeAssign { name: _name } => (),
+            Mode::InType {
+                name: _name,
+                types: _types,
+            } => (),
+            Mode::SigAssign { name: _name } => (),
+            Mode::InSig {
+                name: _name,
+                sig: _sig,
+            } => (),
+            Mode::NetName { name: _name } => (),
+            Mode::InNetSig {
+                name: _name,
+                sig: _sig,
+            } => (),
+            Mode::AfterSig {
+                name: _name,
+                sig: _sig,
+            } => (),
+            Mode::Connect { net: _net } => (),
+            Mode::InNetwork {
+                net: _net,
+                network: _network,
+            } => (),
+        }
+    }
+}
+
+impl Mode {
+    /// Takes the next token.
+    fn step(self, alloc: Global, around: Around, token: Terminal) -> Result<Parser, Stop>
+        ensures { StepsIn around self token result }
+    {
+        match self {
+            Mode::Want => want(around, token),
+            Mode::Named { word } => named(alloc, around, word, token),
+            Mode::InBox { at, rest } => box_decl::in_box(alloc, around, at, rest, token),
+            Mode::TypeAssign { name } => type_decl::type_assign(alloc, around, name, token),
+            Mode::InType { name, types } => {
+                type_decl::in_type(alloc, around, name, types, token)
+            }
+            Mode::SigAssign { name } => type_decl::sig_assign(alloc, around, name, token),
+            Mode::InSig { name, sig } => type_decl::in_sig(alloc, around, name, sig, token),
+            Mode::NetName { name } => net_decl::net_name(alloc, around, name, token),
+            Mode::InNetSig { name, sig } => net_decl::in_net_sig(alloc, around, name, sig, token),
+            Mode::AfterSig { name, sig } => net_decl::after_sig(alloc, around, name, sig, token),
+            Mode::Connect { net } => net_decl::connect(alloc, around, net, token),
+            Mode::InNetwork { net, network } => {
+                net_decl::in_network(alloc, around, net, network, token)
+            }
+        }
+    }
+}
+
 /// A source that is being read.
-#[derive(Drop)]
 pub struct Parser {
     pub around: Around,
     pub mode: Mode,
+}
+
+/// Written out, so that whoever gives a parser up calls this, and is not proved over each part of it.
+impl Drop for Parser {
+    fn drop(self) {
+        let Parser {
+            around: _around,
+            mode: _mode,
+        } = self;
+    }
+}
+
+impl OpenNet {
+    /// The net with one more inner declaration.
+    fn with_inner(self, decl: Kept<Decl>) -> Result<OpenNet, Memory>
+        ensures { IfOk result (λ n. n ≡ with_inner self decl) }
+    {
+        let OpenNet { name, sig, decls } = self;
+        let decls = measure::append(decls, decl)?;
+        Ok(OpenNet { name, sig, decls })
+    }
+
+    /// The declaration, once the network is read.
+    pub fn with_connect(self, network: Kept<NetExpr>) -> Kept<Decl>
+        ensures { result ≡ with_connect kept self.name self.sig self.decls network }
+    {
+        let OpenNet { name, sig, decls } = self;
+        let both = join(decls, network)?;
+        let ((decls, connect), measure) = both.into_parts();
+        raise(Some(measure.with(Decl::NetDecl(NetDecl {
+            name,
+            sig,
+            decls,
+            connect,
+        }))))
+    }
 }
 
 impl Around {
@@ -108,8 +227,8 @@ impl Around {
     }
 
     /// The declaration is finished: it joins those of its scope. `at` is the place of its name.
-    pub fn finish(self, alloc: Global, at: u32, decl: Kept<Decl>) -> Result<Parser, Memory>
-        ensures { IfOk result (λ p. p ≡ after_declaration self at decl) }
+    pub fn finish(self, alloc: Global, at: u32, decl: Kept<Decl>) -> Result<Parser, Stop>
+        ensures { LeadsTo (after_declaration self at decl) result }
     {
         let Around { done, nets } = self;
         let mut nets = nets;
@@ -118,6 +237,37 @@ impl Around {
             Some(net) => finish_inner(done, nets, net, decl),
         }
     }
+
+    /// Takes the brace that opens a net's inner declarations.
+    pub fn inner(self, net: OpenNet) -> Result<Parser, Stop>
+        ensures { LeadsTo (with_inner_scope self net) result }
+    {
+        let Around { done, nets } = self;
+        let mut nets = nets;
+        nets.push(net)?;
+        Ok(Parser {
+            around: Around { done, nets },
+            mode: Mode::Want,
+        })
+    }
+
+    /// Takes the brace that ends a net's inner declarations.
+    fn close(self, symbol: Symbol, at: u32) -> Result<Parser, Stop>
+        ensures { StepsIn self some_mode.Want (some_token.Symbol symbol at) result }
+    {
+        if symbol != Symbol::CloseBrace {
+            return Err(Stop::Refused);
+        }
+        let Around { done, nets } = self;
+        let mut nets = nets;
+        let Some(net) = nets.pop() else {
+            return Err(Stop::Refused);
+        };
+        Ok(Parser {
+            around: Around { done, nets },
+            mode: Mode::Connect { net },
+        })
+    }
 }
 
 fn finish_outermost(
@@ -125,11 +275,10 @@ fn finish_outermost(
     done: Seq<Outermost>,
     at: u32,
     decl: Kept<Decl>,
-) -> Result<Parser, Memory>
-    ensures { IfOk result (λ p. p ≡ wanting (append done (at, decl)) []) }
+) -> Result<Parser, Stop>
+    ensures { LeadsTo (wanting (append done (at, decl)) []) result }
 {
-    let mut done = done;
-    sn_stack::append(&mut done, (at, decl))?;
+    let done = appended(done, (at, decl))?;
     Ok(Parser {
         around: Around {
             done,
@@ -139,18 +288,27 @@ fn finish_outermost(
     })
 }
 
+/// Appends an element to any list: where the type of the elements is known, what is given up for want of memory would be
+/// proved over each part of it.
+fn appended<T: Drop>(list: Seq<T>, element: T) -> Result<Seq<T>, Memory>
+    ensures { IfOk result (λ r. r ≡ append list element) }
+{
+    let mut list = list;
+    sn_stack::append(&mut list, element)?;
+    Ok(list)
+}
+
 fn finish_inner(
     done: Seq<Outermost>,
     nets: Stack<OpenNet>,
     net: OpenNet,
     decl: Kept<Decl>,
-) -> Result<Parser, Memory>
-    ensures { IfOk result (λ p. p ≡ wanting done (with_inner net decl ∷ nets)) }
+) -> Result<Parser, Stop>
+    ensures { LeadsTo (wanting done (with_inner net decl ∷ nets)) result }
 {
-    let OpenNet { name, sig, decls } = net;
-    let decls = measure::append(decls, decl)?;
+    let net = net.with_inner(decl)?;
     let mut nets = nets;
-    nets.push(OpenNet { name, sig, decls })?;
+    nets.push(net)?;
     Ok(Parser {
         around: Around { done, nets },
         mode: Mode::Want,
@@ -163,7 +321,7 @@ fn want(around: Around, token: Terminal) -> Result<Parser, Stop>
 {
     match token {
         Terminal::Keyword { keyword, at } => begin(around, keyword, at),
-        Terminal::Symbol { symbol, at } => close(around, symbol, at),
+        Terminal::Symbol { symbol, at } => around.close(symbol, at),
         _ => Err(Stop::Refused),
     }
 }
@@ -190,29 +348,11 @@ fn naming(around: Around, word: Word) -> Parser
     }
 }
 
-/// Takes the brace that ends a net's inner declarations.
-fn close(around: Around, symbol: Symbol, at: u32) -> Result<Parser, Stop>
-    ensures { StepsIn around some_mode.Want (some_token.Symbol symbol at) result }
-{
-    if symbol != Symbol::CloseBrace {
-        return Err(Stop::Refused);
-    }
-    let Around { done, nets } = around;
-    let mut nets = nets;
-    let Some(net) = nets.pop() else {
-        return Err(Stop::Refused);
-    };
-    Ok(Parser {
-        around: Around { done, nets },
-        mode: Mode::Connect { net },
-    })
-}
-
 /// Takes the name of what is declared.
 fn named(alloc: Global, around: Around, word: Word, token: Terminal) -> Result<Parser, Stop>
     ensures { StepsIn around (some_mode.Named word) token result }
 {
-    let Terminal::Name(name) = token else {
+    let Some(name) = into_name(token) else {
         return Err(Stop::Refused);
     };
     Ok(declaring(alloc, around, word, name))
@@ -262,24 +402,7 @@ impl Parser {
         ensures { Steps self token result }
     {
         let Parser { around, mode } = self;
-        match mode {
-            Mode::Want => want(around, token),
-            Mode::Named { word } => named(alloc, around, word, token),
-            Mode::InBox { at, rest } => box_decl::in_box(alloc, around, at, rest, token),
-            Mode::TypeAssign { name } => type_decl::type_assign(alloc, around, name, token),
-            Mode::InType { name, types } => {
-                type_decl::in_type(alloc, around, name, types, token)
-            }
-            Mode::SigAssign { name } => type_decl::sig_assign(alloc, around, name, token),
-            Mode::InSig { name, sig } => type_decl::in_sig(alloc, around, name, sig, token),
-            Mode::NetName { name } => net_decl::net_name(alloc, around, name, token),
-            Mode::InNetSig { name, sig } => net_decl::in_net_sig(alloc, around, name, sig, token),
-            Mode::AfterSig { name, sig } => net_decl::after_sig(alloc, around, name, sig, token),
-            Mode::Connect { net } => net_decl::connect(alloc, around, net, token),
-            Mode::InNetwork { net, network } => {
-                net_decl::in_network(alloc, around, net, network, token)
-            }
-        }
+        mode.step(alloc, around, token)
     }
 
     /// The declarations, where the tokens may end here.
@@ -287,12 +410,9 @@ impl Parser {
         ensures { Ends self result }
     {
         let Parser { around, mode } = self;
-        match mode {
+        match &mode {
             Mode::Want => around.end(),
-            _ => {
-                drop(mode);
-                None
-            }
+            _ => None,
         }
     }
 }

@@ -1,14 +1,10 @@
-ghost use Rattle.std.specs.Prelude.{◌≡◌, IfOk};
-ghost use Rattle.sn_ast.specs.Declarations.{with_connect};
-ghost use Rattle.sn_ast.specs.Kept.{kept};
 ghost use Rattle.sn_parser.specs.Residual.{AfterNetSig, EndSteps, StepsIn};
-ghost use Rattle.sn_parser.specs.Scopes.{with_inner_scope};
 ghost use Rattle.sn_parser.specs.declared.machine.Mode.TheVariants as some_mode;
 
 use crate::machine::{Around, Mode, OpenNet, Parser, Stop};
-use sn_ast::measure::{join, no_row, raise};
-use sn_ast::{Decl, Ident, Kept, Keyword, NetDecl, NetExpr, Seq, Sig, Symbol, Terminal};
-use sn_list::Memory;
+use crate::tokens::keyword_at;
+use sn_ast::measure::no_row;
+use sn_ast::{Ident, Keyword, Sig, Symbol, Terminal};
 use sn_net_parser::{NetParser, NetStop};
 use sn_type_parser::{SigParser, SigStop};
 use std::alloc::Global;
@@ -82,30 +78,16 @@ pub fn after_sig(
         decls: no_row(alloc),
     };
     if let Some(_) = token.symbol_at(Symbol::OpenBrace) {
-        let parser = inner(around, net)?;
-        return Ok(parser);
+        return around.inner(net);
     }
     connect(alloc, around, net, token)
-}
-
-/// Takes the brace that opens a net's inner declarations.
-fn inner(around: Around, net: OpenNet) -> Result<Parser, Memory>
-    ensures { IfOk result (λ p. p ≡ with_inner_scope around net) }
-{
-    let Around { done, nets } = around;
-    let mut nets = nets;
-    nets.push(net)?;
-    Ok(Parser {
-        around: Around { done, nets },
-        mode: Mode::Want,
-    })
 }
 
 /// Takes the `connect` of a net.
 pub fn connect(alloc: Global, around: Around, net: OpenNet, token: Terminal) -> Result<Parser, Stop>
     ensures { StepsIn around (some_mode.Connect net) token result }
 {
-    let Some(_) = token.keyword_at(Keyword::Connect) else {
+    let Some(_) = keyword_at(token, Keyword::Connect) else {
         return Err(Stop::Refused);
     };
     Ok(Parser {
@@ -136,22 +118,7 @@ pub fn in_network(
         Err(NetStop::Refused) => Err(Stop::Refused),
         Err(NetStop::Ended { network, .. }) => {
             let at = net.name.at;
-            let parser = around.finish(alloc, at, net_decl(net, network))?;
-            Ok(parser)
+            around.finish(alloc, at, net.with_connect(network))
         }
     }
-}
-
-fn net_decl(net: OpenNet, network: Kept<NetExpr>) -> Kept<Decl>
-    ensures { result ≡ with_connect kept net.name net.sig net.decls network }
-{
-    let OpenNet { name, sig, decls } = net;
-    let both = join(decls, network)?;
-    let ((decls, connect), measure) = both.into_parts();
-    raise(Some(measure.with(Decl::NetDecl(NetDecl {
-        name,
-        sig,
-        decls,
-        connect,
-    }))))
 }

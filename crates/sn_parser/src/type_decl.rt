@@ -2,6 +2,7 @@ ghost use Rattle.sn_parser.specs.Residual.{AfterType, AfterTypeSig, EndSteps, St
 ghost use Rattle.sn_parser.specs.declared.machine.Mode.TheVariants as some_mode;
 
 use crate::machine::{Around, Mode, Parser, Stop};
+use crate::tokens::symbol_at;
 use sn_ast::measure::leaf;
 use sn_ast::{Decl, Ident, Seq, Sig, Symbol, Terminal, TypePart};
 use sn_type_parser::{SigParser, SigStop, TypeParser, TypeStop};
@@ -16,7 +17,7 @@ pub fn type_assign(
 ) -> Result<Parser, Stop>
     ensures { StepsIn around (some_mode.TypeAssign name) token result }
 {
-    let Some(_) = token.symbol_at(Symbol::Assign) else {
+    let Some(_) = symbol_at(token, Symbol::Assign) else {
         return Err(Stop::Refused);
     };
     Ok(Parser {
@@ -65,8 +66,7 @@ fn type_ended(
         return Err(Stop::Refused);
     }
     let at = name.at;
-    let parser = around.finish(alloc, at, leaf(Decl::TypeDecl { name, parts }))?;
-    Ok(parser)
+    around.finish(alloc, at, leaf(Decl::TypeDecl { name, parts }))
 }
 
 /// Takes the `=` after the name of a type signature.
@@ -78,7 +78,7 @@ pub fn sig_assign(
 ) -> Result<Parser, Stop>
     ensures { StepsIn around (some_mode.SigAssign name) token result }
 {
-    let Some(_) = token.symbol_at(Symbol::Assign) else {
+    let Some(_) = symbol_at(token, Symbol::Assign) else {
         return Err(Stop::Refused);
     };
     Ok(Parser {
@@ -125,6 +125,5 @@ fn sig_ended(
         return Err(Stop::Refused);
     }
     let at = name.at;
-    let parser = around.finish(alloc, at, leaf(Decl::SigDecl { name, sig }))?;
-    Ok(parser)
+    around.finish(alloc, at, leaf(Decl::SigDecl { name, sig }))
 }

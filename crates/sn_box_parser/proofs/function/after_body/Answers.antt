@@ -9,4 +9,4 @@ returns-then-ne c = λ at w t. no_semicolon _ (search rules)
 pub returns : goal.returns
 returns c = λ at w t.
     let i : c.args.symbol ≡ Semicolon = search rules in
-    rw (i, c.in_ok-functions.ensures, c.with_body.ensures) (body_from, body_to)
+    rw (i, c.in_ok-opened.ensures, c.with_body.ensures) (body_from, body_to)

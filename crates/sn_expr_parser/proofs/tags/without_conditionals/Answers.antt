@@ -1,7 +1,15 @@
-use Rattle.sn_expr_parser.proofs.TagSteps.{conditional_step}
+use Rattle.std.proofs.Common.{◌∷◌, ◌∙◌, ap}
+use Rattle.sn_expr_parser.proofs.TagSteps.{conditional_step, innermost_none, innermost_some}
 use Rattle.sn_expr_parser.proofs.tags.without_conditionals.Goals as goal
 
-pub loop-at-preserved : goal.loop-at-preserved
-loop-at-preserved c =
-    let r = c.in-Some-Right in
-    conditional_step c.args.frames c.loop-at.frames c.pop.new.self c.args.whole c.loop-at.whole c.in_ok-whole-in-Some-Right.whole r.at r.test r.middle (rw r.field-0-is at r.ensures) c.in_ok-whole-in-Some-Right.ensures c.loop-at.invariant
+pub returns-in_default : goal.returns-in_default
+returns-in_default c = innermost_none _ _ _ _ _ c.in_default.ensures c.loop-frame.invariant
+
+pub loop-frame-preserved : goal.loop-frame-preserved
+loop-frame-preserved c =
+    let rest = c.pop.new.self in
+    conditional_step c.args.frames c.loop-frame.frames rest c.args.whole c.loop-frame.whole c.in_ok-whole-in-Ok.whole _ _ _
+    (c.in-Some.ensures ∙ ap (λ f. f ∷ rest) c.in-Ok.ensures) c.in_ok-whole-in-Ok.ensures c.loop-frame.invariant
+
+pub returns-in-Err : goal.returns-in-Err
+returns-in-Err c = innermost_some _ _ _ _ _ _ _ c.in-Some.ensures c.in-Err.ensures.0 c.in-Err.ensures.1 c.loop-frame.invariant

@@ -1,7 +1,7 @@
 use Rattle.std.proofs.Common.{◌≡◌, rules}
 use Rattle.sn_ast.specs.declared.terminal.Symbol.TheVariants.{CloseBrace}
 use Rattle.sn_parser.proofs.Steps.{close_from, close_to, no_close, no_outer}
-use Rattle.sn_parser.proofs.machine.close.Goals as goal
+use Rattle.sn_parser.proofs.machine.Around.close.Goals as goal
 
 pub returns-then-ne : goal.returns-then-ne
 returns-then-ne c = λ w all. no_close _ (search rules)

@@ -1,6 +1,6 @@
 use Rattle.std.proofs.Common.{◌≡◌, false, true, refl}
 use Rattle.sn_net_parser.proofs.Steps.{branch_from, branch_to}
-use Rattle.sn_net_parser.proofs.post.branch.Goals as goal
+use Rattle.sn_net_parser.proofs.machine.Around.branch.Goals as goal
 
 pub returns-then-not-goes_on : goal.returns-then-not-goes_on
 returns-then-not-goes_on c = λ w t d. let e : false ≡ true = c.if-not-goes_on.ensures.1 (branch_from c.requires d).0 in cc

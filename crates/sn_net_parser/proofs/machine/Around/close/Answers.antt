@@ -1,5 +1,5 @@
 use Rattle.sn_net_parser.proofs.Steps.{close_from, close_to, no_outer}
-use Rattle.sn_net_parser.proofs.post.close.Goals as goal
+use Rattle.sn_net_parser.proofs.machine.Around.close.Goals as goal
 
 pub returns-in_default : goal.returns-in_default
 returns-in_default c = λ w t. rw c.in_default.ensures no_outer

@@ -1,0 +1,31 @@
+//! What a token is, where nothing more is wanted of it. Each takes the token: a caller that has it at several exits would
+//! be proved over each form of it at each of them.
+ghost use Rattle.std.specs.Prelude.{◌≡◌, ℕ, MatchOption};
+ghost use Rattle.sn_ast.specs.declared.label.Ident.{Ident as SomeName};
+ghost use Rattle.sn_ast.specs.declared.terminal.Terminal.TheVariants as some_token;
+
+use sn_ast::{Ident, Keyword, Symbol, Terminal};
+
+/// The token's place, if it is this symbol.
+pub fn symbol_at(token: Terminal, symbol: Symbol) -> Option<u32>
+    ensures { MatchOption result ((at : ℕ) → token ≡ some_token.Symbol symbol at → ⊥) (λ at. token ≡ some_token.Symbol symbol at) }
+{
+    token.symbol_at(symbol)
+}
+
+/// The token's place, if it is this keyword.
+pub fn keyword_at(token: Terminal, keyword: Keyword) -> Option<u32>
+    ensures { MatchOption result ((at : ℕ) → token ≡ some_token.Keyword keyword at → ⊥) (λ at. token ≡ some_token.Keyword keyword at) }
+{
+    token.keyword_at(keyword)
+}
+
+/// The name that the token is, if it is one.
+pub fn into_name(token: Terminal) -> Option<Ident>
+    ensures { MatchOption result ((name : SomeName) → token ≡ some_token.Name name → ⊥) (λ name. token ≡ some_token.Name name) }
+{
+    match token {
+        Terminal::Name(name) => Some(name),
+        _ => None,
+    }
+}
