@@ -93,6 +93,25 @@ fn boxed_at(
 }
 
 #[cycle(expr_at)]
+fn pair_at(
+    alloc: Global,
+    scope: &BoxScope,
+    refusals: &mut Refusals,
+    variables: &mut Variables,
+    left: &BExpr,
+    right: &BExpr,
+) -> Result<(Boxed<Expr>, Boxed<Expr>), Memory>
+    ensures left { IfOk result (λ pair. pair.0 ≡ expr_at scope.now left.now variables.old) }
+    ensures right { IfOk result (λ pair. pair.1 ≡ expr_at scope.now right.now variables.old) }
+    ensures refused { OnOk result (refusals.new ≡ expr_required scope.now right.now variables.old (expr_required scope.now left.now variables.old refusals.old)) }
+    ensures kept { OnOk result (variables.new ≡ variables.old) }
+{
+    let left = boxed_at(alloc, scope, refusals, variables, left)?;
+    let right = boxed_at(alloc, scope, refusals, variables, right)?;
+    Ok((left, right))
+}
+
+#[cycle(expr_at)]
 fn parts_at(
     alloc: Global,
     scope: &BoxScope,
@@ -154,42 +173,66 @@ pub(crate) fn expr_at(
         BForm::Tag(name) => variables.named(refusals, true, name),
         BForm::Name(name) => variables.named(refusals, false, name),
         BForm::Neg(part) => {
-            let part = boxed_at(alloc, scope, refusals, variables, part.get())?;
-            Ok(Expr::Neg(part))
+            boxed_at(alloc, scope, refusals, variables, part.get()).map(Expr::Neg)
         }
         BForm::Not(part) => {
-            let part = boxed_at(alloc, scope, refusals, variables, part.get())?;
-            Ok(Expr::Not(part))
+            boxed_at(alloc, scope, refusals, variables, part.get()).map(Expr::Not)
         }
-        BForm::Op(operator, left, right) => Ok(Expr::Op(
-            bin_op(*operator),
-            boxed_at(alloc, scope, refusals, variables, left.get())?,
-            boxed_at(alloc, scope, refusals, variables, right.get())?,
-        )),
-        BForm::And(left, right) => Ok(Expr::And(
-            boxed_at(alloc, scope, refusals, variables, left.get())?,
-            boxed_at(alloc, scope, refusals, variables, right.get())?,
-        )),
-        BForm::Or(left, right) => Ok(Expr::Or(
-            boxed_at(alloc, scope, refusals, variables, left.get())?,
-            boxed_at(alloc, scope, refusals, variables, right.get())?,
-        )),
-        BForm::If(test, left, right) => Ok(Expr::If(
-            boxed_at(alloc, scope, refusals, variables, test.get())?,
-            boxed_at(alloc, scope, refusals, variables, left.get())?,
-            boxed_at(alloc, scope, refusals, variables, right.get())?,
-        )),
-        BForm::Let(name, bound, rest) => Ok(Expr::Let(
-            boxed_at(alloc, scope, refusals, variables, bound.get())?,
-            rest_at(alloc, scope, refusals, variables, name, rest.get())?,
-        )),
+        BForm::Op(operator, left, right) => {
+            let (left, right) = pair_at(
+                alloc,
+                scope,
+                refusals,
+                variables,
+                left.get(),
+                right.get(),
+            )?;
+            Ok(Expr::Op(bin_op(*operator), left, right))
+        }
+        BForm::And(left, right) => {
+            let (left, right) = pair_at(
+                alloc,
+                scope,
+                refusals,
+                variables,
+                left.get(),
+                right.get(),
+            )?;
+            Ok(Expr::And(left, right))
+        }
+        BForm::Or(left, right) => {
+            let (left, right) = pair_at(
+                alloc,
+                scope,
+                refusals,
+                variables,
+                left.get(),
+                right.get(),
+            )?;
+            Ok(Expr::Or(left, right))
+        }
+        BForm::If(test, left, right) => {
+            let test = boxed_at(alloc, scope, refusals, variables, test.get())?;
+            let (left, right) = pair_at(
+                alloc,
+                scope,
+                refusals,
+                variables,
+                left.get(),
+                right.get(),
+            )?;
+            Ok(Expr::If(test, left, right))
+        }
+        BForm::Let(name, bound, rest) => {
+            let bound = boxed_at(alloc, scope, refusals, variables, bound.get())?;
+            let rest = rest_at(alloc, scope, refusals, variables, name, rest.get())?;
+            Ok(Expr::Let(bound, rest))
+        }
         BForm::Seq(parts) => {
-            let parts = parts_at(alloc, scope, refusals, variables, parts.as_slice())?;
-            Ok(Expr::Seq(parts))
+            parts_at(alloc, scope, refusals, variables, parts.as_slice()).map(Expr::Seq)
         }
         BForm::ListLit(parts) => {
-            let parts = parts_at(alloc, scope, refusals, variables, parts.as_slice())?;
-            Ok(Expr::ListLit(parts))
+            parts_at(alloc, scope, refusals, variables, parts.as_slice()).map(Expr::ListLit)
         }
         BForm::Call(name, parts) => {
             let parts = parts_at(alloc, scope, refusals, variables, parts.as_slice())?;
