@@ -23,7 +23,7 @@ pub struct Signature {
 }
 
 /// A net with a signature, by their numbers. Its place is that of its name in its declaration.
-#[derive(Clone, Copy, PartialEq, Eq)]
+#[derive(Clone, Copy)]
 pub struct Pending {
     pub place: u32,
     pub net: usize,

@@ -25,7 +25,7 @@ const MOST_LEVELS: u32 = 256;
 const MOST_NODES: usize = 65_536;
 
 /// Why a program is not resolved. A place is a byte offset in the source.
-#[derive(Clone, Copy, PartialEq, Eq, Debug)]
+#[derive(Clone, Copy, Debug)]
 pub enum ScopeFault {
     /// A name that isn't visible or isn't of the kind wanted, or a label that its pattern doesn't have. In a box: a name that is
     /// no variable there, or a call of no function.

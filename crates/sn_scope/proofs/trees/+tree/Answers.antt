@@ -2,7 +2,7 @@ use Rattle.std.proofs.Common.{◌≡◌, suc, ◌+◌, ◌-◌, ◌<◌, ◌≤�
 use Rattle.std.proofs.lemmas.List.{drop_more, length-drop, take_all}
 use Rattle.std.proofs.lemmas.Result.{IfOk-weaker}
 use Rattle.sn_net.specs.declared.net.Net.TheVariants as net
-use Rattle.sn_scope.specs.Built.{AreBuilt, AreMade, IsBuilt, IsMade, node_of, part_of, parts_of, rest_of}
+use Rattle.sn_scope.specs.Built.{AreBuilt, IsBuilt, IsMade, node_of, part_of, parts_of, rest_of}
 use Rattle.sn_scope.specs.Trees.{all_some}
 use Rattle.sn_scope.specs.declared.network.Component.TheVariants as component
 use Rattle.sn_scope.proofs.Building.{drop_past, partly_done, partly_unbuilt, right_unbuilt, serial_built, tree_built}
