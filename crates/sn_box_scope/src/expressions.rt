@@ -85,9 +85,7 @@ fn boxed_at(
     variables: &mut Variables,
     e: &BExpr,
 ) -> Result<Boxed<Expr>, Memory>
-    ensures expr { IfOk result (λ boxed. boxed ≡ expr_at scope.now e.now variables.old) }
-    ensures refused { OnOk result (refusals.new ≡ expr_required scope.now e.now variables.old refusals.old) }
-    ensures kept { OnOk result (variables.new ≡ variables.old) }
+    ensures { IfOk result (λ boxed. (boxed ≡ expr_at scope.now e.now variables.old) × (refusals.new ≡ expr_required scope.now e.now variables.old refusals.old) × (variables.new ≡ variables.old)) }
 {
     Boxed::new(alloc, expr_at(alloc, scope, refusals, variables, e)?)
 }
@@ -101,10 +99,7 @@ fn pair_at(
     left: &BExpr,
     right: &BExpr,
 ) -> Result<(Boxed<Expr>, Boxed<Expr>), Memory>
-    ensures left { IfOk result (λ pair. pair.0 ≡ expr_at scope.now left.now variables.old) }
-    ensures right { IfOk result (λ pair. pair.1 ≡ expr_at scope.now right.now variables.old) }
-    ensures refused { OnOk result (refusals.new ≡ expr_required scope.now right.now variables.old (expr_required scope.now left.now variables.old refusals.old)) }
-    ensures kept { OnOk result (variables.new ≡ variables.old) }
+    ensures { IfOk result (λ pair. (pair.0 ≡ expr_at scope.now left.now variables.old) × (pair.1 ≡ expr_at scope.now right.now variables.old) × (refusals.new ≡ expr_required scope.now right.now variables.old (expr_required scope.now left.now variables.old refusals.old)) × (variables.new ≡ variables.old)) }
 {
     let left = boxed_at(alloc, scope, refusals, variables, left)?;
     let right = boxed_at(alloc, scope, refusals, variables, right)?;
@@ -119,10 +114,7 @@ fn parts_at(
     variables: &mut Variables,
     parts: &[BExpr],
 ) -> Result<Seq<Expr>, Memory>
-    ensures parts { IfOk result (λ made. made ≡ parts_over (each (expr_at scope.now) parts.now) variables.old) }
-    ensures refused { OnOk result (refusals.new ≡ parts_required (each (expr_required scope.now) parts.now) variables.old refusals.old) }
-    ensures kept { OnOk result (variables.new ≡ variables.old) }
-    ensures count { IfOk result (λ made. length made ≡ length parts.now) }
+    ensures { IfOk result (λ made. (made ≡ parts_over (each (expr_at scope.now) parts.now) variables.old) × (refusals.new ≡ parts_required (each (expr_required scope.now) parts.now) variables.old refusals.old) × (variables.new ≡ variables.old) × (length made ≡ length parts.now)) }
 {
     let mut made = Seq::new(alloc);
     for part in parts {
@@ -142,9 +134,7 @@ fn rest_at(
     name: &Ident,
     rest: &BExpr,
 ) -> Result<Boxed<Expr>, Memory>
-    ensures expr { IfOk result (λ boxed. boxed ≡ expr_at scope.now rest.now (with_bound variables.old name.now)) }
-    ensures refused { OnOk result (refusals.new ≡ expr_required scope.now rest.now (with_bound variables.old name.now) refusals.old) }
-    ensures kept { OnOk result (variables.new ≡ variables.old) }
+    ensures { IfOk result (λ boxed. (boxed ≡ expr_at scope.now rest.now (with_bound variables.old name.now)) × (refusals.new ≡ expr_required scope.now rest.now (with_bound variables.old name.now) refusals.old) × (variables.new ≡ variables.old)) }
 {
     let outside = variables.count();
     variables.add_field(alloc, name)?;
@@ -163,9 +153,7 @@ pub(crate) fn expr_at(
     variables: &mut Variables,
     e: &BExpr,
 ) -> Result<Expr, Memory>
-    ensures expr { IfOk result (λ expr. expr ≡ expr_at scope.now e.now variables.old) }
-    ensures refused { OnOk result (refusals.new ≡ expr_required scope.now e.now variables.old refusals.old) }
-    ensures kept { OnOk result (variables.new ≡ variables.old) }
+    ensures { IfOk result (λ expr. (expr ≡ expr_at scope.now e.now variables.old) × (refusals.new ≡ expr_required scope.now e.now variables.old refusals.old) × (variables.new ≡ variables.old)) }
 {
     match &e.form {
         BForm::Number(n) => Ok(Expr::Int(*n)),

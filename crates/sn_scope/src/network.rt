@@ -186,8 +186,7 @@ pub fn network_at(
     refusals: &mut Refusals,
     network: &NetExpr,
 ) -> Result<Network, Memory>
-    ensures network { IfOk result (λ made. made ≡ network_at names.now scopes.now network.now) }
-    ensures refused { OnOk result (refusals.new ≡ network_required names.now scopes.now network.now refusals.old) }
+    ensures { IfOk result (λ made. (made ≡ network_at names.now scopes.now network.now) × (refusals.new ≡ network_required names.now scopes.now network.now refusals.old)) }
 {
     let place = network.at;
     match &network.form {
@@ -246,8 +245,7 @@ fn boxed_at(
     refusals: &mut Refusals,
     network: &NetExpr,
 ) -> Result<Boxed<Network>, Memory>
-    ensures network { IfOk result (λ made. made ≡ network_at names.now scopes.now network.now) }
-    ensures refused { OnOk result (refusals.new ≡ network_required names.now scopes.now network.now refusals.old) }
+    ensures { IfOk result (λ made. (made ≡ network_at names.now scopes.now network.now) × (refusals.new ≡ network_required names.now scopes.now network.now refusals.old)) }
 {
     Boxed::new(alloc, network_at(alloc, names, scopes, refusals, network)?)
 }
@@ -260,8 +258,7 @@ fn networks_at(
     refusals: &mut Refusals,
     networks: &[NetExpr],
 ) -> Result<Seq<Network>, Memory>
-    ensures networks { IfOk result (λ made. made ≡ each (network_at names.now scopes.now) networks.now) }
-    ensures refused { OnOk result (refusals.new ≡ fold (λ least check. check least) refusals.old (each (network_required names.now scopes.now) networks.now)) }
+    ensures { IfOk result (λ made. (made ≡ each (network_at names.now scopes.now) networks.now) × (refusals.new ≡ fold (λ least check. check least) refusals.old (each (network_required names.now scopes.now) networks.now))) }
 {
     let mut made = Seq::new(alloc);
     for network in networks {
