@@ -84,10 +84,11 @@ fn fun_at(
     refusals.require(builtin.is_none(), Reason::Twice, fun.name.at);
     refusals.require(params.len() <= MOST_PARAMS, Reason::Arity, fun.name.at);
     require_params(alloc, refusals, params)?;
+    let count = to_number(params.len())?;
     let mut variables = parameter_variables(alloc, params)?;
     let body = expr_at(alloc, scope, refusals, &mut variables, &fun.body)?;
     Ok(Fun {
-        params: to_number(params.len())?,
+        params: count,
         body,
     })
 }

@@ -85,11 +85,25 @@ fn boxed_at(
     variables: &mut Variables,
     e: &BExpr,
 ) -> Result<Boxed<Expr>, Memory>
-    ensures expr { IfOk result (λ boxed. boxed ≡ expr_at scope.now e.now variables.old) }
-    ensures refused { OnOk result (refusals.new ≡ expr_required scope.now e.now variables.old refusals.old) }
-    ensures kept { OnOk result (variables.new ≡ variables.old) }
+    ensures { IfOk result (λ boxed. (boxed ≡ expr_at scope.now e.now variables.old) × (refusals.new ≡ expr_required scope.now e.now variables.old refusals.old) × (variables.new ≡ variables.old)) }
 {
     Boxed::new(alloc, expr_at(alloc, scope, refusals, variables, e)?)
+}
+
+#[cycle(expr_at)]
+fn pair_at(
+    alloc: Global,
+    scope: &BoxScope,
+    refusals: &mut Refusals,
+    variables: &mut Variables,
+    left: &BExpr,
+    right: &BExpr,
+) -> Result<(Boxed<Expr>, Boxed<Expr>), Memory>
+    ensures { IfOk result (λ pair. (pair.0 ≡ expr_at scope.now left.now variables.old) × (pair.1 ≡ expr_at scope.now right.now variables.old) × (refusals.new ≡ expr_required scope.now right.now variables.old (expr_required scope.now left.now variables.old refusals.old)) × (variables.new ≡ variables.old)) }
+{
+    let left = boxed_at(alloc, scope, refusals, variables, left)?;
+    let right = boxed_at(alloc, scope, refusals, variables, right)?;
+    Ok((left, right))
 }
 
 #[cycle(expr_at)]
@@ -100,10 +114,7 @@ fn parts_at(
     variables: &mut Variables,
     parts: &[BExpr],
 ) -> Result<Seq<Expr>, Memory>
-    ensures parts { IfOk result (λ made. made ≡ parts_over (each (expr_at scope.now) parts.now) variables.old) }
-    ensures refused { OnOk result (refusals.new ≡ parts_required (each (expr_required scope.now) parts.now) variables.old refusals.old) }
-    ensures kept { OnOk result (variables.new ≡ variables.old) }
-    ensures count { IfOk result (λ made. length made ≡ length parts.now) }
+    ensures { IfOk result (λ made. (made ≡ parts_over (each (expr_at scope.now) parts.now) variables.old) × (refusals.new ≡ parts_required (each (expr_required scope.now) parts.now) variables.old refusals.old) × (variables.new ≡ variables.old) × (length made ≡ length parts.now)) }
 {
     let mut made = Seq::new(alloc);
     for part in parts {
@@ -123,9 +134,7 @@ fn rest_at(
     name: &Ident,
     rest: &BExpr,
 ) -> Result<Boxed<Expr>, Memory>
-    ensures expr { IfOk result (λ boxed. boxed ≡ expr_at scope.now rest.now (with_bound variables.old name.now)) }
-    ensures refused { OnOk result (refusals.new ≡ expr_required scope.now rest.now (with_bound variables.old name.now) refusals.old) }
-    ensures kept { OnOk result (variables.new ≡ variables.old) }
+    ensures { IfOk result (λ boxed. (boxed ≡ expr_at scope.now rest.now (with_bound variables.old name.now)) × (refusals.new ≡ expr_required scope.now rest.now (with_bound variables.old name.now) refusals.old) × (variables.new ≡ variables.old)) }
 {
     let outside = variables.count();
     variables.add_field(alloc, name)?;
@@ -144,9 +153,7 @@ pub(crate) fn expr_at(
     variables: &mut Variables,
     e: &BExpr,
 ) -> Result<Expr, Memory>
-    ensures expr { IfOk result (λ expr. expr ≡ expr_at scope.now e.now variables.old) }
-    ensures refused { OnOk result (refusals.new ≡ expr_required scope.now e.now variables.old refusals.old) }
-    ensures kept { OnOk result (variables.new ≡ variables.old) }
+    ensures { IfOk result (λ expr. (expr ≡ expr_at scope.now e.now variables.old) × (refusals.new ≡ expr_required scope.now e.now variables.old refusals.old) × (variables.new ≡ variables.old)) }
 {
     match &e.form {
         BForm::Number(n) => Ok(Expr::Int(*n)),
@@ -154,42 +161,66 @@ pub(crate) fn expr_at(
         BForm::Tag(name) => variables.named(refusals, true, name),
         BForm::Name(name) => variables.named(refusals, false, name),
         BForm::Neg(part) => {
-            let part = boxed_at(alloc, scope, refusals, variables, part.get())?;
-            Ok(Expr::Neg(part))
+            boxed_at(alloc, scope, refusals, variables, part.get()).map(Expr::Neg)
         }
         BForm::Not(part) => {
-            let part = boxed_at(alloc, scope, refusals, variables, part.get())?;
-            Ok(Expr::Not(part))
+            boxed_at(alloc, scope, refusals, variables, part.get()).map(Expr::Not)
         }
-        BForm::Op(operator, left, right) => Ok(Expr::Op(
-            bin_op(*operator),
-            boxed_at(alloc, scope, refusals, variables, left.get())?,
-            boxed_at(alloc, scope, refusals, variables, right.get())?,
-        )),
-        BForm::And(left, right) => Ok(Expr::And(
-            boxed_at(alloc, scope, refusals, variables, left.get())?,
-            boxed_at(alloc, scope, refusals, variables, right.get())?,
-        )),
-        BForm::Or(left, right) => Ok(Expr::Or(
-            boxed_at(alloc, scope, refusals, variables, left.get())?,
-            boxed_at(alloc, scope, refusals, variables, right.get())?,
-        )),
-        BForm::If(test, left, right) => Ok(Expr::If(
-            boxed_at(alloc, scope, refusals, variables, test.get())?,
-            boxed_at(alloc, scope, refusals, variables, left.get())?,
-            boxed_at(alloc, scope, refusals, variables, right.get())?,
-        )),
-        BForm::Let(name, bound, rest) => Ok(Expr::Let(
-            boxed_at(alloc, scope, refusals, variables, bound.get())?,
-            rest_at(alloc, scope, refusals, variables, name, rest.get())?,
-        )),
+        BForm::Op(operator, left, right) => {
+            let (left, right) = pair_at(
+                alloc,
+                scope,
+                refusals,
+                variables,
+                left.get(),
+                right.get(),
+            )?;
+            Ok(Expr::Op(bin_op(*operator), left, right))
+        }
+        BForm::And(left, right) => {
+            let (left, right) = pair_at(
+                alloc,
+                scope,
+                refusals,
+                variables,
+                left.get(),
+                right.get(),
+            )?;
+            Ok(Expr::And(left, right))
+        }
+        BForm::Or(left, right) => {
+            let (left, right) = pair_at(
+                alloc,
+                scope,
+                refusals,
+                variables,
+                left.get(),
+                right.get(),
+            )?;
+            Ok(Expr::Or(left, right))
+        }
+        BForm::If(test, left, right) => {
+            let test = boxed_at(alloc, scope, refusals, variables, test.get())?;
+            let (left, right) = pair_at(
+                alloc,
+                scope,
+                refusals,
+                variables,
+                left.get(),
+                right.get(),
+            )?;
+            Ok(Expr::If(test, left, right))
+        }
+        BForm::Let(name, bound, rest) => {
+            let bound = boxed_at(alloc, scope, refusals, variables, bound.get())?;
+            let rest = rest_at(alloc, scope, refusals, variables, name, rest.get())?;
+            Ok(Expr::Let(bound, rest))
+        }
         BForm::Seq(parts) => {
-            let parts = parts_at(alloc, scope, refusals, variables, parts.as_slice())?;
-            Ok(Expr::Seq(parts))
+            parts_at(alloc, scope, refusals, variables, parts.as_slice()).map(Expr::Seq)
         }
         BForm::ListLit(parts) => {
-            let parts = parts_at(alloc, scope, refusals, variables, parts.as_slice())?;
-            Ok(Expr::ListLit(parts))
+            parts_at(alloc, scope, refusals, variables, parts.as_slice()).map(Expr::ListLit)
         }
         BForm::Call(name, parts) => {
             let parts = parts_at(alloc, scope, refusals, variables, parts.as_slice())?;

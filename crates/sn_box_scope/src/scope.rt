@@ -14,13 +14,23 @@ use std::alloc::Global;
 use std::marker::Model;
 
 /// A box declaration, in which the functions can be found by their names. It is seen as the declaration.
-#[derive(Drop)]
 pub(crate) struct BoxScope<'a> {
     declaration: &'a BoxDecl,
     /// The names of the functions, each once.
     names: NameTable,
     /// The place of the first function of each name.
     places: Seq<usize>,
+}
+
+/// Written out, so that a function that gives a scope up calls this, and is not proved over its tables.
+impl<'a> Drop for BoxScope<'a> {
+    fn drop(self) {
+        let BoxScope {
+            declaration: _,
+            names: _names,
+            places: _places,
+        } = self;
+    }
 }
 
 impl<'a> Model for BoxScope<'a> {

@@ -5,7 +5,7 @@ ghost use Rattle.sn_label_scope.specs.Refusals.{comes_before, noted, rank, requi
 use std::marker::Model;
 
 /// Why a part of a source is refused.
-#[derive(Clone, Copy, PartialEq, Eq, Debug)]
+#[derive(Clone, Copy)]
 pub enum Reason {
     /// A name that isn't visible or isn't of the kind wanted, or a label that the pattern doesn't have. In a box: a name that
     /// is no variable there, or a call of no function.
@@ -21,7 +21,7 @@ pub enum Reason {
 }
 
 /// A part of a source that is refused, at its byte offset.
-#[derive(Clone, Copy, PartialEq, Eq, Debug)]
+#[derive(Clone, Copy)]
 pub struct Refusal {
     pub reason: Reason,
     pub at: u32,

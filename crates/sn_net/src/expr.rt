@@ -39,20 +39,40 @@ pub enum Expr {
 }
 
 /// A function of a box.
-#[derive(Drop)]
 pub struct Fun {
     /// How many parameters it has.
     pub params: u32,
     pub body: Expr,
 }
 
+/// Written out, so that a function that gives this up calls it, and is not proved over each form of the body.
+impl Drop for Fun {
+    fn drop(self) {
+        let Fun {
+            params: _,
+            body: _body,
+        } = self;
+    }
+}
+
 /// What a box takes, what it may emit, and what it does.
-#[derive(Drop)]
 pub struct BoxProgram {
     pub input: Seq<Label>,
     pub outputs: Seq<Seq<Label>>,
     pub funs: Seq<Fun>,
     pub body: Expr,
+}
+
+/// Written out as that of a function.
+impl Drop for BoxProgram {
+    fn drop(self) {
+        let BoxProgram {
+            input: _input,
+            outputs: _outputs,
+            funs: _funs,
+            body: _body,
+        } = self;
+    }
 }
 
 /// The boxes of a source, by their numbers.

@@ -2,7 +2,7 @@
 //!
 //! `face` walks all that is below a node. Here a node's face comes from those of its parts, so a network that is made from
 //! its leaves up is never walked.
-ghost use Rattle.std.specs.Prelude.{◌≡◌, ◌<◌, IfOk, List, All, length, map};
+ghost use Rattle.std.specs.Prelude.{◌≡◌, ◌<◌, ◌++◌, ◌∷◌, [], IfOk, OnOk, List, All, length, map};
 ghost use Rattle.std.specs.List.{flat_map};
 ghost use Rattle.sn_net.specs.declared.expr.BoxProgram.{BoxProgram};
 ghost use Rattle.sn_net.specs.declared.net.Net.TheVariants as form;
@@ -19,10 +19,19 @@ use sn_tagexpr::TagExpr;
 use std::alloc::Global;
 
 /// A net and its face.
-#[derive(Drop)]
 pub struct Faced {
     pub net: Net,
     pub face: Seq<LabelSet>,
+}
+
+/// Written out, so that a function that gives a net up calls this, and is not proved over each form of the net.
+impl Drop for Faced {
+    fn drop(self) {
+        let Faced {
+            net: _net,
+            face: _face,
+        } = self;
+    }
 }
 
 /// The nets of the branches, and their faces.
@@ -32,9 +41,7 @@ fn apart(alloc: Global, branches: Seq<Faced>) -> Result<(Seq<Net>, Seq<Seq<Label
     let mut nets = Seq::new(alloc);
     let mut faces = Seq::new(alloc);
     for branch in branches.into_vec() {
-        let Faced { net, face } = branch;
-        append(&mut nets, net)?;
-        append(&mut faces, face)?;
+        branch.append_to(&mut nets, &mut faces)?;
     }
     Ok((nets, faces))
 }
@@ -51,15 +58,60 @@ fn all_sets(alloc: Global, faces: &[Seq<LabelSet>]) -> Result<Seq<LabelSet>, Mem
 }
 
 impl Faced {
+    /// The net alone.
+    pub fn into_net(self) -> Net
+        ensures { result ≡ self.net }
+    {
+        let Faced { net, face: _face } = self;
+        net
+    }
+
+    /// The net on the heap, and its face.
+    fn into_boxed(self, alloc: Global) -> Result<(Boxed<Net>, Seq<LabelSet>), Memory>
+        ensures net { IfOk result (λ parts. parts.0 ≡ self.net) }
+        ensures face { IfOk result (λ parts. parts.1 ≡ self.face) }
+    {
+        let Faced { net, face } = self;
+        let net = Boxed::new(alloc, net)?;
+        Ok((net, face))
+    }
+
+    /// The net on the heap, and its face with one more set.
+    fn into_boxed_with(
+        self,
+        alloc: Global,
+        set: &LabelSet,
+    ) -> Result<(Boxed<Net>, Seq<LabelSet>), Memory>
+        ensures net { IfOk result (λ parts. parts.0 ≡ self.net) }
+        ensures sets { IfOk result (λ parts. parts.1 ≡ self.face ++ set.now ∷ []) }
+    {
+        let (net, mut sets) = self.into_boxed(alloc)?;
+        push_copy(&mut sets, set)?;
+        Ok((net, sets))
+    }
+
+    /// Appends the net and its face.
+    fn append_to(self, nets: &mut Seq<Net>, faces: &mut Seq<Seq<LabelSet>>) -> Result<(), Memory>
+        ensures nets { OnOk result (nets.new ≡ nets.old ++ self.net ∷ []) }
+        ensures faces { OnOk result (faces.new ≡ faces.old ++ self.face ∷ []) }
+    {
+        let Faced { net, face } = self;
+        append(nets, net)?;
+        append(faces, face)
+    }
+
     /// A call of one of the boxes. Its face is the box's input variant.
     pub fn of_box(alloc: Global, place: u32, number: u32, boxes: &Boxes) -> Result<Faced, Memory>
         requires { number < length boxes.now }
         ensures net { IfOk result (λ faced. faced.net ≡ form.Box place number) }
         ensures face { IfOk result (IsFaced boxes.now) }
     {
-        let net = Net::Box { place, number };
-        let face = face(alloc, &net, boxes)?;
-        Ok(Faced { net, face })
+        let mut faced = Faced {
+            net: Net::Box { place, number },
+            face: Seq::new(alloc),
+        };
+        faced.face = face(alloc, &faced.net, boxes)?;
+        Ok(faced)
     }
 
     pub fn filter(alloc: Global, filter: Filter) -> Result<Faced, Memory>
@@ -90,10 +142,8 @@ impl Faced {
         ensures net { IfOk result (λ faced. faced.net ≡ form.Serial left.net right.net) }
         ensures face { (boxes : List BoxProgram) → IsFaced boxes left → IfOk result (IsFaced boxes) }
     {
-        let Faced { net: first, face } = left;
-        let Faced { net: second, .. } = right;
-        let left = Boxed::new(alloc, first)?;
-        let right = Boxed::new(alloc, second)?;
+        let (left, face) = left.into_boxed(alloc)?;
+        let (right, _) = right.into_boxed(alloc)?;
         Ok(Faced {
             net: Net::Serial { left, right },
             face,
@@ -135,12 +185,7 @@ impl Faced {
         ensures net { IfOk result (λ faced. faced.net ≡ form.Star place merge body.net exit guard) }
         ensures face { (boxes : List BoxProgram) → IsFaced boxes body → IfOk result (IsFaced boxes) }
     {
-        let Faced {
-            net,
-            face: mut sets,
-        } = body;
-        push_copy(&mut sets, &exit)?;
-        let body = Boxed::new(alloc, net)?;
+        let (body, sets) = body.into_boxed_with(alloc, &exit)?;
         let net = Net::Star {
             place,
             merge,
@@ -164,10 +209,9 @@ impl Faced {
         ensures net { IfOk result (λ faced. faced.net ≡ form.Split place merge body.net tag) }
         ensures face { (boxes : List BoxProgram) → IsFaced boxes body → IfOk result (IsFaced boxes) }
     {
-        let Faced { net, face } = body;
+        let (body, face) = body.into_boxed(alloc)?;
         let mut sets = Seq::new(alloc);
         push_tagged(&mut sets, tag, face.as_slice())?;
-        let body = Boxed::new(alloc, net)?;
         let net = Net::Split {
             place,
             merge,

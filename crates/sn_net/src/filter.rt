@@ -19,18 +19,34 @@ pub enum Part {
 }
 
 /// How a filter makes one record of the record that it takes.
-#[derive(Drop)]
 pub struct Template {
     pub parts: Seq<Part>,
 }
 
+/// Written out, so that a function that gives a template up calls this, and is not proved over what it is made of.
+impl Drop for Template {
+    fn drop(self) {
+        let Template { parts: _parts } = self;
+    }
+}
+
 /// Takes a record that has each label of the pattern, and answers one record for each template.
-#[derive(Drop)]
 pub struct Filter {
     /// The byte offset of its opening bracket in the source.
     pub place: u32,
     pub pattern: LabelSet,
     pub templates: Seq<Template>,
+}
+
+/// Written out as that of a template.
+impl Drop for Filter {
+    fn drop(self) {
+        let Filter {
+            place: _,
+            pattern: _pattern,
+            templates: _templates,
+        } = self;
+    }
 }
 
 /// The field with a number.
@@ -145,6 +161,17 @@ impl Template {
     }
 }
 
+fn copy_templates(alloc: Global, templates: &[Template]) -> Result<Seq<Template>, Memory>
+    ensures { IfOk result (λ copies. copies ≡ templates.now) }
+{
+    let mut copies = Seq::new(alloc);
+    for template in templates {
+        let copy = template.copy(alloc)?;
+        append(&mut copies, copy)?;
+    }
+    Ok(copies)
+}
+
 impl Filter {
     /// Whether each template takes its values from the pattern alone, and sets no label twice.
     pub fn is_closed(&self) -> bool
@@ -162,12 +189,8 @@ impl Filter {
     pub fn copy(&self, alloc: Global) -> Result<Filter, Memory>
         ensures { IfOk result (λ copy. copy ≡ self.now) }
     {
+        let templates = copy_templates(alloc, self.templates.as_slice())?;
         let pattern = self.pattern.copy()?;
-        let mut templates = Seq::new(alloc);
-        for template in self.templates.as_slice() {
-            let template = template.copy(alloc)?;
-            append(&mut templates, template)?;
-        }
         Ok(Filter {
             place: self.place,
             pattern,

@@ -85,6 +85,38 @@ fn push_guard(text: &mut Text, guard: &Option<TExpr>) -> Result<(), Memory>
     }
 }
 
+fn push_filter(text: &mut Text, pattern: &Variant, templates: &[TemplateAt]) -> Result<(), Memory>
+    ensures { OnOk result (text.new ≡ text.old ++ (codes "[" ++ (variant_text pattern.now ++ (codes " -> " ++ (joined (codes ";") (map template_text templates.now) ++ codes "]"))))) }
+{
+    text.extend_from_slice(b"[")?;
+    push_variant(text, pattern)?;
+    text.extend_from_slice(b" -> ")?;
+    push_templates(text, templates)?;
+    text.extend_from_slice(b"]")
+}
+
+fn push_sync(text: &mut Text, patterns: &[Variant]) -> Result<(), Memory>
+    ensures { OnOk result (text.new ≡ text.old ++ (codes "[|" ++ (joined (codes ",") (map variant_text patterns.now) ++ codes "|]"))) }
+{
+    text.extend_from_slice(b"[|")?;
+    push_patterns(text, patterns)?;
+    text.extend_from_slice(b"|]")
+}
+
+/// Appends what stands behind the body of a star.
+fn push_exit(
+    text: &mut Text,
+    operator: &[u8],
+    exit: &Variant,
+    guard: &Option<TExpr>,
+) -> Result<(), Memory>
+    ensures { OnOk result (text.new ≡ text.old ++ (operator.now ++ (variant_text exit.now ++ guard_text guard.now))) }
+{
+    text.extend_from_slice(operator)?;
+    push_variant(text, exit)?;
+    push_guard(text, guard)
+}
+
 /// The text of an operator, which is doubled where it is deterministic.
 fn operator<'a>(det: bool, doubled: &'a [u8], single: &'a [u8]) -> &'a [u8]
     ensures { result.now ≡ chosen det doubled.now single.now }
@@ -114,17 +146,9 @@ pub fn push_network(text: &mut Text, n: &NetExpr) -> Result<(), Memory>
         NetForm::Name(name) => text.extend_from_slice(name.text.as_slice()),
         NetForm::Identity => text.extend_from_slice(b"[]"),
         NetForm::Filter { pattern, templates } => {
-            text.extend_from_slice(b"[")?;
-            push_variant(text, pattern)?;
-            text.extend_from_slice(b" -> ")?;
-            push_templates(text, templates.as_slice())?;
-            text.extend_from_slice(b"]")
+            push_filter(text, pattern, templates.as_slice())
         }
-        NetForm::Sync { patterns } => {
-            text.extend_from_slice(b"[|")?;
-            push_patterns(text, patterns.as_slice())?;
-            text.extend_from_slice(b"|]")
-        }
+        NetForm::Sync { patterns } => push_sync(text, patterns.as_slice()),
         NetForm::Serial { parts } => push_operands(text, b" .. ", parts.as_slice()),
         NetForm::Choice { det, branches } => {
             push_operands(text, operator(*det, b" || ", b" | "), branches.as_slice())
@@ -136,9 +160,7 @@ pub fn push_network(text: &mut Text, n: &NetExpr) -> Result<(), Memory>
             guard,
         } => {
             push_operand(text, body.get())?;
-            text.extend_from_slice(operator(*det, b" ** ", b" * "))?;
-            push_variant(text, exit)?;
-            push_guard(text, guard)
+            push_exit(text, operator(*det, b" ** ", b" * "), exit, guard)
         }
         NetForm::Split { det, body, tag } => {
             push_operand(text, body.get())?;

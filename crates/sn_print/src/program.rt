@@ -3,14 +3,17 @@ ghost use Rattle.std.specs.Prelude.{◌≡◌, ◌++◌, map, codes, IfOk, OnOk}
 ghost use Rattle.std.specs.List.{flat_map};
 ghost use Rattle.sn_ast.specs.declared.label.Ident.{Ident as SomeIdent};
 ghost use Rattle.sn_print.specs.Declarations.{body_text, box_decl_text, box_sig_text, decl_text, fun_text, inner_part, net_decl_text, program_text, sig_part};
-ghost use Rattle.sn_print.specs.Labels.{tuple_text};
+ghost use Rattle.sn_print.specs.Labels.{sig_text, tuple_text, types_text};
+ghost use Rattle.sn_print.specs.Networks.{net_text};
 ghost use Rattle.sn_print.specs.Words.{joined};
 
 use crate::boxes::{push_box_expr, push_part};
 use crate::labels::{push_sig, push_tuple, push_types};
 use crate::networks::push_network;
 use crate::words::push_separator;
-use sn_ast::{BoxDecl, Decl, FunDecl, Ident, NetDecl, Program, Sig, Text, Tuple};
+use sn_ast::{
+    BoxDecl, Decl, FunDecl, Ident, NetDecl, NetExpr, Program, Sig, Text, Tuple, TypePart,
+};
 use sn_list::{Memory, Seq};
 use std::alloc::Global;
 
@@ -95,6 +98,44 @@ fn push_sig_part(text: &mut Text, sig: &Option<Sig>) -> Result<(), Memory>
     }
 }
 
+fn push_type(text: &mut Text, name: &Ident, parts: &[TypePart]) -> Result<(), Memory>
+    ensures { OnOk result (text.new ≡ text.old ++ (codes "type " ++ (name.now.text ++ (codes " = " ++ (types_text parts.now ++ codes ";"))))) }
+{
+    text.extend_from_slice(b"type ")?;
+    text.extend_from_slice(name.text.as_slice())?;
+    text.extend_from_slice(b" = ")?;
+    push_types(text, parts)?;
+    text.extend_from_slice(b";")
+}
+
+fn push_typesig(text: &mut Text, name: &Ident, sig: &Sig) -> Result<(), Memory>
+    ensures { OnOk result (text.new ≡ text.old ++ (codes "typesig " ++ (name.now.text ++ (codes " = " ++ (sig_text sig.now ++ codes ";"))))) }
+{
+    text.extend_from_slice(b"typesig ")?;
+    text.extend_from_slice(name.text.as_slice())?;
+    text.extend_from_slice(b" = ")?;
+    push_sig(text, sig)?;
+    text.extend_from_slice(b";")
+}
+
+/// Appends what stands before the inner declarations of a net.
+fn push_net_head(text: &mut Text, decl: &NetDecl) -> Result<(), Memory>
+    ensures { OnOk result (text.new ≡ text.old ++ (codes "net " ++ (decl.now.name.text ++ sig_part decl.now.sig))) }
+{
+    text.extend_from_slice(b"net ")?;
+    text.extend_from_slice(decl.name.text.as_slice())?;
+    push_sig_part(text, &decl.sig)
+}
+
+/// Appends what stands behind the inner declarations of a net.
+fn push_connect(text: &mut Text, connect: &NetExpr) -> Result<(), Memory>
+    ensures { OnOk result (text.new ≡ text.old ++ (codes " connect " ++ (net_text connect.now ++ codes ";"))) }
+{
+    text.extend_from_slice(b" connect ")?;
+    push_network(text, connect)?;
+    text.extend_from_slice(b";")
+}
+
 /// As deep in calls as nets are declared in nets.
 #[cycle(decl_text)]
 fn push_decl(text: &mut Text, decl: &Decl) -> Result<(), Memory>
@@ -103,20 +144,8 @@ fn push_decl(text: &mut Text, decl: &Decl) -> Result<(), Memory>
     match decl {
         Decl::BoxDecl(decl) => push_box(text, decl),
         Decl::NetDecl(decl) => push_net(text, decl),
-        Decl::TypeDecl { name, parts } => {
-            text.extend_from_slice(b"type ")?;
-            text.extend_from_slice(name.text.as_slice())?;
-            text.extend_from_slice(b" = ")?;
-            push_types(text, parts.as_slice())?;
-            text.extend_from_slice(b";")
-        }
-        Decl::SigDecl { name, sig } => {
-            text.extend_from_slice(b"typesig ")?;
-            text.extend_from_slice(name.text.as_slice())?;
-            text.extend_from_slice(b" = ")?;
-            push_sig(text, sig)?;
-            text.extend_from_slice(b";")
-        }
+        Decl::TypeDecl { name, parts } => push_type(text, name, parts.as_slice()),
+        Decl::SigDecl { name, sig } => push_typesig(text, name, sig),
     }
 }
 
@@ -124,13 +153,9 @@ fn push_decl(text: &mut Text, decl: &Decl) -> Result<(), Memory>
 fn push_net(text: &mut Text, decl: &NetDecl) -> Result<(), Memory>
     ensures { OnOk result (text.new ≡ text.old ++ net_decl_text decl.now) }
 {
-    text.extend_from_slice(b"net ")?;
-    text.extend_from_slice(decl.name.text.as_slice())?;
-    push_sig_part(text, &decl.sig)?;
+    push_net_head(text, decl)?;
     push_inner(text, decl.decls.as_slice())?;
-    text.extend_from_slice(b" connect ")?;
-    push_network(text, &decl.connect)?;
-    text.extend_from_slice(b";")
+    push_connect(text, &decl.connect)
 }
 
 /// Appends the inner declarations of a net in braces, or nothing where there are none.

@@ -2,7 +2,7 @@
 ghost use Rattle.std.specs.Prelude.{◌≡◌, ◌++◌, codes, OnOk};
 ghost use Rattle.sn_print.specs.Expressions.{by_rank, is_alone, operand, tag_shown, tag_text};
 
-use crate::words::{push_number, push_operator, push_tag};
+use crate::words::{operator_text, push_number, push_tag};
 use sn_ast::{TExpr, TForm, Text};
 use sn_list::Memory;
 
@@ -25,37 +25,35 @@ pub fn push_tag_expr(text: &mut Text, e: &TExpr) -> Result<(), Memory>
     match &e.form {
         TForm::Number(n) => push_number(text, *n),
         TForm::Tag(name) => push_tag(text, name.text.as_slice()),
-        TForm::Neg(e) => {
-            text.extend_from_slice(b"-")?;
-            push_operand(text, e.get())
-        }
-        TForm::Not(e) => {
-            text.extend_from_slice(b"!")?;
-            push_operand(text, e.get())
-        }
+        TForm::Neg(e) => push_led(text, b"-", e.get()),
+        TForm::Not(e) => push_led(text, b"!", e.get()),
         TForm::Op(operator, e, f) => {
             push_operand(text, e.get())?;
-            push_operator(text, *operator)?;
-            push_operand(text, f.get())
+            push_led(text, operator_text(*operator), f.get())
         }
         TForm::And(e, f) => {
             push_operand(text, e.get())?;
-            text.extend_from_slice(b" && ")?;
-            push_operand(text, f.get())
+            push_led(text, b" && ", f.get())
         }
         TForm::Or(e, f) => {
             push_operand(text, e.get())?;
-            text.extend_from_slice(b" || ")?;
-            push_operand(text, f.get())
+            push_led(text, b" || ", f.get())
         }
         TForm::Cond(c, e, f) => {
             push_operand(text, c.get())?;
-            text.extend_from_slice(b" ? ")?;
-            push_operand(text, e.get())?;
-            text.extend_from_slice(b" : ")?;
-            push_operand(text, f.get())
+            push_led(text, b" ? ", e.get())?;
+            push_led(text, b" : ", f.get())
         }
     }
+}
+
+/// Appends an operand and what stands before it.
+#[cycle(tag_text)]
+fn push_led(text: &mut Text, before: &[u8], e: &TExpr) -> Result<(), Memory>
+    ensures { OnOk result (text.new ≡ text.old ++ (before.now ++ operand (tag_shown e.now))) }
+{
+    text.extend_from_slice(before)?;
+    push_operand(text, e)
 }
 
 #[cycle(tag_text)]

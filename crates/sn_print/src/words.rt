@@ -64,21 +64,21 @@ pub fn push_tag(text: &mut Text, name: &[u8]) -> Result<(), Memory>
     text.extend_from_slice(b">")
 }
 
-/// Appends an operator, with a blank on each side.
-pub fn push_operator(text: &mut Text, operator: Operator) -> Result<(), Memory>
-    ensures { OnOk result (text.new ≡ text.old ++ operator_text operator) }
+/// The text of an operator, with a blank on each side.
+pub fn operator_text(operator: Operator) -> &'static [u8]
+    ensures { result.now ≡ operator_text operator }
 {
     match operator {
-        Operator::Add => text.extend_from_slice(b" + "),
-        Operator::Sub => text.extend_from_slice(b" - "),
-        Operator::Mul => text.extend_from_slice(b" * "),
-        Operator::Div => text.extend_from_slice(b" / "),
-        Operator::Rem => text.extend_from_slice(b" % "),
-        Operator::Lt => text.extend_from_slice(b" < "),
-        Operator::Le => text.extend_from_slice(b" <= "),
-        Operator::Gt => text.extend_from_slice(b" > "),
-        Operator::Ge => text.extend_from_slice(b" >= "),
-        Operator::Eq => text.extend_from_slice(b" == "),
-        Operator::Ne => text.extend_from_slice(b" != "),
+        Operator::Add => b" + ",
+        Operator::Sub => b" - ",
+        Operator::Mul => b" * ",
+        Operator::Div => b" / ",
+        Operator::Rem => b" % ",
+        Operator::Lt => b" < ",
+        Operator::Le => b" <= ",
+        Operator::Gt => b" > ",
+        Operator::Ge => b" >= ",
+        Operator::Eq => b" == ",
+        Operator::Ne => b" != ",
     }
 }

@@ -23,7 +23,7 @@ pub struct Signature {
 }
 
 /// A net with a signature, by their numbers. Its place is that of its name in its declaration.
-#[derive(Clone, Copy, PartialEq, Eq)]
+#[derive(Clone, Copy)]
 pub struct Pending {
     pub place: u32,
     pub net: usize,
@@ -32,7 +32,6 @@ pub struct Pending {
 
 /// What was declared so far. Types, signatures, nets and boxes are each numbered from 0 in the order in which their
 /// declarations end.
-#[derive(Drop)]
 pub struct Declarations {
     pub types: Seq<Seq<LabelSet>>,
     pub signatures: Seq<Signature>,
@@ -44,6 +43,22 @@ pub struct Declarations {
     /// The place in `claims` of that of the outermost net `main`.
     pub main: Option<usize>,
     pub refusals: Refusals,
+}
+
+/// Written out, so that a function that gives them up calls this, and is not proved over each list in them.
+impl Drop for Declarations {
+    fn drop(self) {
+        let Declarations {
+            types: _types,
+            signatures: _signatures,
+            nets: _nets,
+            boxes: _boxes,
+            scopes: _scopes,
+            claims: _claims,
+            main: _,
+            refusals: _refusals,
+        } = self;
+    }
 }
 
 impl Declarations {

@@ -1,6 +1,7 @@
 //! Filters by the numbers of their labels.
-ghost use Rattle.std.specs.Prelude.{◌≡◌, IfOk, OnOk, fold, map as each};
+ghost use Rattle.std.specs.Prelude.{◌≡◌, ◌++◌, ◌∷◌, [], IfOk, OnOk, fold, map as each};
 ghost use Rattle.std.specs.FinMap as map;
+ghost use Rattle.sn_net.specs.Filter.{target};
 ghost use Rattle.sn_scope.specs.Filters.{filter_at, filter_required, identity_at, is_between, items_required, part_at, source_required, template_at, template_required};
 
 use crate::tags::{require_tags, tag_expr};
@@ -29,6 +30,22 @@ fn part_at(alloc: Global, names: &NameTable, item: &ItemAt) -> Result<Part, Memo
         ItemSource::Field(name) => Ok(Part::Rename(target, names.number(name.text.as_slice()))),
         ItemSource::Expr(e) => Ok(Part::Compute(target, tag_expr(alloc, names, e)?)),
     }
+}
+
+/// Appends what the item sets, and answers its label.
+fn push_part(
+    alloc: Global,
+    names: &NameTable,
+    parts: &mut Seq<Part>,
+    item: &ItemAt,
+) -> Result<Label, Memory>
+    ensures parts { OnOk result (parts.new ≡ parts.old ++ part_at names.now item.now ∷ []) }
+    ensures target { IfOk result (λ label. label ≡ target (part_at names.now item.now)) }
+{
+    let part = part_at(alloc, names, item)?;
+    let target = part.target();
+    sn_stack::append(parts, part)?;
+    Ok(target)
 }
 
 /// A label is refused that the item takes a value from and the pattern doesn't have.
@@ -70,10 +87,9 @@ fn template_at(
     let mut parts = Seq::new(alloc);
     for item in template.items.as_slice() {
         require_source(names, refusals, pattern, item);
-        let part = part_at(alloc, names, item)?;
-        let fresh = set.insert(part.target())?;
+        let target = push_part(alloc, names, &mut parts, item)?;
+        let fresh = set.insert(target)?;
         refusals.require(fresh, Reason::Twice, item.target.name.at);
-        sn_stack::append(&mut parts, part)?;
     }
     Ok(Template { parts })
 }

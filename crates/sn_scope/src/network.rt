@@ -1,6 +1,10 @@
 //! Networks in which each name of a net or of a box is the number of its declaration.
-ghost use Rattle.std.specs.Prelude.{◌≡◌, IfOk, OnOk, fold, map as each};
+ghost use Rattle.std.specs.Prelude.{◌≡◌, IfOk, OnOk, fold, length, map as each};
+ghost use Rattle.sn_label_scope.specs.Labels.{variant_at, variant_required};
+ghost use Rattle.sn_scope.specs.Filters.{filter_at, filter_required, identity_at, is_between};
 ghost use Rattle.sn_scope.specs.Networks.{guard_at, guard_required, is_part, merge_of, named_at, network_at, network_required};
+ghost use Rattle.sn_scope.specs.declared.network.Component.TheVariants as form;
+ghost use Rattle.sn_scope.specs.declared.network.Network.TheVariants.{Made};
 ghost use Rattle.sn_label_scope.specs.Refusals.{required};
 ghost use Rattle.sn_scope.specs.Scopes.{meaning_of};
 ghost use Rattle.sn_label_scope.specs.declared.refusal.Reason.TheVariants as reason;
@@ -8,7 +12,7 @@ ghost use Rattle.sn_label_scope.specs.declared.refusal.Reason.TheVariants as rea
 use crate::filters::{filter_at, identity_at, is_between};
 use crate::scopes::{Meaning, Scopes};
 use crate::tags::{require_tags, tag_expr};
-use sn_ast::{Ident, NetExpr, NetForm, TExpr};
+use sn_ast::{Ident, NetExpr, NetForm, TExpr, TemplateAt, Variant};
 use sn_label_scope::{Reason, Refusals, label_set, label_sets};
 use sn_list::{Boxed, Memory, Seq};
 use sn_names::NameTable;
@@ -76,6 +80,14 @@ fn is_part(meaning: Option<Meaning>) -> bool
     }
 }
 
+/// The filter that passes each record on.
+fn identity(alloc: Global, place: u32) -> Result<Network, Memory>
+    ensures { IfOk result (λ network. network ≡ Made (form.Filter (identity_at place))) }
+{
+    let filter = identity_at(alloc, place)?;
+    Ok(Network::Made(Component::Filter(filter)))
+}
+
 /// The net that the name stands for, or a call of the box. What is neither is refused, and then a filter stands for it.
 fn named_at(
     alloc: Global,
@@ -92,9 +104,7 @@ fn named_at(
     match meaning {
         Some(Meaning::Net(number)) => Ok(Network::Named(number)),
         Some(Meaning::Box(number)) => Ok(Network::Made(Component::Box { place, number })),
-        Some(Meaning::Type(_) | Meaning::Signature(_)) | None => {
-            Ok(Network::Made(Component::Filter(identity_at(alloc, place)?)))
-        }
+        Some(Meaning::Type(_) | Meaning::Signature(_)) | None => identity(alloc, place),
     }
 }
 
@@ -118,6 +128,54 @@ fn guard_at(
     }
 }
 
+fn filter(
+    alloc: Global,
+    names: &NameTable,
+    refusals: &mut Refusals,
+    place: u32,
+    pattern: &Variant,
+    templates: &[TemplateAt],
+) -> Result<Network, Memory>
+    ensures network { IfOk result (λ network. network ≡ Made (form.Filter (filter_at names.now place pattern.now templates.now))) }
+    ensures refused { OnOk result (refusals.new ≡ filter_required names.now place pattern.now templates.now refusals.old) }
+{
+    let filter = filter_at(alloc, names, refusals, place, pattern, templates)?;
+    Ok(Network::Made(Component::Filter(filter)))
+}
+
+/// A synchrocell. Another number of patterns than 2 to 8 is refused.
+fn sync(
+    alloc: Global,
+    names: &NameTable,
+    refusals: &mut Refusals,
+    place: u32,
+    patterns: &[Variant],
+) -> Result<Network, Memory>
+    ensures network { IfOk result (λ network. network ≡ Made (form.Sync place (each (variant_at names.now) patterns.now))) }
+    ensures refused { OnOk result (refusals.new ≡ fold (variant_required names.now) (required (is_between 2 8 (length patterns.now)) reason.Arity place refusals.old) patterns.now) }
+{
+    refusals.require(is_between(2, 8, patterns.len()), Reason::Arity, place);
+    let patterns = label_sets(alloc, names, refusals, patterns)?;
+    Ok(Network::Made(Component::Sync { place, patterns }))
+}
+
+/// The exit pattern of a star, and its guard.
+fn exit_at(
+    alloc: Global,
+    names: &NameTable,
+    refusals: &mut Refusals,
+    exit: &Variant,
+    guard: &Option<TExpr>,
+) -> Result<(LabelSet, Option<TagExpr>), Memory>
+    ensures exit { IfOk result (λ made. made.0 ≡ variant_at names.now exit.now) }
+    ensures guard { IfOk result (λ made. made.1 ≡ guard_at names.now guard.now) }
+    ensures refused { OnOk result (refusals.new ≡ guard_required names.now (variant_at names.now exit.now) guard.now (variant_required names.now refusals.old exit.now)) }
+{
+    let exit = label_set(alloc, names, refusals, exit.labels.as_slice())?;
+    let guard = guard_at(alloc, names, refusals, &exit, guard)?;
+    Ok((exit, guard))
+}
+
 /// The network with each name of a net or of a box by the number of that, and each label by the number of its name. As
 /// deep in calls as the network is high.
 #[cycle(network_at)]
@@ -128,22 +186,16 @@ pub fn network_at(
     refusals: &mut Refusals,
     network: &NetExpr,
 ) -> Result<Network, Memory>
-    ensures network { IfOk result (λ made. made ≡ network_at names.now scopes.now network.now) }
-    ensures refused { OnOk result (refusals.new ≡ network_required names.now scopes.now network.now refusals.old) }
+    ensures { IfOk result (λ made. (made ≡ network_at names.now scopes.now network.now) × (refusals.new ≡ network_required names.now scopes.now network.now refusals.old)) }
 {
     let place = network.at;
     match &network.form {
         NetForm::Name(name) => named_at(alloc, scopes, refusals, name),
-        NetForm::Identity => Ok(Network::Made(Component::Filter(identity_at(alloc, place)?))),
+        NetForm::Identity => identity(alloc, place),
         NetForm::Filter { pattern, templates } => {
-            let filter = filter_at(alloc, names, refusals, place, pattern, templates.as_slice())?;
-            Ok(Network::Made(Component::Filter(filter)))
+            filter(alloc, names, refusals, place, pattern, templates.as_slice())
         }
-        NetForm::Sync { patterns } => {
-            refusals.require(is_between(2, 8, patterns.len()), Reason::Arity, place);
-            let patterns = label_sets(alloc, names, refusals, patterns.as_slice())?;
-            Ok(Network::Made(Component::Sync { place, patterns }))
-        }
+        NetForm::Sync { patterns } => sync(alloc, names, refusals, place, patterns.as_slice()),
         NetForm::Serial { parts } => {
             let parts = networks_at(alloc, names, scopes, refusals, parts.as_slice())?;
             Ok(Network::Made(Component::Serial(parts)))
@@ -151,10 +203,9 @@ pub fn network_at(
         NetForm::Choice { det, branches } => {
             refusals.require(is_between(2, 64, branches.len()), Reason::Arity, place);
             let branches = networks_at(alloc, names, scopes, refusals, branches.as_slice())?;
-            let merge = merge_of(*det);
             Ok(Network::Made(Component::Choice {
                 place,
-                merge,
+                merge: merge_of(*det),
                 branches,
             }))
         }
@@ -165,12 +216,10 @@ pub fn network_at(
             guard,
         } => {
             let body = boxed_at(alloc, names, scopes, refusals, body.get())?;
-            let exit = label_set(alloc, names, refusals, exit.labels.as_slice())?;
-            let guard = guard_at(alloc, names, refusals, &exit, guard)?;
-            let merge = merge_of(*det);
+            let (exit, guard) = exit_at(alloc, names, refusals, exit, guard)?;
             Ok(Network::Made(Component::Star {
                 place,
-                merge,
+                merge: merge_of(*det),
                 body,
                 exit,
                 guard,
@@ -178,13 +227,11 @@ pub fn network_at(
         }
         NetForm::Split { det, body, tag } => {
             let body = boxed_at(alloc, names, scopes, refusals, body.get())?;
-            let tag = names.number(tag.text.as_slice());
-            let merge = merge_of(*det);
             Ok(Network::Made(Component::Split {
                 place,
-                merge,
+                merge: merge_of(*det),
                 body,
-                tag,
+                tag: names.number(tag.text.as_slice()),
             }))
         }
     }
@@ -198,8 +245,7 @@ fn boxed_at(
     refusals: &mut Refusals,
     network: &NetExpr,
 ) -> Result<Boxed<Network>, Memory>
-    ensures network { IfOk result (λ made. made ≡ network_at names.now scopes.now network.now) }
-    ensures refused { OnOk result (refusals.new ≡ network_required names.now scopes.now network.now refusals.old) }
+    ensures { IfOk result (λ made. (made ≡ network_at names.now scopes.now network.now) × (refusals.new ≡ network_required names.now scopes.now network.now refusals.old)) }
 {
     Boxed::new(alloc, network_at(alloc, names, scopes, refusals, network)?)
 }
@@ -212,8 +258,7 @@ fn networks_at(
     refusals: &mut Refusals,
     networks: &[NetExpr],
 ) -> Result<Seq<Network>, Memory>
-    ensures networks { IfOk result (λ made. made ≡ each (network_at names.now scopes.now) networks.now) }
-    ensures refused { OnOk result (refusals.new ≡ fold (λ least check. check least) refusals.old (each (network_required names.now scopes.now) networks.now)) }
+    ensures { IfOk result (λ made. (made ≡ each (network_at names.now scopes.now) networks.now) × (refusals.new ≡ fold (λ least check. check least) refusals.old (each (network_required names.now scopes.now) networks.now))) }
 {
     let mut made = Seq::new(alloc);
     for network in networks {

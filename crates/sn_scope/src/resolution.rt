@@ -1,7 +1,7 @@
 //! From a program to its boxes and its claims.
-ghost use Rattle.std.specs.Prelude.{◌≡◌, ◌⊎◌, IfOk, IfErr, IfSome, [], Ok, Err};
+ghost use Rattle.std.specs.Prelude.{◌≡◌, ◌⊎◌, ◌<◌, ℕ, List, IfOk, IfErr, IfSome, [], Ok, Err, Some, None, length};
 ghost use Rattle.sn_scope.specs.Claims.{IsClaim};
-ghost use Rattle.sn_scope.specs.Resolution.{fault_at, parts_of, resolution, with_main};
+ghost use Rattle.sn_scope.specs.Resolution.{fault_at, parts_of, resolution, resolved, with_main};
 ghost use Rattle.sn_scope.specs.Trees.{claims_within, most_nodes, signature_at};
 ghost use Rattle.sn_scope.specs.declared.resolution.ScopeFault.TheVariants as cause;
 
@@ -25,7 +25,7 @@ const MOST_LEVELS: u32 = 256;
 const MOST_NODES: usize = 65_536;
 
 /// Why a program is not resolved. A place is a byte offset in the source.
-#[derive(Clone, Copy, PartialEq, Eq, Debug)]
+#[derive(Clone, Copy, Debug)]
 pub enum ScopeFault {
     /// A name that isn't visible or isn't of the kind wanted, or a label that its pattern doesn't have. In a box: a name that is
     /// no variable there, or a call of no function.
@@ -107,7 +107,7 @@ fn claim(
             let (input, output) = types_of(alloc, declarations, pending.signature)?;
             Ok(Some(Claim {
                 place: pending.place,
-                net: faced.net,
+                net: faced.into_net(),
                 input,
                 output,
             }))
@@ -131,6 +131,38 @@ fn claims(alloc: Global, declarations: &Declarations) -> Result<Result<Seq<Claim
     Ok(Ok(made))
 }
 
+/// The place of the program's claim among the claims.
+fn main_of(declarations: &Declarations) -> Result<u32, ScopeFault>
+    ensures ok { IfOk result (λ main. declarations.now.main ≡ Some main) }
+    ensures refused { IfErr result (λ fault. (fault ≡ cause.Memory) ⊎ ((declarations.now.main ≡ None) × (fault ≡ cause.NoMain))) }
+{
+    let Some(main) = declarations.main else {
+        return Err(ScopeFault::NoMain);
+    };
+    // So many claims do not fit into memory.
+    let Ok(main) = u32::try_from(main) else {
+        return Err(ScopeFault::Memory);
+    };
+    Ok(main)
+}
+
+/// The claims with their trees, where the program's is one of them.
+fn claims_with(
+    alloc: Global,
+    declarations: &Declarations,
+    main: u32,
+) -> Result<Seq<Claim>, ScopeFault>
+    ensures ok { IfOk result (λ claims. (claims_within declarations.now most_nodes declarations.now.claims ≡ Ok claims) × (main < length claims)) }
+    ensures refused { IfErr result (λ fault. (fault ≡ cause.Memory) ⊎ ((names : List (List ℕ)) → resolved names declarations.now.boxes main (claims_within declarations.now most_nodes declarations.now.claims) ≡ Err fault)) }
+{
+    match claims(alloc, declarations)? {
+        Ok(claims) if (main as usize) < claims.len() => Ok(claims),
+        // A claim's place among the claims is noted as the claim is, so there is one.
+        Ok(_) => Err(ScopeFault::NoMain),
+        Err(place) => Err(ScopeFault::TooLarge(place)),
+    }
+}
+
 /// What is left to decide where nothing is refused at a place. Takes the boxes out of the declarations.
 fn finish(
     alloc: Global,
@@ -140,29 +172,18 @@ fn finish(
     ensures ok { IfOk result (λ parts. with_main names declarations.old declarations.old.main ≡ Ok parts) }
     ensures refused { IfErr result (λ fault. (fault ≡ cause.Memory) ⊎ (with_main names declarations.old declarations.old.main ≡ Err fault)) }
 {
-    let Some(main) = declarations.main else {
-        return Err(ScopeFault::NoMain);
-    };
-    // So many claims do not fit into memory.
-    let Ok(main) = u32::try_from(main) else {
-        return Err(ScopeFault::Memory);
-    };
+    let main = main_of(declarations)?;
     let Ok(names) = Names::from_table(names) else {
         return Err(ScopeFault::TooManyNames);
     };
-    let claims = claims(alloc, declarations)?;
+    let claims = claims_with(alloc, declarations, main)?;
     let boxes = replace(&mut declarations.boxes, Seq::new(alloc));
-    match claims {
-        Ok(claims) if (main as usize) < claims.len() => Ok(Parts {
-            names,
-            boxes,
-            claims,
-            main,
-        }),
-        // A claim's place among the claims is noted as the claim is, so there is one.
-        Ok(_) => Err(ScopeFault::NoMain),
-        Err(place) => Err(ScopeFault::TooLarge(place)),
-    }
+    Ok(Parts {
+        names,
+        boxes,
+        claims,
+        main,
+    })
 }
 
 /// Resolves the names of a program: labels are numbered, each name of a net in a network is replaced by a copy of that

@@ -10,7 +10,7 @@ use std::mem::replace;
 
 /// What a name was declared as: the number of a type, a signature, a net or a box, from 0 in the order of their
 /// declarations.
-#[derive(Clone, Copy, PartialEq, Eq)]
+#[derive(Clone, Copy)]
 pub enum Meaning {
     Type(usize),
     Signature(usize),

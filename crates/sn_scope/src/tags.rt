@@ -17,6 +17,21 @@ fn boxed_expr(alloc: Global, names: &NameTable, e: &TExpr) -> Result<Boxed<TagEx
     Boxed::new(alloc, tag_expr(alloc, names, e)?)
 }
 
+#[cycle(tag_expr)]
+fn boxed_pair(
+    alloc: Global,
+    names: &NameTable,
+    left: &TExpr,
+    right: &TExpr,
+) -> Result<(Boxed<TagExpr>, Boxed<TagExpr>), Memory>
+    ensures left { IfOk result (λ pair. pair.0 ≡ tag_expr names.now left.now) }
+    ensures right { IfOk result (λ pair. pair.1 ≡ tag_expr names.now right.now) }
+{
+    let left = boxed_expr(alloc, names, left)?;
+    let right = boxed_expr(alloc, names, right)?;
+    Ok((left, right))
+}
+
 /// The expression with each tag by its number. As deep in calls as the expression is high.
 #[cycle(tag_expr)]
 pub fn tag_expr(alloc: Global, names: &NameTable, e: &TExpr) -> Result<TagExpr, Memory>
@@ -27,24 +42,23 @@ pub fn tag_expr(alloc: Global, names: &NameTable, e: &TExpr) -> Result<TagExpr, 
         TForm::Tag(tag) => Ok(TagExpr::Tag(names.number(tag.text.as_slice()))),
         TForm::Neg(part) => Ok(TagExpr::Neg(boxed_expr(alloc, names, part.get())?)),
         TForm::Not(part) => Ok(TagExpr::Not(boxed_expr(alloc, names, part.get())?)),
-        TForm::Op(operator, left, right) => Ok(TagExpr::Op(
-            bin_op(*operator),
-            boxed_expr(alloc, names, left.get())?,
-            boxed_expr(alloc, names, right.get())?,
-        )),
-        TForm::And(left, right) => Ok(TagExpr::And(
-            boxed_expr(alloc, names, left.get())?,
-            boxed_expr(alloc, names, right.get())?,
-        )),
-        TForm::Or(left, right) => Ok(TagExpr::Or(
-            boxed_expr(alloc, names, left.get())?,
-            boxed_expr(alloc, names, right.get())?,
-        )),
-        TForm::Cond(test, left, right) => Ok(TagExpr::Cond(
-            boxed_expr(alloc, names, test.get())?,
-            boxed_expr(alloc, names, left.get())?,
-            boxed_expr(alloc, names, right.get())?,
-        )),
+        TForm::Op(operator, left, right) => {
+            let (left, right) = boxed_pair(alloc, names, left.get(), right.get())?;
+            Ok(TagExpr::Op(bin_op(*operator), left, right))
+        }
+        TForm::And(left, right) => {
+            let (left, right) = boxed_pair(alloc, names, left.get(), right.get())?;
+            Ok(TagExpr::And(left, right))
+        }
+        TForm::Or(left, right) => {
+            let (left, right) = boxed_pair(alloc, names, left.get(), right.get())?;
+            Ok(TagExpr::Or(left, right))
+        }
+        TForm::Cond(test, left, right) => {
+            let test = boxed_expr(alloc, names, test.get())?;
+            let (left, right) = boxed_pair(alloc, names, left.get(), right.get())?;
+            Ok(TagExpr::Cond(test, left, right))
+        }
     }
 }
 

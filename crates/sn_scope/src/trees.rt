@@ -1,13 +1,19 @@
 //! The trees of claims: each name of a net stands for a copy of that net's tree.
 //!
 //! A node takes its room before it is made, so a tree that is too large costs no more than one that fits.
-ghost use Rattle.std.specs.Prelude.{◌≡◌, ℕ, suc, IfOk, IsTrue, IsFalse, map as each};
+ghost use Rattle.std.specs.Prelude.{◌≡◌, ℕ, suc, IfOk, IsTrue, IsFalse, List, Option, Some, map as each};
+ghost use Rattle.std.specs.Option.{option_map};
+ghost use Rattle.sn_net.specs.Face.{face};
+ghost use Rattle.sn_net.specs.declared.expr.BoxProgram.{BoxProgram};
+ghost use Rattle.sn_net.specs.declared.net.Net.{Net as SomeNet};
+ghost use Rattle.sn_net.specs.declared.net.Net.TheVariants as form;
 ghost use Rattle.sn_scope.specs.Built.{AreBuilt, IsBuilt, narrowed, node_of, part_of, parts_of, rest_of, series_of};
 ghost use Rattle.sn_scope.specs.Trees.{all_some, call, tree};
 
 use crate::network::{Component, Network};
 use sn_list::{Memory, Seq};
-use sn_net::{Boxes, Faced, TagExpr, copy_sets};
+use sn_net::{Boxes, Faced, Filter, Merge, TagExpr, copy_sets};
+use sn_record::LabelSet;
 use std::alloc::Global;
 
 const MOST_VARIANTS: usize = 1024;
@@ -88,22 +94,16 @@ fn node(
 {
     match component {
         Component::Box { place, number } => call(alloc, boxes, *place, *number),
-        Component::Filter(filter) => Ok(Some(Faced::filter(alloc, filter.copy(alloc)?)?)),
-        Component::Sync { place, patterns } => {
-            let patterns = copy_sets(alloc, patterns.as_slice())?;
-            Ok(Some(Faced::sync(alloc, *place, patterns)?))
-        }
+        Component::Filter(filter) => filter_node(alloc, filter),
+        Component::Sync { place, patterns } => sync_node(alloc, *place, patterns.as_slice()),
         Component::Serial(parts) => series(alloc, boxes, nets, parts.as_slice(), levels, room),
         Component::Choice {
             place,
             merge,
             branches,
         } => {
-            let built = trees(alloc, boxes, nets, branches.as_slice(), levels, room)?;
-            let Some(branches) = built else {
-                return Ok(None);
-            };
-            Ok(Some(Faced::choice(alloc, *place, *merge, branches)?))
+            let branches = trees(alloc, boxes, nets, branches.as_slice(), levels, room)?;
+            choice_over(alloc, *place, *merge, branches)
         }
         Component::Star {
             place,
@@ -112,13 +112,8 @@ fn node(
             exit,
             guard,
         } => {
-            let built = part(alloc, boxes, nets, body.get(), levels, room)?;
-            let Some(body) = built else {
-                return Ok(None);
-            };
-            let exit = exit.copy()?;
-            let guard = copy_guard(alloc, guard)?;
-            Ok(Some(Faced::star(alloc, *place, *merge, body, exit, guard)?))
+            let body = part(alloc, boxes, nets, body.get(), levels, room)?;
+            star_over(alloc, *place, *merge, body, exit, guard)
         }
         Component::Split {
             place,
@@ -126,11 +121,8 @@ fn node(
             body,
             tag,
         } => {
-            let built = part(alloc, boxes, nets, body.get(), levels, room)?;
-            let Some(body) = built else {
-                return Ok(None);
-            };
-            Ok(Some(Faced::split(alloc, *place, *merge, body, *tag)?))
+            let body = part(alloc, boxes, nets, body.get(), levels, room)?;
+            split_over(alloc, *place, *merge, body, *tag)
         }
     }
 }
@@ -143,6 +135,74 @@ fn call(alloc: Global, boxes: &Boxes, place: u32, number: u32) -> Result<Option<
         return Ok(None);
     }
     Ok(Some(Faced::of_box(alloc, place, number, boxes)?))
+}
+
+/// A filter, whose room is taken.
+fn filter_node(alloc: Global, filter: &Filter) -> Result<Option<Faced>, Memory>
+    ensures { IfOk result (λ built. (boxes : List BoxProgram) (room : ℕ) → IsBuilt boxes (Some (form.Filter filter.now)) (suc room) room built) }
+{
+    let copy = filter.copy(alloc)?;
+    Ok(Some(Faced::filter(alloc, copy)?))
+}
+
+/// A synchrocell, whose room is taken.
+fn sync_node(alloc: Global, place: u32, patterns: &[LabelSet]) -> Result<Option<Faced>, Memory>
+    ensures { IfOk result (λ built. (boxes : List BoxProgram) (room : ℕ) → IsBuilt boxes (Some (form.Sync place patterns.now)) (suc room) room built) }
+{
+    let copies = copy_sets(alloc, patterns)?;
+    Ok(Some(Faced::sync(alloc, place, copies)?))
+}
+
+/// A choice over its branches, whose own room is taken, where all of them are built.
+fn choice_over(
+    alloc: Global,
+    place: u32,
+    merge: Merge,
+    branches: Option<Seq<Faced>>,
+) -> Result<Option<Faced>, Memory>
+    ensures { IfOk result (λ built. (boxes : List BoxProgram) (defined : Option (List SomeNet)) (old new : ℕ) → AreBuilt boxes defined old new branches → IsBuilt boxes (option_map (λ nets. form.Choice place merge nets (each (face boxes) nets)) defined) (suc old) new built) }
+{
+    match branches {
+        Some(branches) => Ok(Some(Faced::choice(alloc, place, merge, branches)?)),
+        None => Ok(None),
+    }
+}
+
+/// A star over its body, whose own room is taken, where that is built.
+fn star_over(
+    alloc: Global,
+    place: u32,
+    merge: Merge,
+    body: Option<Faced>,
+    exit: &LabelSet,
+    guard: &Option<TagExpr>,
+) -> Result<Option<Faced>, Memory>
+    ensures { IfOk result (λ built. (boxes : List BoxProgram) (defined : Option SomeNet) (old new : ℕ) → IsBuilt boxes defined old new body → IsBuilt boxes (option_map (λ tree. form.Star place merge tree exit.now guard.now) defined) (suc old) new built) }
+{
+    match body {
+        Some(body) => {
+            let guard = copy_guard(alloc, guard)?;
+            let exit = exit.copy()?;
+            Ok(Some(Faced::star(alloc, place, merge, body, exit, guard)?))
+        }
+        None => Ok(None),
+    }
+}
+
+/// A split over its body, whose own room is taken, where that is built.
+fn split_over(
+    alloc: Global,
+    place: u32,
+    merge: Merge,
+    body: Option<Faced>,
+    tag: u32,
+) -> Result<Option<Faced>, Memory>
+    ensures { IfOk result (λ built. (boxes : List BoxProgram) (defined : Option SomeNet) (old new : ℕ) → IsBuilt boxes defined old new body → IsBuilt boxes (option_map (λ tree. form.Split place merge tree tag) defined) (suc old) new built) }
+{
+    match body {
+        Some(body) => Ok(Some(Faced::split(alloc, place, merge, body, tag)?)),
+        None => Ok(None),
+    }
 }
 
 fn copy_guard(alloc: Global, guard: &Option<TagExpr>) -> Result<Option<TagExpr>, Memory>

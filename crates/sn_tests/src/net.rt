@@ -113,7 +113,8 @@ fn choice_of(alloc: Global, labels: &[Label]) -> Result<Faced, Memory> {
 #[test]
 fn a_net_is_made_beside_its_face(rt: HostRuntime) -> Result<(), Fail> {
     let choice = choice_of(rt.alloc(), &[T, A, T])?;
-    let Faced { face, .. } = Faced::split(rt.alloc(), 0, Merge::Free, choice, 1)?;
+    let split = Faced::split(rt.alloc(), 0, Merge::Free, choice, 1)?;
+    let face = &split.face;
     assert_eq!(rt; face.len(), 2);
     assert!(rt; face.at(0).contains(A) && face.at(0).contains(T) && !face.at(1).contains(A));
     Ok(())

@@ -1,11 +1,11 @@
-use Rattle.std.proofs.Common.{◌≡◌, suc, ◌+◌, ◌-◌, ◌<◌, ◌≤◌, ◌∷◌, length, drop, take, map, None, IfOk, rules, sym, ap, ◌∙◌, subst, arith}
+use Rattle.std.proofs.Common.{◌≡◌, suc, ◌+◌, ◌-◌, ◌<◌, ◌≤◌, ◌∷◌, length, drop, take, map, None, Some, IfOk, rules, sym, ap, ◌∙◌, subst, arith}
 use Rattle.std.proofs.lemmas.List.{drop_more, length-drop, take_all}
 use Rattle.std.proofs.lemmas.Result.{IfOk-weaker}
 use Rattle.sn_net.specs.declared.net.Net.TheVariants as net
-use Rattle.sn_scope.specs.Built.{AreBuilt, AreMade, IsBuilt, IsMade, node_of, part_of, parts_of, rest_of}
+use Rattle.sn_scope.specs.Built.{AreBuilt, IsBuilt, IsMade, node_of, part_of, parts_of, rest_of}
 use Rattle.sn_scope.specs.Trees.{all_some}
 use Rattle.sn_scope.specs.declared.network.Component.TheVariants as component
-use Rattle.sn_scope.proofs.Building.{choice_built, drop_past, filter_built, partly_done, partly_unbuilt, right_unbuilt, serial_built, split_built, star_built, sync_built, tree_built}
+use Rattle.sn_scope.proofs.Building.{drop_past, partly_done, partly_unbuilt, right_unbuilt, serial_built, tree_built}
 use Rattle.sn_scope.proofs.Levels.{node-Box, node-Choice, node-Filter, node-Serial, node-Split, node-Star, node-Sync, part-Named, part-past, series-rest}
 use Rattle.sn_scope.proofs.trees.+tree.Goals as goal
 
@@ -17,65 +17,63 @@ node-returns-in-Box t c =
     subst (λ d. IfOk c.call.result (IsBuilt boxes d (suc c.args.room.now) c.args.room.now)) (sym (ap (node_of boxes levels nets) c.in-Box.is ∙ node-Box boxes (part_of boxes levels nets) (parts_of boxes levels nets) c.in-Box.place c.in-Box.number))
     (IfOk-weaker c.call.result _ _ (λ built all. all c.args.room.now) c.call.ensures)
 
-pub node-returns-in_ok-filter-in-Filter : goal.node-returns-in_ok-filter-in-Filter
-node-returns-in_ok-filter-in-Filter t c =
+pub node-returns-in-Filter : goal.node-returns-in-Filter
+node-returns-in-Filter t c =
     let boxes = c.args.boxes.now in
     let levels = c.args.levels in
     let nets = c.args.nets.now in
-    let faced = c.in_ok-filter-in-Filter.field-0 in
-    subst (λ d. IsMade boxes d (suc c.args.room.now) c.args.room.now faced) (sym (ap (node_of boxes levels nets) c.in-Filter.is ∙ node-Filter boxes (part_of boxes levels nets) (parts_of boxes levels nets) c.in-Filter.filter))
-    (filter_built boxes c.in-Filter.filter c.args.room.now faced (c.in_ok-filter-in-Filter.ensures.net ∙ ap net.Filter c.in_ok-copy-in-Filter.ensures) (c.in_ok-filter-in-Filter.ensures.face boxes))
+    subst (λ d. IfOk c.filter_node.result (IsBuilt boxes d (suc c.args.room.now) c.args.room.now)) (sym (ap (node_of boxes levels nets) c.in-Filter.is ∙ node-Filter boxes (part_of boxes levels nets) (parts_of boxes levels nets) c.in-Filter.filter))
+    (IfOk-weaker c.filter_node.result _ _ (λ built all. all boxes c.args.room.now) c.filter_node.ensures)
 
-pub node-returns-in_ok-sync-in-Sync : goal.node-returns-in_ok-sync-in-Sync
-node-returns-in_ok-sync-in-Sync t c =
+pub node-returns-in-Sync : goal.node-returns-in-Sync
+node-returns-in-Sync t c =
     let boxes = c.args.boxes.now in
     let levels = c.args.levels in
     let nets = c.args.nets.now in
-    let faced = c.in_ok-sync-in-Sync.field-0 in
-    subst (λ d. IsMade boxes d (suc c.args.room.now) c.args.room.now faced) (sym (ap (node_of boxes levels nets) c.in-Sync.is ∙ node-Sync boxes (part_of boxes levels nets) (parts_of boxes levels nets) c.in-Sync.place c.in-Sync.patterns))
-    (sync_built boxes c.in-Sync.place c.in-Sync.patterns c.args.room.now faced (c.in_ok-sync-in-Sync.ensures.net ∙ ap (net.Sync c.in-Sync.place) (c.in_ok-patterns-in-Sync.ensures ∙ c.as_slice.ensures)) (c.in_ok-sync-in-Sync.ensures.face boxes))
+    subst (λ d. IfOk c.sync_node.result (IsBuilt boxes d (suc c.args.room.now) c.args.room.now))
+    (sym
+    (ap (node_of boxes levels nets) c.in-Sync.is ∙ node-Sync boxes (part_of boxes levels nets) (parts_of boxes levels nets) c.in-Sync.place c.in-Sync.patterns
+    ∙ ap (λ patterns. Some (net.Sync c.in-Sync.place patterns)) (sym c.as_slice.ensures)))
+    (IfOk-weaker c.sync_node.result _ _ (λ built all. all boxes c.args.room.now) c.sync_node.ensures)
 
-pub node-returns-in_ok-choice-in-Choice : goal.node-returns-in_ok-choice-in-Choice
-node-returns-in_ok-choice-in-Choice t c =
+pub node-returns-in_ok-branches-in-Choice : goal.node-returns-in_ok-branches-in-Choice
+node-returns-in_ok-branches-in-Choice t c =
     let boxes = c.args.boxes.now in
     let levels = c.args.levels in
     let nets = c.args.nets.now in
-    let faced = c.in_ok-choice-in-Choice.field-0 in
     let part = part_of boxes levels nets in
-    let made : AreMade boxes (all_some (map part c.in-Choice.branches)) c.args.room.now c.trees.new.room c.in-Some.branches =
-    subst (λ b. AreBuilt boxes (all_some (map part c.in-Choice.branches)) c.args.room.now c.trees.new.room b) c.in-Some.is
-    (subst (λ bs. AreBuilt boxes (all_some (map part bs)) c.args.room.now c.trees.new.room c.in_ok-built-in-Choice.built) c.as_slice-in-Choice.ensures c.in_ok-built-in-Choice.ensures) in
-    subst (λ d. IsMade boxes d (suc c.args.room.now) c.trees.new.room faced) (sym (ap (node_of boxes levels nets) c.in-Choice.is ∙ node-Choice boxes part (parts_of boxes levels nets) c.in-Choice.place c.in-Choice.merge c.in-Choice.branches))
-    (choice_built boxes c.in-Choice.place c.in-Choice.merge _ c.args.room.now c.trees.new.room c.in-Some.branches faced made c.in_ok-choice-in-Choice.ensures.net (c.in_ok-choice-in-Choice.ensures.face boxes made.beside))
+    let branches = c.in_ok-branches-in-Choice.branches in
+    let built : AreBuilt boxes (all_some (map part c.in-Choice.branches)) c.args.room.now c.trees.new.room branches =
+    subst (λ bs. AreBuilt boxes (all_some (map part bs)) c.args.room.now c.trees.new.room branches) c.as_slice-in-Choice.ensures c.in_ok-branches-in-Choice.ensures in
+    subst (λ d. IfOk c.choice_over.result (IsBuilt boxes d (suc c.args.room.now) c.trees.new.room))
+    (sym (ap (node_of boxes levels nets) c.in-Choice.is ∙ node-Choice boxes part (parts_of boxes levels nets) c.in-Choice.place c.in-Choice.merge c.in-Choice.branches))
+    (IfOk-weaker c.choice_over.result _ _ (λ made all. all boxes (all_some (map part c.in-Choice.branches)) c.args.room.now c.trees.new.room built) c.choice_over.ensures)
 
-pub node-returns-in_ok-star-in-Star : goal.node-returns-in_ok-star-in-Star
-node-returns-in_ok-star-in-Star t c =
+pub node-returns-in_ok-body-in-Star : goal.node-returns-in_ok-body-in-Star
+node-returns-in_ok-body-in-Star t c =
     let boxes = c.args.boxes.now in
     let levels = c.args.levels in
     let nets = c.args.nets.now in
-    let faced = c.in_ok-star-in-Star.field-0 in
     let part = part_of boxes levels nets in
-    let made : IsMade boxes (part c.in-Star.body) c.args.room.now c.part.new.room c.in-Some-built.body =
-    subst (λ b. IsBuilt boxes (part c.in-Star.body) c.args.room.now c.part.new.room b) c.in-Some-built.is
-    (subst (λ body. IsBuilt boxes (part body) c.args.room.now c.part.new.room c.in_ok-built-in-Star.built) c.get.ensures c.in_ok-built-in-Star.ensures) in
-    subst (λ d. IsMade boxes d (suc c.args.room.now) c.part.new.room faced) (sym (ap (node_of boxes levels nets) c.in-Star.is ∙ node-Star boxes part (parts_of boxes levels nets) c.in-Star.place c.in-Star.merge c.in-Star.body c.in-Star.exit c.in-Star.guard))
-    (star_built boxes c.in-Star.place c.in-Star.merge c.in-Star.exit c.in-Star.guard _ c.args.room.now c.part.new.room c.in-Some-built.body faced made
-    (c.in_ok-star-in-Star.ensures.net ∙ ap (λ exit. net.Star c.in-Star.place c.in-Star.merge c.in-Some-built.body.net exit c.in_ok-guard-in-Star.guard) c.in_ok-exit-in-Star.ensures
-    ∙ ap (net.Star c.in-Star.place c.in-Star.merge c.in-Some-built.body.net c.in-Star.exit) c.in_ok-guard-in-Star.ensures)
-    (c.in_ok-star-in-Star.ensures.face boxes made.beside))
+    let body = c.in_ok-body-in-Star.body in
+    let built : IsBuilt boxes (part c.in-Star.body) c.args.room.now c.part.new.room body =
+    subst (λ b. IsBuilt boxes (part b) c.args.room.now c.part.new.room body) c.get.ensures c.in_ok-body-in-Star.ensures in
+    subst (λ d. IfOk c.star_over.result (IsBuilt boxes d (suc c.args.room.now) c.part.new.room))
+    (sym (ap (node_of boxes levels nets) c.in-Star.is ∙ node-Star boxes part (parts_of boxes levels nets) c.in-Star.place c.in-Star.merge c.in-Star.body c.in-Star.exit c.in-Star.guard))
+    (IfOk-weaker c.star_over.result _ _ (λ made all. all boxes (part c.in-Star.body) c.args.room.now c.part.new.room built) c.star_over.ensures)
 
-pub node-returns-in_ok-split-in-Split : goal.node-returns-in_ok-split-in-Split
-node-returns-in_ok-split-in-Split t c =
+pub node-returns-in_ok-body-in-Split : goal.node-returns-in_ok-body-in-Split
+node-returns-in_ok-body-in-Split t c =
     let boxes = c.args.boxes.now in
     let levels = c.args.levels in
     let nets = c.args.nets.now in
-    let faced = c.in_ok-split-in-Split.field-0 in
     let part = part_of boxes levels nets in
-    let made : IsMade boxes (part c.in-Split.body) c.args.room.now c.part-in-Split.new.room c.in-Some-built-2.body =
-    subst (λ b. IsBuilt boxes (part c.in-Split.body) c.args.room.now c.part-in-Split.new.room b) c.in-Some-built-2.is
-    (subst (λ body. IsBuilt boxes (part body) c.args.room.now c.part-in-Split.new.room c.in_ok-built-in-Split.built) c.get-in-Split.ensures c.in_ok-built-in-Split.ensures) in
-    subst (λ d. IsMade boxes d (suc c.args.room.now) c.part-in-Split.new.room faced) (sym (ap (node_of boxes levels nets) c.in-Split.is ∙ node-Split boxes part (parts_of boxes levels nets) c.in-Split.place c.in-Split.merge c.in-Split.body c.in-Split.tag))
-    (split_built boxes c.in-Split.place c.in-Split.merge c.in-Split.tag _ c.args.room.now c.part-in-Split.new.room c.in-Some-built-2.body faced made c.in_ok-split-in-Split.ensures.net (c.in_ok-split-in-Split.ensures.face boxes made.beside))
+    let body = c.in_ok-body-in-Split.body in
+    let built : IsBuilt boxes (part c.in-Split.body) c.args.room.now c.part-in-Split.new.room body =
+    subst (λ b. IsBuilt boxes (part b) c.args.room.now c.part-in-Split.new.room body) c.get-in-Split.ensures c.in_ok-body-in-Split.ensures in
+    subst (λ d. IfOk c.split_over.result (IsBuilt boxes d (suc c.args.room.now) c.part-in-Split.new.room))
+    (sym (ap (node_of boxes levels nets) c.in-Split.is ∙ node-Split boxes part (parts_of boxes levels nets) c.in-Split.place c.in-Split.merge c.in-Split.body c.in-Split.tag))
+    (IfOk-weaker c.split_over.result _ _ (λ made all. all boxes (part c.in-Split.body) c.args.room.now c.part-in-Split.new.room built) c.split_over.ensures)
 
 pub part-returns-then-number-nets : goal.part-returns-then-number-nets
 part-returns-then-number-nets t c =

@@ -6,5 +6,5 @@ use Rattle.sn_net.proofs.faced.Faced.star.Goals as goal
 pub returns-clause-face : goal.returns-clause-face
 returns-clause-face c boxes faced =
     c.ascending.ensures
-    ∙ ap ascending (c.in_ok-push_copy.ensures ∙ ap (λ sets. sets ++ c.args.exit ∷ []) (faced ∙ ap (face boxes) (sym c.in_ok-body.ensures)))
+    ∙ ap ascending (c.in_ok-body.ensures.sets ∙ ap (λ sets. sets ++ c.args.exit ∷ []) (faced ∙ ap (face boxes) (sym c.in_ok-body.ensures.net)))
     ∙ sym (face-Star boxes c.args.place c.args.merge c.in_ok-body.body c.args.exit c.args.guard)
