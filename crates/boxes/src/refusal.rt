@@ -7,7 +7,7 @@ use std::alloc::AllocError;
 use std::fmt;
 
 /// What is wrong at a place of a source.
-#[derive(Clone, Copy, PartialEq, Eq, Debug)]
+#[derive(Clone, Copy, Debug)]
 pub enum Reason {
     BadUtf8,
     BadChar,
@@ -23,7 +23,7 @@ pub enum Reason {
 }
 
 /// Why a row has no answer.
-#[derive(Clone, Copy, PartialEq, Eq, Debug)]
+#[derive(Clone, Copy)]
 pub enum Refusal {
     /// It has no three parts, or no number as its fuel.
     Row,

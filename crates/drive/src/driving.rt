@@ -55,10 +55,11 @@ impl Drive {
     pub fn start(alloc: Global, run: &Arc<Run>) -> Result<Drive, Refusal>
         ensures { IfOk result (λ drive. drive.run.value ≡ run.now.value) }
     {
+        let shared: Result<_, _> = run.clone();
+        let kept = shared?;
         let graph = Graph::start(alloc, run)?;
-        let run: Result<_, _> = run.clone();
         Ok(Drive {
-            run: run?,
+            run: kept,
             graph,
             calls: Vec::new(alloc),
         })

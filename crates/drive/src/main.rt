@@ -15,6 +15,7 @@
 mod chance;
 mod command;
 mod driving;
+mod held;
 mod load;
 mod nodes;
 mod order;
@@ -28,6 +29,7 @@ use load::{Loaded, load};
 use nodes::{count_nodes, steps_of_all};
 use refusal::Refusal;
 use sn_graph::Graph;
+use sn_names::Names;
 use std::alloc::AllocError;
 use std::io::{ErrorKind, Write};
 use std::process::ExitCode;
@@ -83,6 +85,34 @@ fn print_counts(rt: &HostRuntime, graph: &Graph) -> Result<(), Refusal> {
     print(rt, line.as_bytes())
 }
 
+/// Prints the steps to each node.
+fn print_steps(rt: &HostRuntime, graph: &Graph) -> Result<(), Refusal> {
+    let text = steps_of_all(rt.alloc(), graph)?;
+    print(rt, text.as_slice())
+}
+
+/// Prints the records that came out, and answers the exit status.
+fn print_records(rt: &HostRuntime, names: &Names, graph: &Graph) -> Result<u8, Refusal> {
+    let shown = Transcript::of(rt.alloc(), names, graph.out().as_slice())?;
+    print(rt, shown.text.as_slice())?;
+    Ok(if shown.fault.is_some() { FAULT } else { 0 })
+}
+
+/// Prints what is asked for of a graph at rest, and answers the exit status.
+fn print_report(
+    rt: &HostRuntime,
+    report: Report,
+    names: &Names,
+    graph: &Graph,
+) -> Result<u8, Refusal> {
+    match report {
+        Report::Records => return print_records(rt, names, graph),
+        Report::Counts => print_counts(rt, graph)?,
+        Report::Steps => print_steps(rt, graph)?,
+    }
+    Ok(0)
+}
+
 /// Does what the words ask for, and answers the exit status.
 fn run(rt: &HostRuntime, words: &[String]) -> Result<u8, Refusal> {
     let alloc = rt.alloc();
@@ -90,21 +120,7 @@ fn run(rt: &HostRuntime, words: &[String]) -> Result<u8, Refusal> {
     let Loaded { run, names } = loaded(rt, &command)?;
     let run = Arc::new(alloc, run).map_err(AllocError::from)?;
     let graph = drive(alloc, &run, command.order, command.seed)?;
-    match command.report {
-        Report::Records => {}
-        Report::Counts => {
-            print_counts(rt, &graph)?;
-            return Ok(0);
-        }
-        Report::Steps => {
-            let text = steps_of_all(alloc, &graph)?;
-            print(rt, text.as_slice())?;
-            return Ok(0);
-        }
-    }
-    let shown = Transcript::of(alloc, &names, graph.out().as_slice())?;
-    print(rt, shown.text.as_slice())?;
-    Ok(if shown.fault.is_some() { FAULT } else { 0 })
+    print_report(rt, command.report, &names, &graph)
 }
 
 /// What the words of the command line ask for.

@@ -27,12 +27,22 @@ pub enum Turn {
 
 /// The owner's ends of both queues. With a hand of its own it takes a call back that no worker has taken yet, when there is nothing else
 /// to do: so one more call runs at a time, and all calls are made even if no worker could be started.
-#[derive(Drop)]
 pub struct Desk {
     pub owner: JobOwner,
     pub hand: JobHand,
     /// Whether there is no other worker.
     pub alone: bool,
+}
+
+/// Written out, so that a function that gives a desk up calls this, and is not proved over what both ends hold.
+impl Drop for Desk {
+    fn drop(self) {
+        let Desk {
+            owner: _owner,
+            hand: _hand,
+            alone: _,
+        } = self;
+    }
 }
 
 /// Applies an answer. One that answers no call in flight is dropped.

@@ -13,7 +13,7 @@ use sn_record::{Fault, FaultKind, Kind, Text};
 use sn_scope::ScopeFault;
 
 /// How a command ended. Its number is the exit status of the program.
-#[derive(Clone, Copy, PartialEq, Eq, Debug)]
+#[derive(Clone, Copy, PartialEq, Eq)]
 pub enum Status {
     /// The command was done.
     Ok,
@@ -61,14 +61,14 @@ impl Status {
 }
 
 /// Which of a command's files.
-#[derive(Clone, Copy, PartialEq, Eq)]
+#[derive(Clone, Copy)]
 pub enum Which {
     Source,
     Input,
 }
 
 /// What is wrong in a source.
-#[derive(Clone, Copy, PartialEq, Eq, Debug)]
+#[derive(Clone, Copy)]
 pub enum SourceFault {
     BadUtf8,
     BadChar,
@@ -101,7 +101,7 @@ impl SourceFault {
 }
 
 /// What is wrong with the types of a net.
-#[derive(Clone, Copy, PartialEq, Eq, Debug)]
+#[derive(Clone, Copy)]
 pub enum TypeFault {
     /// A record has no route at a part of the net.
     NoRoute,
@@ -122,7 +122,7 @@ impl TypeFault {
 }
 
 /// What is wrong in a line of an input. Lines are counted from 1.
-#[derive(PartialEq, Eq, Drop)]
+#[derive(Drop)]
 pub enum LineFault {
     /// It is no record.
     BadLine(u32),
@@ -186,7 +186,7 @@ fn ending_label(kind: FaultKind) -> &'static [u8]
 }
 
 /// What the checks of a command refuse. A place is an offset in the source's bytes.
-#[derive(PartialEq, Eq, Drop)]
+#[derive(Drop)]
 pub enum Refusal {
     TooLarge(Which),
     Source(SourceFault, u32),
@@ -206,7 +206,7 @@ pub enum Refusal {
 }
 
 /// Why a command ends otherwise than with its whole output.
-#[derive(PartialEq, Eq, Drop)]
+#[derive(Drop)]
 pub enum Stop {
     Refused(Refusal),
     /// What was printed ends at a fault.

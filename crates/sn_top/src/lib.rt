@@ -2,6 +2,7 @@
 //! on standard error and the exit status.
 #![tactic(auto)]
 
+mod held;
 mod outside;
 mod ready;
 mod sample;

@@ -5,6 +5,7 @@ ghost use Rattle.sn_top.specs.Ready.{IsReady, WhyNotReady};
 ghost use Rattle.sn_load.specs.Load.{AreTypedRecords};
 ghost use Rattle.sn_top.specs.Seen.{seen_file};
 
+use crate::held::Held;
 use crate::outside::read_file;
 use sn_input::Input;
 use sn_io::Files;
@@ -42,13 +43,23 @@ pub fn prepare<F: Files>(
 {
     let source = read_file(alloc, files, Which::Source, source_name, SOURCE_LIMIT)?;
     let program = load_source(alloc, source.as_slice())?;
+    let program = Held { value: program };
     let input = read_file(alloc, files, Which::Input, input_name, INPUT_LIMIT)?;
     let Program {
         names,
         boxes,
         claim,
-    } = program;
-    let Input { records, names, .. } = read_input(alloc, names, &claim, input.as_slice())?;
+    } = program.into_inner();
+    let checked = Held {
+        value: (boxes, claim),
+    };
+    let Input { records, names, .. } = read_input(
+        alloc,
+        names,
+        &checked.value.1,
+        input.as_slice(),
+    )?;
+    let (boxes, claim) = checked.into_inner();
     let Claim { net, .. } = claim;
     Ok(Ready {
         net,

@@ -12,6 +12,7 @@ ghost use Rattle.sn_net.specs.Net.{all_deterministic};
 ghost use Rattle.sn_model.specs.Run.{given, net_of};
 ghost use Rattle.sn_top.specs.Sample.{AreSamples, HasCounted, IsWrongEntry, WhyNoSamples, first_untyped, is_item_of_type, label_names};
 
+use crate::held::{Held, share};
 use sn_farm::{Outcome, farm_drive};
 use sn_graph::Graph;
 use sn_io::{Gate, NullSink};
@@ -26,7 +27,7 @@ use sn_record::{Fault, Item, Items, LabelSet};
 use sn_sample::{Tally, sample_records};
 use sn_words::{DEFAULT_DEPTH, DEFAULT_FUEL, DEFAULT_QUEUE, DEFAULT_WORKERS};
 use std::alloc::Global;
-use std::sync::{Arc, Wait};
+use std::sync::Wait;
 use std::thread::Threads;
 
 /// Enters the names of the records' labels, where they are new.
@@ -129,10 +130,9 @@ fn count_together<R: Threads + Wait + Sync, G: Gate>(
     ensures fault { IfOk result (λ made. made.1 ≡ ending (given run)) }
     ensures memory { IfErr result (λ why. why ≡ Stop.Memory) }
 {
-    let Ok(run) = Arc::new(alloc, run) else {
-        return Err(Stop::Memory);
-    };
-    let mut graph = Graph::start(alloc, &run)?;
+    let shared = share(alloc, run)?;
+    let graph = Graph::start(alloc, &shared)?;
+    let mut graph = Held { value: graph };
     let mut nowhere = NullSink;
     let mut lines = LineSink {
         sink: &mut nowhere,
@@ -141,14 +141,14 @@ fn count_together<R: Threads + Wait + Sync, G: Gate>(
     match farm_drive(
         rt,
         alloc,
-        &run,
-        &mut graph,
+        &shared,
+        &mut graph.value,
         DEFAULT_WORKERS,
         gate,
         &mut lines,
     ) {
-        Outcome::Whole => Ok(count_items(names, graph.out().as_slice())?),
-        Outcome::Faulted(_) => Ok(count_items(names, graph.out().as_slice())?),
+        Outcome::Whole => Ok(count_items(names, graph.value.out().as_slice())?),
+        Outcome::Faulted(_) => Ok(count_items(names, graph.value.out().as_slice())?),
         Outcome::WriteFault => unreachable!(),
         Outcome::Memory => Err(Stop::Memory),
     }
@@ -175,7 +175,11 @@ pub fn count_sample<R: Threads + Wait + Sync, G: Gate>(
         boxes,
         claim,
     } = program;
-    let Samples { names, items } = make_samples(alloc, names, &claim, number, count)?;
+    let checked = Held {
+        value: (boxes, claim),
+    };
+    let Samples { names, items } = make_samples(alloc, names, &checked.value.1, number, count)?;
+    let (boxes, claim) = checked.into_inner();
     let Claim { net, .. } = claim;
     let run = Run::new(
         net,
@@ -185,9 +189,11 @@ pub fn count_sample<R: Threads + Wait + Sync, G: Gate>(
         DEFAULT_QUEUE,
         items,
     );
-    if all_det(run.net()) {
-        count_together(rt, alloc, run, &names, gate)
+    let run = Held { value: run };
+    let names = Held { value: names };
+    if all_det(run.value.net()) {
+        count_together(rt, alloc, run.into_inner(), &names.value, gate)
     } else {
-        count_alone(alloc, &run, &names)
+        count_alone(alloc, &run.value, &names.value)
     }
 }

@@ -12,6 +12,7 @@ ghost use Rattle.sn_words.specs.Words.{command_of};
 ghost use Rattle.sn_model.specs.Ranges.{IsWithin};
 ghost use Rattle.sn_model.specs.declared.run.TheConstants.{LONGEST_QUEUE};
 
+use crate::held::Held;
 use crate::outside::{read_file, write_line};
 use crate::ready::prepare;
 use crate::sample::count_sample;
@@ -107,7 +108,8 @@ fn run_check<F: Files, O: Sink>(
 {
     let source = read_file(alloc, files, Which::Source, source_name, SOURCE_LIMIT)?;
     let program = load_source(alloc, source.as_slice())?;
-    let text = flows_text(alloc, &program)?;
+    let program = Held { value: program };
+    let text = flows_text(alloc, &program.value)?;
     write_whole(out, text.as_slice())?;
     Ok(())
 }

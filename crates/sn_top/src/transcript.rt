@@ -13,6 +13,7 @@ ghost use Rattle.sn_top.specs.Ready.{setting_at};
 ghost use Rattle.sn_top.specs.Seen.{seen_sink};
 ghost use Rattle.sn_top.specs.Shown.{Shows};
 
+use crate::held::Held;
 use crate::ready::Ready;
 use sn_io::{Sink, write_whole};
 use sn_list::{Memory, Seq};
@@ -97,11 +98,12 @@ fn print_run<O: Sink>(
     ensures stopped { IfErr result (WhyCutOff (seen_sink O.held O.faults out.old out.new) (printed names.now (one_list (setting_of run.now) (net_of run.now) (map Rec records)))) }
     ensures later { O.faults out.old ≤ O.faults out.new }
 {
-    let mut once = Once::new(alloc, run)?;
+    let once = Once::new(alloc, run)?;
+    let mut engine = Held { value: once };
     let mut room = Seq::new(alloc);
     for record in records.into_vec() {
-        let (next, given) = once.feed(alloc, run, Item::Rec(record))?;
-        once = next;
+        let (next, given) = engine.into_inner().feed(alloc, run, Item::Rec(record))?;
+        engine = Held { value: next };
         let Transcript { text, fault } = shown_in(alloc, room, names, given)?;
         write_whole(out, text.as_slice())?;
         if fault.is_some() {
@@ -135,5 +137,6 @@ pub fn print_once<O: Sink>(
         names,
     } = ready;
     let run = Run::new(net, boxes, fuel, depth, DEFAULT_QUEUE, Items::new(alloc));
-    print_run(alloc, &run, &names, records, out)
+    let run = Held { value: run };
+    print_run(alloc, &run.value, &names, records, out)
 }

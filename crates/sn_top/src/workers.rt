@@ -16,6 +16,7 @@ ghost use Rattle.sn_top.specs.Ready.{setting_at};
 ghost use Rattle.sn_top.specs.Runs.{HasPrinted, WhyUnfinished, WithWorkers};
 ghost use Rattle.sn_top.specs.Seen.{seen_sink};
 
+use crate::held::{Held, share};
 use crate::ready::Ready;
 use sn_farm::{Outcome, farm_run};
 use sn_io::{Gate, Sink};
@@ -84,12 +85,15 @@ pub fn print_with_workers<R: Threads + Wait + Sync, O: Sink, G: Gate>(
         records,
         names,
     } = ready;
-    let items = items_of(alloc, records)?;
-    let run = Run::new(net, boxes, setup.fuel, setup.depth, setup.queue, items);
-    let Ok(run) = Arc::new(alloc, run) else {
-        return Err(Stop::Memory);
+    let parts = Held {
+        value: (net, boxes),
     };
-    match farm_to(rt, alloc, &run, &names, setup.workers, gate, out) {
+    let names = Held { value: names };
+    let items = items_of(alloc, records)?;
+    let (net, boxes) = parts.into_inner();
+    let run = Run::new(net, boxes, setup.fuel, setup.depth, setup.queue, items);
+    let shared = share(alloc, run)?;
+    match farm_to(rt, alloc, &shared, &names.value, setup.workers, gate, out) {
         Outcome::Whole => Ok(None),
         Outcome::Faulted(fault) => Ok(Some(fault)),
         Outcome::WriteFault => Err(Stop::Write),

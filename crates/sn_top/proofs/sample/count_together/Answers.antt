@@ -15,7 +15,7 @@ pub returns-in-Whole-clause-counters : goal.returns-in-Whole-clause-counters
 returns-in-Whole-clause-counters g c =
     let graph : View = seen c.farm_drive.new.graph in
     let allowed : (ys : List ModelItem) → MayCome graph ys → ∥ MayGive c.args.run ys ∥₁ = λ ys may.
-    subst (λ (run : Run). ∥ MayGive run ys ∥₁) (c.deref.ensures ∙ c.in-Ok.ensures.ok) ((c.in_ok-graph.ensures.can ys).0 (c.farm_drive.ensures.can ys may)) in
+    subst (λ (run : Run). ∥ MayGive run ys ∥₁) (c.deref.ensures ∙ c.in_ok-shared.ensures) ((c.in_ok-graph.ensures.can ys).0 (c.farm_drive.ensures.can ys may)) in
     let came : map modelled c.as_slice.result.now ≡ graph.out = ap (λ (xs : List Item). map modelled xs) c.as_slice.ensures ∙ c.out.ensures.items in
     let is = whole_is c.args.run graph c.requires allowed c.farm_drive.ensures.some (c.farm_drive.ensures.whole c.in-Whole.is).over.only in
     c.in_ok-count_items-in-Whole.ensures.counters ∙ ap (λ (ys : List ModelItem). counted c.args.names.now ys) came ∙ whole_counted c.args.names.now graph.out (given c.args.run) is
@@ -24,7 +24,7 @@ pub returns-in-Whole-clause-fault : goal.returns-in-Whole-clause-fault
 returns-in-Whole-clause-fault g c =
     let graph : View = seen c.farm_drive.new.graph in
     let allowed : (ys : List ModelItem) → MayCome graph ys → ∥ MayGive c.args.run ys ∥₁ = λ ys may.
-    subst (λ (run : Run). ∥ MayGive run ys ∥₁) (c.deref.ensures ∙ c.in-Ok.ensures.ok) ((c.in_ok-graph.ensures.can ys).0 (c.farm_drive.ensures.can ys may)) in
+    subst (λ (run : Run). ∥ MayGive run ys ∥₁) (c.deref.ensures ∙ c.in_ok-shared.ensures) ((c.in_ok-graph.ensures.can ys).0 (c.farm_drive.ensures.can ys may)) in
     let came : map modelled c.as_slice.result.now ≡ graph.out = ap (λ (xs : List Item). map modelled xs) c.as_slice.ensures ∙ c.out.ensures.items in
     let is = whole_is c.args.run graph c.requires allowed c.farm_drive.ensures.some (c.farm_drive.ensures.whole c.in-Whole.is).over.only in
     c.in_ok-count_items-in-Whole.ensures.fault ∙ ap (λ (ys : List ModelItem). ending ys) came ∙ whole_ends c.args.names.now graph.out (given c.args.run) is
@@ -33,7 +33,7 @@ pub returns-in-Faulted-clause-counters : goal.returns-in-Faulted-clause-counters
 returns-in-Faulted-clause-counters g c =
     let graph : View = seen c.farm_drive.new.graph in
     let allowed : (ys : List ModelItem) → MayCome graph ys → ∥ MayGive c.args.run ys ∥₁ = λ ys may.
-    subst (λ (run : Run). ∥ MayGive run ys ∥₁) (c.deref.ensures ∙ c.in-Ok.ensures.ok) ((c.in_ok-graph.ensures.can ys).0 (c.farm_drive.ensures.can ys may)) in
+    subst (λ (run : Run). ∥ MayGive run ys ∥₁) (c.deref.ensures ∙ c.in_ok-shared.ensures) ((c.in_ok-graph.ensures.can ys).0 (c.farm_drive.ensures.can ys may)) in
     let came : map modelled c.as_slice-in-Faulted.result.now ≡ graph.out = ap (λ (xs : List Item). map modelled xs) c.as_slice-in-Faulted.ensures ∙ c.out-in-Faulted.ensures.items in
     let first = (c.farm_drive.ensures.faulted c.in-Faulted.field-0 c.in-Faulted.is).first in
     let begins = begins_it c.args.run graph c.requires allowed c.farm_drive.ensures.some c.out-in-Faulted.ensures.begins in
@@ -44,7 +44,7 @@ pub returns-in-Faulted-clause-fault : goal.returns-in-Faulted-clause-fault
 returns-in-Faulted-clause-fault g c =
     let graph : View = seen c.farm_drive.new.graph in
     let allowed : (ys : List ModelItem) → MayCome graph ys → ∥ MayGive c.args.run ys ∥₁ = λ ys may.
-    subst (λ (run : Run). ∥ MayGive run ys ∥₁) (c.deref.ensures ∙ c.in-Ok.ensures.ok) ((c.in_ok-graph.ensures.can ys).0 (c.farm_drive.ensures.can ys may)) in
+    subst (λ (run : Run). ∥ MayGive run ys ∥₁) (c.deref.ensures ∙ c.in_ok-shared.ensures) ((c.in_ok-graph.ensures.can ys).0 (c.farm_drive.ensures.can ys may)) in
     let came : map modelled c.as_slice-in-Faulted.result.now ≡ graph.out = ap (λ (xs : List Item). map modelled xs) c.as_slice-in-Faulted.ensures ∙ c.out-in-Faulted.ensures.items in
     let first = (c.farm_drive.ensures.faulted c.in-Faulted.field-0 c.in-Faulted.is).first in
     let begins = begins_it c.args.run graph c.requires allowed c.farm_drive.ensures.some c.out-in-Faulted.ensures.begins in

@@ -13,8 +13,8 @@ use Rattle.sn_top.proofs.transcript.print_run.Given as goal
 abbrev pub invariant-loop-record : goal.invariant-loop-record
 invariant-loop-record g l = record {
   before : List Item;
-  made_by : IsOf l.once l.run;
-  so_far : one_list (setting_of l.run) (net_of l.run) (map Rec l.fn.records) ≡ map modelled before ++ rest_of l.once (map Rec (into_iter_items l.record-iterator));
+  made_by : IsOf l.engine.value l.run;
+  so_far : one_list (setting_of l.run) (net_of l.run) (map Rec l.fn.records) ≡ map modelled before ++ rest_of l.engine.value (map Rec (into_iter_items l.record-iterator));
   going : ending (map modelled before) ≡ None;
   held : g.O.Sink.held l.out ≡ appended (g.O.Sink.held l.initial.out) (printed l.names (map modelled before));
   typed : AreTypedRecords (boxes_of l.run) (net_of l.run) (into_iter_items l.record-iterator);

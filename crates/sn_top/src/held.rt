@@ -1,0 +1,37 @@
+//! What is dear to give up.
+ghost use Rattle.std.specs.Prelude.{◌≡◌, IfOk};
+
+use sn_list::Memory;
+use std::alloc::Global;
+use std::sync::Arc;
+
+/// A tree, or what holds some. A function that gives it up at several exits calls its `drop` at each, and is not proved over each form of
+/// the tree there.
+pub struct Held<T> {
+    pub value: T,
+}
+
+impl<T> Held<T> {
+    pub fn into_inner(self) -> T
+        ensures { result ≡ self.value }
+    {
+        let Held { value } = self;
+        value
+    }
+}
+
+impl<T: Drop> Drop for Held<T> {
+    fn drop(self) {
+        let Held { value: _value } = self;
+    }
+}
+
+/// The value, so that threads may share it. For want of memory it is given up.
+pub fn share<T: Drop>(alloc: Global, value: T) -> Result<Arc<T>, Memory>
+    ensures { IfOk result (λ shared. shared.value ≡ value) }
+{
+    match Arc::new(alloc, value) {
+        Ok(shared) => Ok(shared),
+        Err(_) => Err(Memory),
+    }
+}
