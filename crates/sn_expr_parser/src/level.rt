@@ -274,17 +274,17 @@ impl<E: Expression> Level<E> {
     ) -> Result<Option<Level<E>>, Memory>
         ensures { IfOk result (λ l. l ≡ after_comparison E.operations self operator at part) }
     {
+        if self.comparison.is_some() {
+            return Ok(None);
+        }
         let Level {
             or,
             and,
-            comparison,
+            comparison: _none,
             sum,
             product,
             signs,
         } = self;
-        if comparison.is_some() {
-            return Ok(None);
-        }
         let part = sum_of(alloc, sum, product, signs, part)?;
         Ok(Some(Level {
             or,
@@ -307,8 +307,7 @@ impl<E: Expression> Level<E> {
             product,
             signs,
         } = self;
-        let part = sum_of(alloc, sum, product, signs, part)?;
-        let part = conjunction_of(alloc, and, comparison, part)?;
+        let part = conjunction_of(alloc, and, comparison, sum, product, signs, part)?;
         Ok(Some(Level {
             or,
             and: Some((part, at)),
@@ -345,8 +344,7 @@ impl<E: Expression> Level<E> {
             product,
             signs,
         } = self;
-        let part = sum_of(alloc, sum, product, signs, part)?;
-        let part = conjunction_of(alloc, and, comparison, part)?;
+        let part = conjunction_of(alloc, and, comparison, sum, product, signs, part)?;
         disjoined(alloc, or, part)
     }
 }
@@ -378,15 +376,19 @@ fn product_of<E: Expression>(
     operated(alloc, product, part)
 }
 
-/// The conjunction that the sum `part` completes.
+/// The conjunction that the operand `part` completes.
 fn conjunction_of<E: Expression>(
     alloc: Global,
     and: Option<(Kept<E>, u32)>,
     comparison: Waiting<E>,
+    sum: Waiting<E>,
+    product: Waiting<E>,
+    signs: Stack<(Sign, u32)>,
     part: Kept<E>,
 ) -> Result<Kept<E>, Memory>
-    ensures { IfOk result (λ r. r ≡ conjoined E.operations and (operated E.operations comparison part)) }
+    ensures { IfOk result (λ r. r ≡ conjoined E.operations and (operated E.operations comparison (sum_of E.operations sum product signs part))) }
 {
+    let part = sum_of(alloc, sum, product, signs, part)?;
     let part = operated(alloc, comparison, part)?;
     conjoined(alloc, and, part)
 }
