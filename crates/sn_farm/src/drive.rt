@@ -1,5 +1,5 @@
 //! The owner's turns, until the run has ended.
-ghost use Rattle.std.specs.Prelude.{◌≡◌, ◌∷◌, []};
+ghost use Rattle.std.specs.Prelude.{◌≡◌, ◌∷◌, [], ℕ, List, Option};
 ghost use Rattle.sn_net.specs.Item.{modelled};
 ghost use Rattle.sn_view.specs.View.{View};
 ghost use Rattle.sn_graph.specs.Event.{IsEventOf};
@@ -64,6 +64,17 @@ fn happen<R: Wait, S: Sink, G: Gate>(
     }
 }
 
+/// The end of the run where the graph is at rest, and else nothing to do until an answer comes.
+fn rest_or_wait<G: Gate>(hall: &Hall<G>, graph: &Graph) -> Turn
+    requires { IsGraphOf graph.now hall.now.run.now.value }
+    ensures { (names : List (List ℕ)) (held : Option (List ℕ)) (faults : ℕ) → Goes names (shows (seen graph.now) held faults) (shows (seen graph.now) held faults) result }
+{
+    if graph.at_rest(hall.run) {
+        return Turn::Ended(Outcome::Whole);
+    }
+    Turn::Idle
+}
+
 /// Applies an answer that has come, or else the next event. Where there is none a call is taken back, if one is left.
 fn turn<R: Wait, S: Sink, G: Gate>(
     rt: &R,
@@ -89,10 +100,7 @@ fn turn<R: Wait, S: Sink, G: Gate>(
     if let Some(job) = desk.hand.take(rt) {
         return call_here(rt, hall, graph, job);
     }
-    if graph.at_rest(hall.run) {
-        return Turn::Ended(Outcome::Whole);
-    }
-    Turn::Idle
+    rest_or_wait(hall, graph)
 }
 
 /// Takes turns until the run has ended.
