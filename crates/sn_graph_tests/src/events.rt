@@ -4,42 +4,40 @@ ghost use Rattle.sn_graph.specs.Event.{IsEventOf};
 ghost use Rattle.sn_graph.specs.Graph.{IsGraphOf};
 
 use sn_graph::{Effect, Event, Graph};
-use sn_list::{Memory, Seq};
+use sn_list::Seq;
 use sn_model::Run;
 use sn_net::{Boxes, Filter, Net};
 use sn_record::{Fault, FaultKind, Item, Items, Kind, Label, LabelSet};
 use std::alloc::Global;
-use std::test::Fail;
+use std::process::Abort;
 
 /// `[{<a>} -> ]` at the place 38.
-fn filter_of(alloc: Global) -> Result<Filter, Memory> {
-    let mut pattern = LabelSet::new(alloc);
-    pattern.insert(Label {
+fn filter_of(rt: &impl Abort, alloc: Global) -> Filter {
+    let label = Label {
         kind: Kind::Tag,
         id: 0,
-    })?;
-    Ok(Filter {
+    };
+    let mut pattern = LabelSet::new(alloc);
+    pattern.insert(label).expect(rt, "memory");
+    Filter {
         place: 38,
         pattern,
         templates: Seq::new(alloc),
-    })
+    }
 }
 
 /// A run of the filter on a fault, which is typed for any network.
-fn run_of(alloc: Global, filter: Filter) -> Result<Run, Memory>
+fn run_of(rt: &impl Abort, alloc: Global, filter: Filter) -> Run
     requires { IsClosed filter }
 {
     let fault = Fault {
         kind: FaultKind::Index,
         place: 5,
     };
-    let boxes = Boxes::new(alloc);
-    let net = Net::Filter(filter);
     let mut items = Items::new(alloc);
-    match items.push(Item::Fault(fault)) {
-        Ok(()) => Ok(Run::new(net, boxes, 1, 1, 1, items)),
-        Err(_) => Err(Memory),
-    }
+    assert!(rt; items.push(Item::Fault(fault)).is_ok());
+    let boxes = Boxes::new(alloc);
+    Run::new(Net::Filter(filter), boxes, 1, 1, 1, items)
 }
 
 /// What comes of an event, if it happens.
@@ -77,42 +75,79 @@ fn gives_fault(alloc: Global, graph: &mut Graph, run: &Run) -> bool
     )
 }
 
-/// Whether the fault and the end pass through the filter, an event at a time.
+/// Whether the event may happen.
+fn may(graph: &Graph, run: &Run, event: Event) -> bool
+    requires { IsGraphOf graph.now run.now }
+{
+    graph.enabled(run, &event)
+}
+
+/// Whether all that the graph may do is to take in the first item.
+fn is_at_start(graph: &Graph, run: &Run) -> bool
+    requires { IsGraphOf graph.now run.now }
+{
+    may(graph, run, Event::Take)
+        && !may(graph, run, Event::Emit)
+        && is_take(graph.next_event(run))
+        && !graph.at_rest(run)
+}
+
+fn is_take(event: Option<Event>) -> bool {
+    matches!(event, Some(Event::Take))
+}
+
+/// Whether the fault passes through the filter, an event at a time.
 fn fault_passes(alloc: Global, graph: &mut Graph, run: &Run) -> bool
     requires { IsGraphOf graph.old run.now }
+    ensures { IsGraphOf graph.new run.now }
 {
-    let filter = 0;
-    graph.enabled(run, &Event::Take)
-        && !graph.enabled(run, &Event::Emit)
-        && matches!(graph.next_event(run), Some(Event::Take))
-        && !graph.at_rest(run)
-        && moves(alloc, graph, run, Event::Take)
-        && moves(alloc, graph, run, Event::Local { node: filter })
+    moves(alloc, graph, run, Event::Take)
+        && moves(alloc, graph, run, Event::Local { node: 0 })
         && gives_fault(alloc, graph, run)
-        && moves(alloc, graph, run, Event::Take)
-        && moves(alloc, graph, run, Event::Local { node: filter })
+}
+
+/// Whether the end passes behind it, and nothing more.
+fn end_passes(alloc: Global, graph: &mut Graph, run: &Run) -> bool
+    requires { IsGraphOf graph.old run.now }
+    ensures { IsGraphOf graph.new run.now }
+{
+    moves(alloc, graph, run, Event::Take)
+        && moves(alloc, graph, run, Event::Local { node: 0 })
         && moves(alloc, graph, run, Event::Emit)
         && !moves(alloc, graph, run, Event::Emit)
-        && graph.next_event(run).is_none()
+}
+
+/// Whether nothing may happen behind six events, of which one gave an item.
+fn is_at_end(graph: &Graph, run: &Run) -> bool
+    requires { IsGraphOf graph.now run.now }
+{
+    graph.next_event(run).is_none()
         && graph.at_rest(run)
         && graph.applied() == 6
         && graph.out().len() == 1
 }
 
-/// A graph of a run of the filter, behind these events, if they are answered so.
-fn passed(alloc: Global) -> Result<bool, Memory> {
-    let filter = filter_of(alloc)?;
+/// Takes a graph of the run from its start to its end.
+fn drives(rt: &impl Abort, alloc: Global, run: &Run) {
+    let mut graph = Graph::start(alloc, run).expect(rt, "memory");
+    assert!(rt; graph.steps_of(0).is_some() && graph.steps_of(1).is_none());
+    assert!(rt; is_at_start(&graph, run));
+    assert!(rt; fault_passes(alloc, &mut graph, run));
+    assert!(rt; end_passes(alloc, &mut graph, run));
+    assert!(rt; is_at_end(&graph, run));
+}
+
+/// Drives a run of the filter, if that is closed.
+fn passed(rt: &impl Abort, alloc: Global) -> bool {
+    let filter = filter_of(rt, alloc);
     if !filter.is_closed() {
-        return Ok(false);
+        return false;
     }
-    let run = run_of(alloc, filter)?;
-    let mut graph = Graph::start(alloc, &run)?;
-    let one = graph.steps_of(0).is_some() && graph.steps_of(1).is_none();
-    Ok(one && fault_passes(alloc, &mut graph, &run))
+    drives(rt, alloc, &run_of(rt, alloc, filter));
+    true
 }
 
 #[test]
-fn a_fault_passes_on_event_by_event(rt: HostRuntime) -> Result<(), Fail> {
-    assert!(rt; passed(rt.alloc())?);
-    Ok(())
+fn a_fault_passes_on_event_by_event(rt: HostRuntime) {
+    assert!(rt; passed(&rt, rt.alloc()));
 }

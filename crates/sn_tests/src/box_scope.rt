@@ -1,22 +1,29 @@
 use crate::text::program;
-use sn_ast::Decl;
+use sn_ast::{BoxDecl, Decl};
 use sn_box_scope::box_at;
 use sn_label_scope::{Reason, Refusal, Refusals};
 use sn_names::NameTable;
 use sn_net::{BoxProgram, Expr};
 use std::alloc::Global;
-use std::test::Fail;
+use std::process::Abort;
 
-/// The program of the source's first declaration, a box, and what it is refused for.
-fn scoped(alloc: Global, source: &str) -> Result<(Option<BoxProgram>, Option<Refusal>), Fail> {
-    let read = program(alloc, source)?;
-    let [Decl::BoxDecl(declaration)] = read.decls.as_slice() else {
-        return Ok((None, None));
-    };
+/// The one declaration, where it is a box.
+fn only_box(declarations: &[Decl]) -> Option<&BoxDecl> {
+    match declarations {
+        [Decl::BoxDecl(declaration)] => Some(declaration),
+        _ => None,
+    }
+}
+
+/// The program of a box, with what it is refused for noted.
+fn scoped(
+    rt: &impl Abort,
+    alloc: Global,
+    refusals: &mut Refusals,
+    declaration: &BoxDecl,
+) -> BoxProgram {
     let names = NameTable::new(alloc);
-    let mut refusals = Refusals::new();
-    let made = box_at(alloc, &names, &mut refusals, declaration)?;
-    Ok((Some(made), refusals.least()))
+    box_at(alloc, &names, refusals, declaration).expect(rt, "memory")
 }
 
 fn is_variable(expr: &Expr, number: u32) -> bool {
@@ -34,22 +41,40 @@ fn binds(made: &BoxProgram) -> bool {
     }
 }
 
-#[test]
-fn a_let_hides_a_label(rt: HostRuntime) -> Result<(), Fail> {
-    let (made, refusal) = scoped(rt.alloc(), "box b ((a) -> ()) { let a = a in a }")?;
-    assert!(rt; made.is_some_and(|made| binds(&made)) && refusal.is_none());
-    Ok(())
+/// Whether a box binds so, and is not refused.
+fn is_bound(rt: &impl Abort, alloc: Global, declaration: &BoxDecl) -> bool {
+    let mut refusals = Refusals::new();
+    binds(&scoped(rt, alloc, &mut refusals, declaration)) && refusals.least().is_none()
 }
 
 #[test]
-fn names_are_refused_at_their_places(rt: HostRuntime) -> Result<(), Fail> {
+fn a_let_hides_a_label(rt: HostRuntime) {
+    let source = "box b ((a) -> ()) { let a = a in a }";
+    let read = program(rt.alloc(), source).expect(&rt, "a program");
+    let declaration = only_box(read.decls.as_slice()).expect(&rt, "a box");
+    assert!(rt; is_bound(&rt, rt.alloc(), declaration));
+}
+
+/// What the one box of the source is refused for.
+fn refusal_of(rt: &impl Abort, alloc: Global, source: &str) -> Option<Refusal> {
+    let read = program(alloc, source).expect(rt, "a program");
+    let declaration = only_box(read.decls.as_slice()).expect(rt, "a box");
+    let mut refusals = Refusals::new();
+    drop(scoped(rt, alloc, &mut refusals, declaration));
+    refusals.least()
+}
+
+#[test]
+fn names_are_refused_at_their_places(rt: HostRuntime) {
     for (source, wanted) in [
         ("box b ((a) -> ()) { len(a) }", None),
         ("box b ((a) -> ()) { len(x) }", Some((Reason::Unknown, 24))),
         ("box b ((a) -> ()) { join(a) }", Some((Reason::Arity, 20))),
     ] {
-        let (_, refusal) = scoped(rt.alloc(), source)?;
-        assert!(rt; refusal == wanted.map(|(reason, at)| Refusal { reason, at }));
+        let refusal = refusal_of(&rt, rt.alloc(), source);
+        assert!(rt;
+            refusal == wanted.map(|(reason, at)| Refusal { reason, at }),
+            "{source}"
+        );
     }
-    Ok(())
 }

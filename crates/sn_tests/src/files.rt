@@ -2,68 +2,99 @@ use sn_io::{
     Failed, Files, FilesFault, Gate, MemFiles, MemSink, NullSink, OpenGate, Sink, StdFiles,
     StdSink, WriteFault, write_whole,
 };
+use std::alloc::Global;
 use std::fs;
-use std::test::Fail;
+use std::process::Abort;
+
+/// Whether the name is read, and has these bytes.
+fn reads<F: Files>(files: &mut F, alloc: Global, name: &[u8], limit: u64, bytes: &[u8]) -> bool {
+    match files.read(alloc, name, limit) {
+        Ok(read) => read.as_slice() == bytes,
+        Err(_) => false,
+    }
+}
+
+/// Why the name is not read.
+fn fault<F: Files>(files: &mut F, alloc: Global, name: &[u8], limit: u64) -> Option<FilesFault> {
+    files.read(alloc, name, limit).err()
+}
+
+/// A name that was given bytes twice, and whose second read fails.
+fn planned(rt: &impl Abort, alloc: Global) -> MemFiles {
+    let mut files = MemFiles::new(alloc);
+    files.add(b"twice", b"old").expect(rt, "memory");
+    files.add(b"twice", b"four").expect(rt, "memory");
+    files.fail_at(2).expect(rt, "memory");
+    files
+}
 
 #[test]
-fn fakes_do_as_planned(rt: HostRuntime) -> Result<(), Fail> {
-    let mut files = MemFiles::new(rt.alloc());
-    files.add(b"twice", b"old")?;
-    files.add(b"twice", b"four")?;
-    files.fail_at(2)?;
-    let read = files.read(rt.alloc(), b"twice", 4)?;
-    assert_eq!(rt; read.as_slice(), b"four".as_slice());
-    for (name, limit, fault) in [
+fn files_do_as_planned(rt: HostRuntime) {
+    let mut files = planned(&rt, rt.alloc());
+    assert!(rt; reads(&mut files, rt.alloc(), b"twice", 4, b"four"));
+    for (name, limit, wanted) in [
         (b"twice", 4, FilesFault::ReadFault),
         (b"twice", 3, FilesFault::TooLarge),
         (b"other", 4, FilesFault::ReadFault),
     ] {
-        assert_eq!(rt; files.read(rt.alloc(), name, limit).err(), Some(fault));
+        assert!(rt;
+            fault(&mut files, rt.alloc(), name, limit) == Some(wanted),
+            "{name:?} {limit}"
+        );
     }
+}
 
-    let mut sink = MemSink::new(rt.alloc(), 1);
-    assert_eq!(rt; sink.write(b"x"), Err(Failed), "nothing is reserved");
-    sink.reserve(4)?;
-    sink.fail_at(5)?;
-    assert_eq!(rt; write_whole(&mut sink, b"hello"), Err(WriteFault));
-    assert_eq!(rt; sink.held(), b"hel".as_slice());
-    write_whole(&mut sink, b"p")?;
-    assert_eq!(rt; sink.held(), b"help".as_slice());
-    write_whole(&mut NullSink, b"gone")?;
+/// A sink with room for four bytes, whose fifth call fails.
+fn failing(rt: &impl Abort, alloc: Global) -> MemSink {
+    let mut sink = MemSink::new(alloc, 1);
+    assert!(rt; sink.write(b"x") == Err(Failed), "nothing is reserved");
+    sink.reserve(4).expect(rt, "memory");
+    sink.fail_at(5).expect(rt, "memory");
+    sink
+}
+
+#[test]
+fn sinks_do_as_planned(rt: HostRuntime) {
+    let mut sink = failing(&rt, rt.alloc());
+    assert!(rt; write_whole(&mut sink, b"hello") == Err(WriteFault));
+    assert!(rt; sink.held() == b"hel".as_slice());
+    assert!(rt; write_whole(&mut sink, b"p") == Ok(()));
+    assert!(rt; sink.held() == b"help".as_slice());
+}
+
+#[test]
+fn other_sinks_and_gates_do_nothing(rt: HostRuntime) {
+    assert!(rt; write_whole(&mut NullSink, b"gone") == Ok(()));
     OpenGate.enter(1);
     OpenGate.leave(1);
-    Ok(())
 }
 
 #[test]
-fn std_files_reads_up_to_its_limit(rt: HostRuntime) -> Result<(), Fail> {
+fn std_files_reads_up_to_its_limit(rt: HostRuntime) {
     let name = "sn_io_std_files_test";
-    fs::write(&rt, name, b"five!")?;
+    fs::write(&rt, name, b"five!").expect(&rt, "the file is written");
     let mut files = StdFiles::new(&rt);
-    let whole = files.read(rt.alloc(), name.as_bytes(), 5);
-    let large = files.read(rt.alloc(), name.as_bytes(), 4);
-    fs::remove_file(&rt, name)?;
-    let missing = files.read(rt.alloc(), name.as_bytes(), 5);
-    assert_eq!(rt; whole?.as_slice(), b"five!".as_slice());
-    assert_eq!(rt; large.err(), Some(FilesFault::TooLarge));
-    assert_eq!(rt; missing.err(), Some(FilesFault::ReadFault));
-    assert_eq!(rt;
-        files.read(rt.alloc(), &[0xff], 5).err(),
-        Some(FilesFault::ReadFault)
-    );
-    Ok(())
+    let whole = reads(&mut files, rt.alloc(), name.as_bytes(), 5, b"five!");
+    let large = fault(&mut files, rt.alloc(), name.as_bytes(), 4);
+    fs::remove_file(&rt, name).expect(&rt, "the file is removed");
+    assert!(rt; whole);
+    assert!(rt; large == Some(FilesFault::TooLarge));
+    for other in [name.as_bytes(), &[0xff]] {
+        let missing = fault(&mut files, rt.alloc(), other, 5);
+        assert!(rt; missing == Some(FilesFault::ReadFault), "{other:?}");
+    }
 }
 
 #[test]
-fn std_sink_passes_on(rt: HostRuntime) -> Result<(), Fail> {
+fn std_sink_passes_on(rt: HostRuntime) {
     let mut bytes = Vec::new(rt.alloc());
-    write_whole(&mut StdSink::new(&mut bytes), b"abc")?;
-    assert_eq!(rt; bytes.as_slice(), b"abc".as_slice());
+    assert!(rt; write_whole(&mut StdSink::new(&mut bytes), b"abc") == Ok(()));
+    assert!(rt; bytes.as_slice() == b"abc".as_slice());
+}
+
+#[test]
+fn std_sink_passes_on_what_there_is_room_for(rt: HostRuntime) {
     let mut two = [0u8; 2];
-    assert_eq!(rt;
-        write_whole(&mut StdSink::new(&mut two[..]), b"abc"),
-        Err(WriteFault)
-    );
-    assert_eq!(rt; two, *b"ab");
-    Ok(())
+    assert!(rt; write_whole(&mut StdSink::new(&mut two[..]), b"abc") == Err(WriteFault));
+    assert!(rt; two == *b"ab");
 }

@@ -1,12 +1,13 @@
-ghost use Rattle.std.specs.Prelude.{[], IfOk};
+ghost use Rattle.std.specs.Prelude.{[]};
 ghost use Rattle.sn_net.specs.WellFormed.{FitsBoxes};
 
 use sn_flow::{FlowFault, check, flow};
-use sn_list::{Memory, Seq};
+use sn_list::Seq;
 use sn_net::{Claim, Net};
 use sn_record::{Kind, Label, LabelSet};
+use sn_stack::append;
 use std::alloc::Global;
-use std::test::Fail;
+use std::process::Abort;
 
 const A: Label = Label {
     kind: Kind::Field,
@@ -19,78 +20,64 @@ const B: Label = Label {
 };
 
 /// The set of one label.
-fn only(alloc: Global, label: Label) -> Result<LabelSet, Memory> {
+fn only(rt: &impl Abort, alloc: Global, label: Label) -> LabelSet {
     let mut set = LabelSet::new(alloc);
-    set.insert(label)?;
-    Ok(set)
+    set.insert(label).expect(rt, "memory");
+    set
 }
 
-/// The list of the one set.
-fn list(alloc: Global, set: LabelSet) -> Result<Seq<LabelSet>, Memory> {
+/// The list of the one set of one label.
+fn list(rt: &impl Abort, alloc: Global, label: Label) -> Seq<LabelSet> {
     let mut sets = Seq::new(alloc);
-    match sets.push(set) {
-        Ok(()) => Ok(sets),
-        Err(_) => Err(Memory),
-    }
+    append(&mut sets, only(rt, alloc, label)).expect(rt, "memory");
+    sets
 }
 
 /// A claim at the place 3, for a synchrocell at the place 5 that takes records with `a`.
-fn claim_of(alloc: Global, input: Label, output: Label) -> Result<Claim, Memory>
-    ensures { IfOk result (λ claim. FitsBoxes [] claim.net) }
+fn claim_of(rt: &impl Abort, alloc: Global, input: Label, output: Label) -> Claim
+    ensures { FitsBoxes [] result.net }
 {
-    let pattern = only(alloc, A)?;
-    let patterns = list(alloc, pattern)?;
-    let net = Net::Sync { place: 5, patterns };
-    let input = only(alloc, input)?;
-    let output = only(alloc, output)?;
-    let input = list(alloc, input)?;
-    let output = list(alloc, output)?;
-    Ok(Claim {
+    let patterns = list(rt, alloc, A);
+    Claim {
         place: 3,
-        net,
-        input,
-        output,
-    })
-}
-
-#[test]
-fn a_claim_is_accepted(rt: HostRuntime) -> Result<(), Fail> {
-    let claim = claim_of(rt.alloc(), A, A)?;
-    assert!(rt; check(rt.alloc(), &claim, &Seq::new(rt.alloc())).is_ok());
-    Ok(())
-}
-
-#[test]
-fn a_record_has_no_route(rt: HostRuntime) -> Result<(), Fail> {
-    let claim = claim_of(rt.alloc(), B, A)?;
-    assert!(rt;
-        matches!(
-            check(rt.alloc(), &claim, &Seq::new(rt.alloc())),
-            Err(FlowFault::NoRoute(5, _))
-        )
-    );
-    Ok(())
-}
-
-#[test]
-fn an_output_is_bad(rt: HostRuntime) -> Result<(), Fail> {
-    let claim = claim_of(rt.alloc(), A, B)?;
-    assert!(rt;
-        matches!(
-            check(rt.alloc(), &claim, &Seq::new(rt.alloc())),
-            Err(FlowFault::BadOutput(3, _))
-        )
-    );
-    Ok(())
-}
-
-#[test]
-fn a_flow_is_found(rt: HostRuntime) -> Result<(), Fail> {
-    let claim = claim_of(rt.alloc(), A, A)?;
-    let one = only(rt.alloc(), A)?;
-    match flow(rt.alloc(), &claim.net, &Seq::new(rt.alloc()), &one) {
-        Ok(sets) => assert!(rt; sets.len() == 1),
-        Err(_) => assert!(rt; false),
+        net: Net::Sync { place: 5, patterns },
+        input: list(rt, alloc, input),
+        output: list(rt, alloc, output),
     }
-    Ok(())
+}
+
+/// What comes of the check of such a claim.
+fn checked(rt: &impl Abort, alloc: Global, input: Label, output: Label) -> Result<(), FlowFault> {
+    let claim = claim_of(rt, alloc, input, output);
+    check(alloc, &claim, &Seq::new(alloc))
+}
+
+#[test]
+fn a_claim_is_accepted(rt: HostRuntime) {
+    assert!(rt; checked(&rt, rt.alloc(), A, A).is_ok());
+}
+
+#[test]
+fn a_record_has_no_route(rt: HostRuntime) {
+    let found = checked(&rt, rt.alloc(), B, A);
+    assert!(rt; matches!(found, Err(FlowFault::NoRoute(5, _))));
+}
+
+#[test]
+fn an_output_is_bad(rt: HostRuntime) {
+    let found = checked(&rt, rt.alloc(), A, B);
+    assert!(rt; matches!(found, Err(FlowFault::BadOutput(3, _))));
+}
+
+/// What flows from the set of `a`.
+fn flowing(rt: &impl Abort, alloc: Global) -> Result<Seq<LabelSet>, FlowFault> {
+    let claim = claim_of(rt, alloc, A, A);
+    let set = only(rt, alloc, A);
+    flow(alloc, &claim.net, &Seq::new(alloc), &set)
+}
+
+#[test]
+fn a_flow_is_found(rt: HostRuntime) {
+    let found = flowing(&rt, rt.alloc());
+    assert!(rt; matches!(&found, Ok(sets) if sets.len() == 1));
 }

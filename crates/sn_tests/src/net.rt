@@ -1,13 +1,16 @@
-ghost use Rattle.std.specs.Prelude.{[], IfOk, IsTrue};
+ghost use Rattle.std.specs.Prelude.{[], IsTrue};
+ghost use Rattle.std.specs.List.{list_all};
 ghost use Rattle.sn_net.specs.declared.net.Net.TheViews.{out-Net};
 ghost use Rattle.sn_net.specs.Face.{is_numbered};
 ghost use Rattle.sn_net.specs.Routable.{IsDispatcher};
 
-use sn_list::{Boxed, Memory, Seq};
+use crate::text::records;
+use sn_list::{Boxed, Seq};
 use sn_net::{Faced, Filter, Key, Merge, Net, Part, TagExpr, Template, all_det, face, route};
-use sn_record::{Fault, FaultKind, Item, Kind, Label, LabelSet, Record, Value};
+use sn_record::{Fault, FaultKind, Item, Kind, Label, LabelSet};
+use sn_stack::append;
 use std::alloc::Global;
-use std::test::Fail;
+use std::process::Abort;
 
 const A: Label = Label {
     kind: Kind::Field,
@@ -19,127 +22,153 @@ const T: Label = Label {
     id: 1,
 };
 
-/// A filter over `a` and `<t>` with one template.
-fn filter_of(alloc: Global, first: Part, second: Part) -> Result<Filter, Memory> {
-    let mut pattern = LabelSet::new(alloc);
-    pattern.insert(A)?;
-    pattern.insert(T)?;
-    let mut parts = Seq::new(alloc);
-    let mut templates = Seq::new(alloc);
-    if parts.push(first).is_err() || parts.push(second).is_err() {
-        return Err(Memory);
+/// The set of these labels.
+fn set_of(rt: &impl Abort, alloc: Global, labels: &[Label]) -> LabelSet {
+    let mut set = LabelSet::new(alloc);
+    for label in labels {
+        set.insert(*label).expect(rt, "memory");
     }
-    match templates.push(Template { parts }) {
-        Ok(()) => Ok(Filter {
-            place: 0,
-            pattern,
-            templates,
-        }),
-        Err(_) => Err(Memory),
+    set
+}
+
+/// The one template of two parts.
+fn template_of(rt: &impl Abort, alloc: Global, first: Part, second: Part) -> Template {
+    let mut parts = Seq::new(alloc);
+    append(&mut parts, first).expect(rt, "memory");
+    append(&mut parts, second).expect(rt, "memory");
+    Template { parts }
+}
+
+/// A filter over `a` and `<t>` with one template.
+fn filter_of(rt: &impl Abort, alloc: Global, first: Part, second: Part) -> Filter {
+    let mut templates = Seq::new(alloc);
+    append(&mut templates, template_of(rt, alloc, first, second)).expect(rt, "memory");
+    Filter {
+        place: 0,
+        pattern: set_of(rt, alloc, &[A, T]),
+        templates,
     }
 }
 
+fn is_closed(rt: &impl Abort, alloc: Global, first: Part, second: Part) -> bool {
+    filter_of(rt, alloc, first, second).is_closed()
+}
+
 #[test]
-fn filters_are_closed(rt: HostRuntime) -> Result<(), Fail> {
-    let closed = filter_of(
-        rt.alloc(),
-        Part::Rename(2, 1),
-        Part::Compute(2, TagExpr::Tag(1)),
-    )?;
-    let twice = filter_of(rt.alloc(), Part::Copy(A), Part::Rename(1, 1))?;
-    let missing = filter_of(rt.alloc(), Part::Copy(T), Part::Compute(2, TagExpr::Tag(2)))?;
-    assert!(rt; closed.is_closed() && !twice.is_closed() && !missing.is_closed());
-    Ok(())
+fn filters_are_closed(rt: HostRuntime) {
+    let alloc = rt.alloc();
+    let sum = Part::Compute(2, TagExpr::Tag(1));
+    assert!(rt; is_closed(&rt, alloc, Part::Rename(2, 1), sum));
+    assert!(rt; !is_closed(&rt, alloc, Part::Copy(A), Part::Rename(1, 1)));
+    let missing = Part::Compute(2, TagExpr::Tag(2));
+    assert!(rt; !is_closed(&rt, alloc, Part::Copy(T), missing));
 }
 
 /// A filter that takes each record with the label, and answers none.
-fn sink(alloc: Global, label: Label) -> Result<Filter, Memory> {
-    let mut pattern = LabelSet::new(alloc);
-    pattern.insert(label)?;
-    Ok(Filter {
+fn sink(rt: &impl Abort, alloc: Global, label: Label) -> Filter {
+    Filter {
         place: 0,
-        pattern,
+        pattern: set_of(rt, alloc, &[label]),
         templates: Seq::new(alloc),
-    })
+    }
 }
 
-/// A choice of a sink for each label, in a split, with no faces yet.
-fn split_of(alloc: Global, labels: &[Label]) -> Result<Net, Memory>
-    ensures numbered { IfOk result (λ net. IsTrue (is_numbered [] net)) }
-    ensures routes { IfOk result (λ net. IsDispatcher (out-Net net)) }
+/// A sink for each label.
+fn sinks(rt: &impl Abort, alloc: Global, labels: &[Label]) -> Seq<Net>
+    ensures { IsTrue (list_all (is_numbered []) result) }
 {
     let mut branches = Seq::new(alloc);
     for label in labels {
-        let branch = Net::Filter(sink(alloc, *label)?);
-        if branches.push(branch).is_err() {
-            return Err(Memory);
-        }
+        let branch = Net::Filter(sink(rt, alloc, *label));
+        append(&mut branches, branch).expect(rt, "memory");
     }
+    branches
+}
+
+/// A choice of a sink for each label, in a split, with no faces yet.
+fn split_of(rt: &impl Abort, alloc: Global, labels: &[Label]) -> Net
+    ensures numbered { IsTrue (is_numbered [] result) }
+    ensures routes { IsDispatcher (out-Net result) }
+{
     let choice = Net::Choice {
         place: 0,
         merge: Merge::Free,
-        branches,
+        branches: sinks(rt, alloc, labels),
         faces: Seq::new(alloc),
     };
-    Ok(Net::Split {
+    Net::Split {
         place: 0,
         merge: Merge::Free,
-        body: Boxed::new(alloc, choice)?,
+        body: Boxed::new(alloc, choice).expect(rt, "memory"),
         tag: 1,
-    })
+    }
+}
+
+/// Whether the face is both labels, and then the tag alone.
+fn is_face_of_both(face: &[LabelSet]) -> bool {
+    match face {
+        [both, tag] => both.contains(A) && both.contains(T) && !tag.contains(A),
+        _ => false,
+    }
 }
 
 #[test]
-fn a_face_ascends_without_repeats(rt: HostRuntime) -> Result<(), Fail> {
-    let net = split_of(rt.alloc(), &[T, A, T])?;
-    let sets = face(rt.alloc(), &net, &Seq::new(rt.alloc()))?;
-    assert_eq!(rt; sets.len(), 2);
-    assert!(rt; sets.at(0).contains(A) && sets.at(0).contains(T) && !sets.at(1).contains(A));
-    Ok(())
+fn a_face_ascends_without_repeats(rt: HostRuntime) {
+    let net = split_of(&rt, rt.alloc(), &[T, A, T]);
+    let sets = face(rt.alloc(), &net, &Seq::new(rt.alloc())).expect(&rt, "memory");
+    assert!(rt; is_face_of_both(sets.as_slice()));
 }
 
 /// A choice of a sink for each label, beside its face.
-fn choice_of(alloc: Global, labels: &[Label]) -> Result<Faced, Memory> {
+fn choice_of(rt: &impl Abort, alloc: Global, labels: &[Label]) -> Faced {
     let mut branches = Seq::new(alloc);
     for label in labels {
-        let branch = Faced::filter(alloc, sink(alloc, *label)?)?;
-        if branches.push(branch).is_err() {
-            return Err(Memory);
-        }
+        let branch = Faced::filter(alloc, sink(rt, alloc, *label)).expect(rt, "memory");
+        append(&mut branches, branch).expect(rt, "memory");
     }
-    Faced::choice(alloc, 0, Merge::Free, branches)
+    Faced::choice(alloc, 0, Merge::Free, branches).expect(rt, "memory")
 }
 
 #[test]
-fn a_net_is_made_beside_its_face(rt: HostRuntime) -> Result<(), Fail> {
-    let choice = choice_of(rt.alloc(), &[T, A, T])?;
-    let split = Faced::split(rt.alloc(), 0, Merge::Free, choice, 1)?;
-    let face = &split.face;
-    assert_eq!(rt; face.len(), 2);
-    assert!(rt; face.at(0).contains(A) && face.at(0).contains(T) && !face.at(1).contains(A));
-    Ok(())
+fn a_net_is_made_beside_its_face(rt: HostRuntime) {
+    let choice = choice_of(&rt, rt.alloc(), &[T, A, T]);
+    let split = Faced::split(rt.alloc(), 0, Merge::Free, choice, 1).expect(&rt, "memory");
+    assert!(rt; is_face_of_both(split.face.as_slice()));
 }
 
-/// A record with the tag that the split of `split_of` asks for.
-fn tagged(alloc: Global, n: i64) -> Result<Item, Memory> {
-    let mut record = Record::new(alloc);
-    match record.set(T, Value::Int(n)) {
-        Ok(_) => Ok(Item::Rec(record)),
-        Err(_) => Err(Memory),
+/// The key of an item in a split.
+fn key_of(rt: &impl Abort, alloc: Global, item: &Item) -> Key {
+    route(&split_of(rt, alloc, &[]), item)
+}
+
+/// The key of the text's last record in a split.
+fn key_of_last(rt: &impl Abort, alloc: Global, text: &str) -> Key {
+    let mut records = records(rt, alloc, text).into_vec();
+    let record = records.pop().expect(rt, "a record");
+    key_of(rt, alloc, &Item::Rec(record))
+}
+
+#[test]
+fn a_split_routes_by_its_tag(rt: HostRuntime) {
+    for (text, wanted) in [("{a=0}\n{<t>=7}", Key::Value(7)), ("{}", Key::Stuck)] {
+        assert!(rt; key_of_last(&rt, rt.alloc(), text) == wanted, "{text}");
     }
 }
 
 #[test]
-fn a_split_routes_by_its_tag(rt: HostRuntime) -> Result<(), Fail> {
-    let net = split_of(rt.alloc(), &[])?;
-    let missing = Item::Rec(Record::new(rt.alloc()));
-    let fault = Item::Fault(Fault {
+fn a_split_lets_faults_by(rt: HostRuntime) {
+    let fault = Fault {
         kind: FaultKind::Overflow,
         place: 3,
-    });
-    assert!(rt; route(&net, &tagged(rt.alloc(), 7)?) == Key::Value(7));
-    assert!(rt; route(&net, &missing) == Key::Stuck);
-    assert!(rt; route(&net, &fault) == Key::Bypass);
-    assert!(rt; !all_det(&net));
-    Ok(())
+    };
+    assert!(rt; key_of(&rt, rt.alloc(), &Item::Fault(fault)) == Key::Bypass);
+}
+
+fn is_in_order(rt: &impl Abort, alloc: Global) -> bool {
+    all_det(&split_of(rt, alloc, &[]))
+}
+
+#[test]
+fn a_free_split_is_not_in_order(rt: HostRuntime) {
+    assert!(rt; !is_in_order(&rt, rt.alloc()));
 }

@@ -1,29 +1,27 @@
-use crate::text::records;
+use crate::text::read;
 use sn_io::MemSink;
-use sn_list::Memory;
+use sn_names::Names;
 use sn_output::{LineFault, LineSink, line_of};
+use sn_record::Record;
 use std::alloc::Global;
-use std::test::Fail;
+use std::process::Abort;
 
-/// Whether the records of the text are printed as these lines.
-fn prints(alloc: Global, text: &str, lines: &[&[u8]]) -> Result<bool, Fail> {
-    let input = records(alloc, text)?;
-    let mut printed = Vec::new(alloc);
-    for record in input.records.as_slice() {
-        let line = line_of(alloc, record, &input.names)?;
-        printed.push(line)?;
+/// Whether the one record of the text is printed as this line.
+fn prints(rt: &impl Abort, alloc: Global, text: &str, line: &[u8]) -> bool {
+    let input = read(alloc, text).expect(rt, "records");
+    match input.records.as_slice() {
+        [record] => is_printed(rt, alloc, record, &input.names, line),
+        _ => false,
     }
-    Ok(
-        printed.len() == lines.len()
-            && printed
-                .iter()
-                .zip(lines)
-                .all(|(line, wanted)| line.as_slice() == *wanted),
-    )
+}
+
+fn is_printed(rt: &impl Abort, alloc: Global, record: &Record, names: &Names, line: &[u8]) -> bool {
+    let printed = line_of(alloc, record, names).expect(rt, "memory");
+    printed.as_slice() == line
 }
 
 #[test]
-fn records_are_printed_in_order_of_their_names(rt: HostRuntime) -> Result<(), Fail> {
+fn records_are_printed_in_order_of_their_names(rt: HostRuntime) {
     let table: [(&str, &[u8]); 5] = [
         ("{}", b"{}\n"),
         ("{<t>=7,b=1}", b"{b=1, <t>=7}\n"),
@@ -41,43 +39,61 @@ fn records_are_printed_in_order_of_their_names(rt: HostRuntime) -> Result<(), Fa
         ),
     ];
     for (text, line) in table {
-        assert!(rt; prints(rt.alloc(), text, &[line])?);
+        assert!(rt; prints(&rt, rt.alloc(), text, line), "{text}");
     }
-    Ok(())
 }
 
-/// What a sink that takes a few bytes a call holds behind the lines of the text's records, up to the first that was not written, and
-/// whether that was for a failing sink.
-fn written(alloc: Global, text: &str, failing_call: Option<u64>) -> Result<(Vec<u8>, bool), Fail> {
-    let input = records(alloc, text)?;
+/// A sink that takes a few bytes a call.
+fn sink_of(rt: &impl Abort, alloc: Global, failing_call: Option<u64>) -> MemSink {
     let mut sink = MemSink::new(alloc, 3);
-    sink.reserve(100)?;
+    sink.reserve(100).expect(rt, "memory");
     if let Some(call) = failing_call {
-        sink.fail_at(call)?;
+        sink.fail_at(call).expect(rt, "memory");
     }
+    sink
+}
+
+/// Writes the lines of the records up to the first that is not written, and says why that one is not.
+fn write_lines(
+    alloc: Global,
+    records: &[Record],
+    lines: &mut LineSink<MemSink>,
+) -> Option<LineFault> {
+    for record in records {
+        if let Err(fault) = lines.line(alloc, record) {
+            return Some(fault);
+        }
+    }
+    None
+}
+
+/// Whether a sink holds these bytes behind the lines of the text's records, and the first that was not written is so for this cause.
+fn holds(
+    rt: &impl Abort,
+    alloc: Global,
+    text: &str,
+    mut sink: MemSink,
+    bytes: &[u8],
+    cause: Option<LineFault>,
+) -> bool {
+    let input = read(alloc, text).expect(rt, "records");
     let mut lines = LineSink {
         sink: &mut sink,
         names: &input.names,
     };
-    let mut failed = false;
-    for record in input.records.as_slice() {
-        match lines.line(alloc, record) {
-            Ok(()) => {}
-            Err(LineFault::Memory) => return Err(Memory.into()),
-            Err(LineFault::WriteFault) => {
-                failed = true;
-                break;
-            }
-        }
-    }
-    Ok((Vec::from_slice(alloc, sink.held())?, failed))
+    let found = write_lines(alloc, input.records.as_slice(), &mut lines);
+    found == cause && sink.held() == bytes
 }
 
 #[test]
-fn lines_are_written_whole_where_the_sink_does_not_fail(rt: HostRuntime) -> Result<(), Fail> {
-    let (whole, failed) = written(rt.alloc(), "{<t>=7}\n{}", None)?;
-    assert!(rt; !failed && whole.as_slice() == b"{<t>=7}\n{}\n".as_slice());
-    let (part, failed) = written(rt.alloc(), "{<t>=7}\n{}", Some(2))?;
-    assert!(rt; failed && part.as_slice() == b"{<t".as_slice());
-    Ok(())
+fn lines_are_written_whole_where_the_sink_does_not_fail(rt: HostRuntime) {
+    let sink = sink_of(&rt, rt.alloc(), None);
+    assert!(rt; holds(&rt, rt.alloc(), "{<t>=7}\n{}", sink, b"{<t>=7}\n{}\n", None));
+}
+
+#[test]
+fn a_line_is_written_up_to_where_the_sink_fails(rt: HostRuntime) {
+    let sink = sink_of(&rt, rt.alloc(), Some(2));
+    let cause = Some(LineFault::WriteFault);
+    assert!(rt; holds(&rt, rt.alloc(), "{<t>=7}\n{}", sink, b"{<t", cause));
 }

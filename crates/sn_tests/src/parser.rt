@@ -2,7 +2,7 @@ use crate::text::program;
 use sn_ast::{Decl, ItemSource, NetForm, Program, TypePart};
 use sn_parser::ParseFault;
 use std::alloc::Global;
-use std::test::Fail;
+use std::process::Abort;
 
 /// How many declarations stand in the outermost scope of the source, or its refusal.
 fn count_of(alloc: Global, source: &str) -> Result<usize, ParseFault> {
@@ -49,7 +49,7 @@ fn value_place_of(alloc: Global, source: &str) -> Option<u32> {
 }
 
 #[test]
-fn programs_are_accepted(rt: HostRuntime) -> Result<(), Fail> {
+fn programs_are_accepted(rt: HostRuntime) {
     for (source, count) in [
         ("", 0),
         ("// none", 0),
@@ -79,13 +79,12 @@ fn programs_are_accepted(rt: HostRuntime) -> Result<(), Fail> {
             1,
         ),
     ] {
-        assert!(rt; matches!(count_of(rt.alloc(), source), Ok(found) if found == count));
+        assert!(rt; count_of(rt.alloc(), source) == Ok(count), "{source}");
     }
-    Ok(())
 }
 
 #[test]
-fn other_sources_are_refused(rt: HostRuntime) -> Result<(), Fail> {
+fn other_sources_are_refused(rt: HostRuntime) {
     for (source, place) in [
         ("net main ({a} -> {b}) connect [{a} -> {b=a}]", 44),
         ("net main ({a} -> {a}) connect [] || [] | [];", 39),
@@ -101,15 +100,13 @@ fn other_sources_are_refused(rt: HostRuntime) -> Result<(), Fail> {
         ("box f ((a) -> (b)) { 1 < 2 < 3 }", 27),
         ("net n connect f; }", 17),
     ] {
-        assert!(rt;
-            matches!(count_of(rt.alloc(), source), Err(ParseFault::Unexpected(at)) if at == place)
-        );
+        let refusal = Err(ParseFault::Unexpected(place));
+        assert!(rt; count_of(rt.alloc(), source) == refusal, "{source}");
     }
-    Ok(())
 }
 
 #[test]
-fn places_are_those_of_the_forms(rt: HostRuntime) -> Result<(), Fail> {
+fn places_are_those_of_the_forms(rt: HostRuntime) {
     for (source, place) in [
         ("net n connect f;", 14),
         ("net n connect [];", 14),
@@ -139,8 +136,12 @@ fn places_are_those_of_the_forms(rt: HostRuntime) -> Result<(), Fail> {
         ("type t = {a} | u;", 9),
         ("typesig s = t;", 8),
     ] {
-        assert!(rt; matches!(place_of(rt.alloc(), source), Some(at) if at == place));
+        assert!(rt; place_of(rt.alloc(), source) == Some(place), "{source}");
     }
+}
+
+#[test]
+fn places_are_those_of_the_values(rt: HostRuntime) {
     for (source, place) in [
         ("net n connect [{<t>} -> {<t>=1}];", 29),
         ("net n connect [{<t>} -> {<t>=<t>}];", 29),
@@ -151,69 +152,57 @@ fn places_are_those_of_the_forms(rt: HostRuntime) -> Result<(), Fail> {
         ("net n connect [{<t>} -> {<t>=1?2:3}];", 30),
         ("net n connect [{<t>} -> {<t>=(1)}];", 30),
     ] {
-        assert!(rt; matches!(value_place_of(rt.alloc(), source), Some(at) if at == place));
+        assert!(rt;
+            value_place_of(rt.alloc(), source) == Some(place),
+            "{source}"
+        );
     }
-    Ok(())
 }
 
-/// The front, `depth` times the opening, the middle, and as often the closing, and the end.
-fn nested(
-    alloc: Global,
-    front: &str,
-    opening: &str,
-    middle: &str,
-    closing: &str,
-    end: &str,
-    depth: usize,
-) -> Result<String, Fail> {
-    let mut source = String::new(alloc);
-    source.push_str(front)?;
-    for _ in 0..depth {
-        source.push_str(opening)?;
+/// Adds the piece so many times.
+fn repeat(rt: &impl Abort, source: &mut String, piece: &str, times: usize) {
+    for _ in 0..times {
+        source.push_str(piece).expect(rt, "memory");
     }
-    source.push_str(middle)?;
-    for _ in 0..depth {
-        source.push_str(closing)?;
-    }
-    source.push_str(end)?;
-    Ok(source)
 }
 
 /// Networks in so many parentheses.
-fn in_parentheses(alloc: Global, depth: usize, end: &str) -> Result<String, Fail> {
-    nested(
-        alloc,
-        "net main ({a} -> {a}) connect ",
-        "(",
-        "[]",
-        ")",
-        end,
-        depth,
-    )
+fn in_parentheses(rt: &impl Abort, alloc: Global, depth: usize, end: &str) -> String {
+    let mut source = String::new(alloc);
+    repeat(rt, &mut source, "net main ({a} -> {a}) connect ", 1);
+    repeat(rt, &mut source, "(", depth);
+    repeat(rt, &mut source, "[]", 1);
+    repeat(rt, &mut source, ")", depth);
+    repeat(rt, &mut source, end, 1);
+    source
 }
 
 /// A filter with so many signs.
-fn signs(alloc: Global, depth: usize) -> Result<String, Fail> {
+fn signs(rt: &impl Abort, alloc: Global, depth: usize) -> String {
     let front = "net main ({<a>} -> {<a>}) connect [{<a>} -> {<a>=";
-    nested(alloc, front, "-", "<a>}];", "", "", depth)
+    let mut source = String::new(alloc);
+    repeat(rt, &mut source, front, 1);
+    repeat(rt, &mut source, "-", depth);
+    repeat(rt, &mut source, "<a>}];", 1);
+    source
 }
 
 #[test]
-fn limits_are_exact(rt: HostRuntime) -> Result<(), Fail> {
-    let source = in_parentheses(rt.alloc(), 128, ";")?;
-    assert!(rt; matches!(count_of(rt.alloc(), &source), Ok(1)));
-    let source = in_parentheses(rt.alloc(), 129, ";")?;
-    assert!(rt; matches!(count_of(rt.alloc(), &source), Err(ParseFault::TooDeep(4))));
-    let source = in_parentheses(rt.alloc(), 129, "")?;
-    assert!(rt;
-        matches!(
-            count_of(rt.alloc(), &source),
-            Err(ParseFault::Unexpected(290))
-        )
-    );
-    let source = signs(rt.alloc(), 63)?;
-    assert!(rt; matches!(count_of(rt.alloc(), &source), Ok(1)));
-    let source = signs(rt.alloc(), 64)?;
-    assert!(rt; matches!(count_of(rt.alloc(), &source), Err(ParseFault::TooDeep(4))));
-    Ok(())
+fn limits_of_parentheses_are_exact(rt: HostRuntime) {
+    for (depth, end, wanted) in [
+        (128, ";", Ok(1)),
+        (129, ";", Err(ParseFault::TooDeep(4))),
+        (129, "", Err(ParseFault::Unexpected(290))),
+    ] {
+        let source = in_parentheses(&rt, rt.alloc(), depth, end);
+        assert!(rt; count_of(rt.alloc(), &source) == wanted, "{depth}{end}");
+    }
+}
+
+#[test]
+fn limits_of_signs_are_exact(rt: HostRuntime) {
+    for (depth, wanted) in [(63, Ok(1)), (64, Err(ParseFault::TooDeep(4)))] {
+        let source = signs(&rt, rt.alloc(), depth);
+        assert!(rt; count_of(rt.alloc(), &source) == wanted, "{depth}");
+    }
 }

@@ -1,8 +1,8 @@
-use sn_list::Memory;
-use sn_record::{Kind, Label, LabelSet, Record, Value};
+use crate::text::records;
+use sn_record::{Kind, Label, LabelSet, Record};
 use sn_sync::{Cell, CellOut};
 use std::alloc::Global;
-use std::test::Fail;
+use std::process::Abort;
 
 const A: Label = Label {
     kind: Kind::Tag,
@@ -14,56 +14,64 @@ const B: Label = Label {
     id: 1,
 };
 
-fn pattern(alloc: Global, label: Label) -> Result<LabelSet, Memory> {
+fn pattern(rt: &impl Abort, alloc: Global, label: Label) -> LabelSet {
     let mut pattern = LabelSet::new(alloc);
-    pattern.insert(label)?;
-    Ok(pattern)
+    pattern.insert(label).expect(rt, "memory");
+    pattern
 }
 
 /// `[| {<a>}, {<b>} |]`
-fn cell(alloc: Global) -> Result<Cell, Memory> {
-    Cell::new(alloc, &[pattern(alloc, A)?, pattern(alloc, B)?])
+fn cell(rt: &impl Abort, alloc: Global) -> Cell {
+    let patterns = [pattern(rt, alloc, A), pattern(rt, alloc, B)];
+    Cell::new(alloc, &patterns).expect(rt, "memory")
 }
 
-/// A record with the tag.
-fn one(alloc: Global, label: Label, n: i64) -> Result<Record, Memory> {
-    let mut record = Record::new(alloc);
-    match record.set(label, Value::Int(n)) {
-        Ok(_) => Ok(record),
-        Err(_) => Err(Memory),
-    }
-}
-
-/// A record with both tags.
-fn two(alloc: Global, a: i64, b: i64) -> Result<Record, Memory> {
-    one(alloc, A, a)?.union_left(&one(alloc, B, b)?)
-}
-
-/// What comes out for a record. Nothing does for one that matches no pattern, nor for want of memory.
-fn offered(cell: &mut Cell, r: Record) -> Option<CellOut> {
-    if cell.accepts(&r) {
-        cell.offer(r).ok()
+/// What comes out for a copy of a record. Nothing does for one that matches no pattern, nor for want of memory.
+fn offered(rt: &impl Abort, cell: &mut Cell, r: &Record) -> Option<CellOut> {
+    if cell.accepts(r) {
+        cell.offer(r.copy().expect(rt, "memory")).ok()
     } else {
         None
     }
 }
 
-#[test]
-fn a_cell_holds_and_then_joins(rt: HostRuntime) -> Result<(), Fail> {
-    let alloc = rt.alloc();
-    let mut cell = cell(alloc)?;
-    assert!(rt; offered(&mut cell, one(alloc, B, 2)?) == Some(CellOut::Held));
-    assert!(rt; offered(&mut cell, two(alloc, 1, 3)?) == Some(CellOut::Joined(two(alloc, 1, 3)?)));
-    assert!(rt; cell.has_joined());
-    Ok(())
+/// Whether the record is held.
+fn is_held(rt: &impl Abort, cell: &mut Cell, r: &Record) -> bool {
+    matches!(offered(rt, cell, r), Some(CellOut::Held))
+}
+
+/// Whether the record passes.
+fn passes(rt: &impl Abort, cell: &mut Cell, r: &Record) -> bool {
+    match offered(rt, cell, r) {
+        Some(CellOut::Passed(passed)) => passed == *r,
+        _ => false,
+    }
+}
+
+/// Whether the record joins with what is held, of which it has all tags.
+fn joins(rt: &impl Abort, cell: &mut Cell, r: &Record) -> bool {
+    match offered(rt, cell, r) {
+        Some(CellOut::Joined(joined)) => joined == *r,
+        _ => false,
+    }
 }
 
 #[test]
-fn filled_patterns_pass(rt: HostRuntime) -> Result<(), Fail> {
-    let alloc = rt.alloc();
-    let mut cell = cell(alloc)?;
-    assert!(rt; offered(&mut cell, one(alloc, A, 1)?) == Some(CellOut::Held));
-    assert!(rt; offered(&mut cell, one(alloc, A, 2)?) == Some(CellOut::Passed(one(alloc, A, 2)?)));
+fn a_cell_holds_and_then_joins(rt: HostRuntime) {
+    let records = records(&rt, rt.alloc(), "{<a>=1, <b>=3}\n{<b>=2}");
+    assert!(rt; records.len() == 2);
+    let mut cell = cell(&rt, rt.alloc());
+    assert!(rt; is_held(&rt, &mut cell, records.at(1)));
+    assert!(rt; joins(&rt, &mut cell, records.at(0)));
+    assert!(rt; cell.has_joined());
+}
+
+#[test]
+fn filled_patterns_pass(rt: HostRuntime) {
+    let records = records(&rt, rt.alloc(), "{<a>=1}\n{<a>=2}");
+    assert!(rt; records.len() == 2);
+    let mut cell = cell(&rt, rt.alloc());
+    assert!(rt; is_held(&rt, &mut cell, records.at(0)));
+    assert!(rt; passes(&rt, &mut cell, records.at(1)));
     assert!(rt; !cell.has_joined());
-    Ok(())
 }

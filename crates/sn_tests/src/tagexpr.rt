@@ -1,10 +1,10 @@
-ghost use Rattle.std.specs.Prelude.{IfOk, IsTrue, true};
+ghost use Rattle.std.specs.Prelude.{IsTrue, true};
 ghost use Rattle.sn_tagexpr.specs.Evaluation.{every_tag};
 
-use sn_list::{Boxed, Memory};
+use sn_list::Boxed;
 use sn_tagexpr::{BinOp, ExprFault, TagExpr, Tags, eval, negate, operate, truth};
 use std::alloc::Global;
-use std::test::Fail;
+use std::process::Abort;
 
 /// Each tag has its own number as its value.
 #[derive(Drop)]
@@ -24,40 +24,39 @@ impl Tags for Numbered {
 
 #[test]
 fn operators_keep_to_their_range(rt: HostRuntime) {
-    assert!(rt; operate(BinOp::Rem, i64::MIN, -1) == Ok(0));
-    assert!(rt; operate(BinOp::Div, i64::MIN, -1) == Err(ExprFault::Overflow));
-    assert!(rt; operate(BinOp::Rem, -7, 2) == Ok(-1));
-    assert!(rt; operate(BinOp::Div, -7, 2) == Ok(-3));
-    assert!(rt; operate(BinOp::Rem, 1, 0) == Err(ExprFault::DivZero));
-    assert!(rt; operate(BinOp::Mul, i64::MAX, -1) == Ok(-i64::MAX));
-    assert!(rt; negate(i64::MIN) == Err(ExprFault::Overflow) && truth(true) == 1);
+    for (op, left, right, wanted) in [
+        (BinOp::Rem, i64::MIN, -1, Ok(0)),
+        (BinOp::Div, i64::MIN, -1, Err(ExprFault::Overflow)),
+        (BinOp::Rem, -7, 2, Ok(-1)),
+        (BinOp::Div, -7, 2, Ok(-3)),
+        (BinOp::Rem, 1, 0, Err(ExprFault::DivZero)),
+        (BinOp::Mul, i64::MAX, -1, Ok(-i64::MAX)),
+    ] {
+        assert!(rt; operate(op, left, right) == wanted, "{left} {right}");
+    }
+    assert!(rt; negate(i64::MIN) == Err(ExprFault::Overflow));
+    assert!(rt; truth(true) == 1);
 }
 
-/// The tag, compared with a number.
-fn compared(alloc: Global, op: BinOp, id: u32, n: i64) -> Result<Boxed<TagExpr>, Memory>
-    ensures { IfOk result (λ e. IsTrue (every_tag (λ _. true) e)) }
+/// The tag 7, compared with a number.
+fn compared(rt: &impl Abort, alloc: Global, op: BinOp, n: i64) -> Boxed<TagExpr>
+    ensures { IsTrue (every_tag (λ _. true) result) }
 {
-    let tag = Boxed::new(alloc, TagExpr::Tag(id))?;
-    let number = Boxed::new(alloc, TagExpr::Number(n))?;
-    Boxed::new(alloc, TagExpr::Op(op, tag, number))
+    let tag = Boxed::new(alloc, TagExpr::Tag(7)).expect(rt, "memory");
+    let number = Boxed::new(alloc, TagExpr::Number(n)).expect(rt, "memory");
+    Boxed::new(alloc, TagExpr::Op(op, tag, number)).expect(rt, "memory")
 }
 
 #[test]
-fn parts_that_are_not_needed_are_not_evaluated(rt: HostRuntime) -> Result<(), Fail> {
-    let alloc = rt.alloc();
-    let below = compared(alloc, BinOp::Lt, 7, 5)?;
-    let wrong = compared(alloc, BinOp::Div, 7, 0)?;
-    let both = TagExpr::And(below, wrong);
-    assert!(rt; eval(&both, &Numbered) == Ok(0));
-    Ok(())
+fn parts_that_are_not_needed_are_not_evaluated(rt: HostRuntime) {
+    let below = compared(&rt, rt.alloc(), BinOp::Lt, 5);
+    let wrong = compared(&rt, rt.alloc(), BinOp::Div, 0);
+    assert!(rt; eval(&TagExpr::And(below, wrong), &Numbered) == Ok(0));
 }
 
 #[test]
-fn the_left_part_comes_first(rt: HostRuntime) -> Result<(), Fail> {
-    let alloc = rt.alloc();
-    let wrong = compared(alloc, BinOp::Rem, 7, 0)?;
-    let above = compared(alloc, BinOp::Gt, 7, 5)?;
-    let either = TagExpr::Or(above, wrong);
-    assert!(rt; eval(&either, &Numbered) == Ok(1));
-    Ok(())
+fn the_left_part_comes_first(rt: HostRuntime) {
+    let above = compared(&rt, rt.alloc(), BinOp::Gt, 5);
+    let wrong = compared(&rt, rt.alloc(), BinOp::Rem, 0);
+    assert!(rt; eval(&TagExpr::Or(above, wrong), &Numbered) == Ok(1));
 }

@@ -4,7 +4,6 @@ use sn_ast::{Keyword, Symbol, Terminal};
 use sn_lexer::lex;
 use sn_terminal::terminal;
 use std::alloc::Global;
-use std::test::Fail;
 
 /// What the first token of the source says.
 fn first_said(alloc: Global, source: &[u8]) -> Option<Terminal>
@@ -16,7 +15,7 @@ fn first_said(alloc: Global, source: &[u8]) -> Option<Terminal>
 }
 
 #[test]
-fn words_say_terminals(rt: HostRuntime) -> Result<(), Fail> {
+fn words_say_terminals(rt: HostRuntime) {
     let number = first_said(rt.alloc(), b"  12");
     assert!(rt; matches!(&number, Some(Terminal::Number { value: 12, at: 2 })));
     let keyword = first_said(rt.alloc(), b"then");
@@ -39,11 +38,10 @@ fn words_say_terminals(rt: HostRuntime) -> Result<(), Fail> {
             })
         )
     );
-    Ok(())
 }
 
 #[test]
-fn words_say_texts(rt: HostRuntime) -> Result<(), Fail> {
+fn words_say_texts(rt: HostRuntime) {
     let tag = first_said(rt.alloc(), b"<ab>");
     assert!(rt;
         matches!(&tag, Some(Terminal::Tag(name)) if name.text.as_slice() == b"ab".as_slice())
@@ -52,5 +50,4 @@ fn words_say_texts(rt: HostRuntime) -> Result<(), Fail> {
     assert!(rt;
         matches!(&literal, Some(Terminal::Literal { text, .. }) if text.as_slice() == b"a\"\\".as_slice())
     );
-    Ok(())
 }

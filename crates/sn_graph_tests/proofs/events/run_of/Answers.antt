@@ -16,4 +16,4 @@ single_fits f closed =
     (record { closed = All-nil IsClosedBox; sound = every_made-Net (IsSound []) (Net-F.Filter f) (Net-F.Filter f) refl closed }) ∣₁
 
 pub new-requires-clause-formed : goal.new-requires-clause-formed
-new-requires-clause-formed c = subst (λ boxes. FitsBoxes boxes (FilterLeaf c.args.filter)) (sym c.new-boxes.ensures) (single_fits c.args.filter c.requires)
+new-requires-clause-formed g c = subst (λ boxes. FitsBoxes boxes (FilterLeaf c.args.filter)) (sym c.new-boxes.ensures) (single_fits c.args.filter c.requires)

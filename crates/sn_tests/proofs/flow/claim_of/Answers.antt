@@ -8,7 +8,7 @@ use Rattle.sn_net.specs.WellFormed.{IsSound}
 use Rattle.sn_tests.proofs.flow.claim_of.Goals as goal
 
 pub returns : goal.returns
-returns c = ∣ record {
+returns g c = ∣ record {
   closed = All-nil IsClosedBox;
-  sound = subst (every-Net (IsSound [])) (form.rolls-Sync 5 c.in_ok-patterns.patterns) (every_made-Net (IsSound []) (Net-F.Sync 5 c.in_ok-patterns.patterns) (Net-F.Sync 5 c.in_ok-patterns.patterns) refl tt);
+  sound = subst (every-Net (IsSound [])) (form.rolls-Sync 5 c.list-patterns.result) (every_made-Net (IsSound []) (Net-F.Sync 5 c.list-patterns.result) (Net-F.Sync 5 c.list-patterns.result) refl tt);
 } ∣₁

@@ -6,8 +6,9 @@ use Rattle.sn_net.proofs.Variants.{numbered-Choice, numbered-Split}
 use Rattle.sn_tests.proofs.net.split_of.Goals as goal
 
 pub returns-clause-numbered : goal.returns-clause-numbered
-returns-clause-numbered c =
-    numbered-Split [] 0 Free c.in_ok-new.field-0 1 ∙ ap (is_numbered []) c.in_ok-new.ensures ∙ numbered-Choice [] 0 Free c.loop-label.branches c.new.result ∙ c.loop-label.invariant
+returns-clause-numbered g c =
+    let boxed = rw c.expect.ensures at c.new-2.ensures in
+    numbered-Split [] 0 Free c.expect.result 1 ∙ ap (is_numbered []) boxed ∙ numbered-Choice [] 0 Free c.sinks.result c.new.result ∙ c.sinks.ensures
 
 pub returns-clause-routes : goal.returns-clause-routes
-returns-clause-routes c = split_routes 0 Free c.in_ok-new.field-0 1
+returns-clause-routes g c = split_routes 0 Free c.expect.result 1

@@ -1,4 +1,4 @@
 use Rattle.sn_tests.proofs.once.given.Goals as goal
 
-pub run_of-requires : goal.run_of-requires
-run_of-requires c = c.is_closed.ensures.0 c.if-not-is_closed.false
+pub run_of-run-requires : goal.run_of-run-requires
+run_of-run-requires g c = c.is_closed.ensures.0 c.if-not-is_closed.false
