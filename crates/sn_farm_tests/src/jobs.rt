@@ -1,67 +1,72 @@
-ghost use Rattle.std.specs.Prelude.{◌≡◌, IfOk, IfSome};
+ghost use Rattle.std.specs.Prelude.{◌≡◌, IfSome};
 ghost use Rattle.sn_boxrun.specs.Job.{IsJobOf};
 
 use crate::load::{Loaded, load};
 use sn_boxrun::{Job, make_done};
 use sn_jobs::{JobHand, JobOwner, make};
-use sn_list::Memory;
 use sn_model::Run;
 use sn_net::variant_of;
 use sn_record::{Item, Record};
 use std::alloc::Global;
+use std::process::Abort;
 use std::sync::{Arc, Wait};
-use std::test::Fail;
 use std::thread::{Threads, join, yield_now};
 
 /// How often a thread looks again before it gives up.
 const MOST_TURNS: u64 = 10_000_000;
 
-/// A run of one box over a record, and the record.
-fn started(alloc: Global) -> Result<Option<(Arc<Run>, Record)>, Fail> {
+/// A run of one box over a record.
+fn started(rt: &impl Abort, alloc: Global) -> Arc<Run> {
     let source = "box b ((a) -> (b)) { out 1(a + 1) } net main ({a} -> {b}) connect b;";
-    let Ok(Loaded { run, names: _ }) = load(alloc, source, "{a=1}", 16) else {
-        return Ok(None);
-    };
+    let Loaded { run, names: _ } = load(alloc, source, "{a=1}", 16).expect(
+        rt,
+        "a source and its input",
+    );
+    Arc::new(alloc, run).expect(rt, "memory")
+}
+
+/// A copy of the run's first record.
+fn given(rt: &impl Abort, run: &Run) -> Record {
     let given = match run.items().as_slice() {
-        [Item::Rec(given), ..] => given.copy()?,
-        _ => return Ok(None),
+        [Item::Rec(given), ..] => Some(given),
+        _ => None,
     };
-    Ok(Some((Arc::new(alloc, run)?, given)))
+    given.expect(rt, "a record").copy().expect(rt, "memory")
 }
 
 /// A job of the run's first box with the record, where the box takes such records.
-fn job_of(alloc: Global, run: &Run, call: u64, given: Record) -> Result<Option<Job>, Memory>
-    ensures { IfOk result (λ found. IfSome found (IsJobOf run.now)) }
+fn job_of(rt: &impl Abort, alloc: Global, run: &Run, call: u64, given: Record) -> Option<Job>
+    ensures { IfSome result (IsJobOf run.now) }
 {
     let [first, ..] = run.boxes().as_slice() else {
-        return Ok(None);
+        return None;
     };
-    if !given.matches(&variant_of(alloc, first.input.as_slice())?) {
-        return Ok(None);
+    if !given.matches(&variant_of(alloc, first.input.as_slice()).expect(rt, "memory")) {
+        return None;
     }
-    Ok(Some(Job {
+    Some(Job {
         call,
         number: 0,
         place: 9,
         given,
-    }))
+    })
 }
 
 /// Gives a job with a copy of the record, and says whether it was taken in.
-fn gives<R: Wait>(
+fn gives<R: Abort + Wait>(
     rt: &R,
     alloc: Global,
     run: &Run,
     owner: &mut JobOwner,
     call: u64,
     given: &Record,
-) -> Result<bool, Memory>
+) -> bool
     requires { owner.old.made.run ≡ run.now }
     ensures { owner.new.made ≡ owner.old.made }
 {
-    match job_of(alloc, run, call, given.copy()?)? {
-        Some(job) => Ok(owner.give(rt, job).is_ok()),
-        None => Ok(false),
+    match job_of(rt, alloc, run, call, given.copy().expect(rt, "memory")) {
+        Some(job) => owner.give(rt, job).is_ok(),
+        None => false,
     }
 }
 
@@ -89,32 +94,26 @@ fn collects<R: Wait>(rt: &R, owner: &mut JobOwner, call: u64) -> bool
     }
 }
 
-/// Two jobs through queues with room for one, by two hands.
-fn two_go_through<R: Wait>(
-    rt: &R,
-    alloc: Global,
-    run: &Arc<Run>,
-    given: &Record,
-) -> Result<bool, Memory> {
-    let (mut owner, mut hand) = make(alloc, run, 1)?;
-    let mut other = hand.split()?;
-    let none = !works(rt, alloc, run, &mut hand) && owner.collect(rt).is_none();
-    let first = gives(rt, alloc, run, &mut owner, 3, given)?
-        && !gives(rt, alloc, run, &mut owner, 4, given)?
-        && works(rt, alloc, run, &mut other);
-    let second = gives(rt, alloc, run, &mut owner, 5, given)? && !works(rt, alloc, run, &mut hand);
+/// Puts two jobs through queues with room for one, by two hands.
+fn two_go_through<R: Abort + Wait>(rt: &R, alloc: Global, run: &Arc<Run>) {
+    let given = given(rt, run);
+    let (mut owner, mut hand) = make(alloc, run, 1).expect(rt, "memory");
+    let mut other = hand.split().expect(rt, "memory");
+    assert!(rt; !works(rt, alloc, run, &mut hand));
+    assert!(rt; owner.collect(rt).is_none());
+    assert!(rt; gives(rt, alloc, run, &mut owner, 3, &given));
+    assert!(rt; !gives(rt, alloc, run, &mut owner, 4, &given));
+    assert!(rt; works(rt, alloc, run, &mut other));
+    assert!(rt; gives(rt, alloc, run, &mut owner, 5, &given));
+    assert!(rt; !works(rt, alloc, run, &mut hand));
     hand.join(other);
-    Ok(none && first && second && collects(rt, &mut owner, 3) && owner.collect(rt).is_none())
+    assert!(rt; collects(rt, &mut owner, 3));
+    assert!(rt; owner.collect(rt).is_none());
 }
 
 #[test]
-fn jobs_go_through_until_a_queue_is_full(rt: HostRuntime) -> Result<(), Fail> {
-    let Some((run, given)) = started(rt.alloc())? else {
-        assert!(rt; false);
-        return Ok(());
-    };
-    assert!(rt; two_go_through(&rt, rt.alloc(), &run, &given)?);
-    Ok(())
+fn jobs_go_through_until_a_queue_is_full(rt: HostRuntime) {
+    two_go_through(&rt, rt.alloc(), &started(&rt, rt.alloc()));
 }
 
 /// Answers so many jobs, and says how many it did.
@@ -154,17 +153,13 @@ fn adds_up<R: Wait>(rt: &R, owner: &mut JobOwner, count: u64) -> u64 {
     sum
 }
 
-/// Three jobs that another thread answers.
-fn another_thread_answers<R: Threads + Wait + Sync>(
-    rt: &R,
-    alloc: Global,
-    run: &Arc<Run>,
-    given: &Record,
-) -> Result<bool, Memory> {
-    let (mut owner, mut hand) = make(alloc, run, 3)?;
-    let all_given = gives(rt, alloc, run, &mut owner, 1, given)?
-        && gives(rt, alloc, run, &mut owner, 2, given)?
-        && gives(rt, alloc, run, &mut owner, 4, given)?;
+/// Gives three jobs that another thread answers.
+fn another_thread_answers<R: Abort + Threads + Wait + Sync>(rt: &R, alloc: Global, run: &Arc<Run>) {
+    let given = given(rt, run);
+    let (mut owner, mut hand) = make(alloc, run, 3).expect(rt, "memory");
+    assert!(rt; gives(rt, alloc, run, &mut owner, 1, &given));
+    assert!(rt; gives(rt, alloc, run, &mut owner, 2, &given));
+    assert!(rt; gives(rt, alloc, run, &mut owner, 4, &given));
     let (answered, sum) = join(
         rt,
         move || -> u64
@@ -172,15 +167,10 @@ fn another_thread_answers<R: Threads + Wait + Sync>(
         { works_off(rt, alloc, run, &mut hand, 3) },
         move || -> u64 { adds_up(rt, &mut owner, 3) },
     );
-    Ok(all_given && answered == 3 && sum == 7)
+    assert!(rt; answered == 3 && sum == 7);
 }
 
 #[test]
-fn jobs_go_to_another_thread(rt: HostRuntime) -> Result<(), Fail> {
-    let Some((run, given)) = started(rt.alloc())? else {
-        assert!(rt; false);
-        return Ok(());
-    };
-    assert!(rt; another_thread_answers(&rt, rt.alloc(), &run, &given)?);
-    Ok(())
+fn jobs_go_to_another_thread(rt: HostRuntime) {
+    another_thread_answers(&rt, rt.alloc(), &started(&rt, rt.alloc()));
 }

@@ -2,7 +2,7 @@ use sn_list::Memory;
 use sn_load::Stop;
 
 /// A source or an input is none, or memory was wanted. Which it is does not matter to a test.
-#[derive(Clone, Copy)]
+#[derive(Clone, Copy, Debug)]
 pub struct Refused;
 
 impl From<Memory> for Refused {

@@ -1,5 +1,4 @@
-use crate::runs::{are_as_once, ends_behind, prints_one_of};
-use std::test::*;
+use crate::runs::{ends_behind, is_as_once, prints_one_of};
 
 const TILES: &str =
     "box cut ((v) -> (l,<w>) | (r,<w>)) { out 1(at(v, 0), 0); out 2(at(v, 1), 1) } box left ((l) -> (p)) { out 1(l * l) } box right ((r) -> (q)) { out 1(r + 1) } net main ({v,<id>} -> {p,q,<id>}) connect cut .. ((left || right) !! <w>) .. (([|{p},{q}|] ** {p,q}) !! <id>);";
@@ -15,21 +14,23 @@ const FREE: &str =
     "box p ((a) -> (x)) { out 1(a) } box q ((b) -> (x)) { out 1(b) } box r ((c) -> (x)) { out 1(c) } box s ((d) -> (x)) { out 1(d) } net main ({a} | {b} | {c} | {d} -> {x}) connect p | q | r | s;";
 
 #[test]
-fn workers_print_as_one_thread(rt: HostRuntime) -> Result<(), Fail> {
-    let same = are_as_once(&rt, rt.alloc(), TILES, TILES_INPUT, 16);
-    assert!(rt; matches!(same, Ok(true)));
-    Ok(())
+fn workers_print_as_one_thread(rt: HostRuntime) {
+    for workers in [1, 2, 8] {
+        let same = is_as_once(&rt, rt.alloc(), TILES, TILES_INPUT, 16, workers);
+        assert!(rt; same, "{workers} workers");
+    }
 }
 
 #[test]
-fn a_queue_may_have_room_for_one(rt: HostRuntime) -> Result<(), Fail> {
-    let same = are_as_once(&rt, rt.alloc(), TILES, TILES_INPUT, 1);
-    assert!(rt; matches!(same, Ok(true)));
-    Ok(())
+fn a_queue_may_have_room_for_one(rt: HostRuntime) {
+    for workers in [1, 2, 8] {
+        let same = is_as_once(&rt, rt.alloc(), TILES, TILES_INPUT, 1, workers);
+        assert!(rt; same, "{workers} workers");
+    }
 }
 
 #[test]
-fn a_free_choice_prints_what_it_may(rt: HostRuntime) -> Result<(), Fail> {
+fn a_free_choice_prints_what_it_may(rt: HostRuntime) {
     let input = "{a=1}\n{b=2}\n{a=3}\n";
     let texts = [
         "{x=1}\n{x=2}\n{x=3}\n",
@@ -38,21 +39,19 @@ fn a_free_choice_prints_what_it_may(rt: HostRuntime) -> Result<(), Fail> {
     ];
     for workers in [1, 2, 8] {
         let one = prints_one_of(&rt, rt.alloc(), FREE, input, workers, &texts);
-        assert!(rt; matches!(one, Ok(true)));
+        assert!(rt; one, "{workers} workers");
     }
-    Ok(())
 }
 
 #[test]
-fn printing_ends_at_a_fault(rt: HostRuntime) -> Result<(), Fail> {
-    let same = are_as_once(&rt, rt.alloc(), FAULT, FAULT_INPUT, 16);
-    assert!(rt; matches!(same, Ok(true)));
-    Ok(())
+fn printing_ends_at_a_fault(rt: HostRuntime) {
+    for workers in [1, 2, 8] {
+        let same = is_as_once(&rt, rt.alloc(), FAULT, FAULT_INPUT, 16, workers);
+        assert!(rt; same, "{workers} workers");
+    }
 }
 
 #[test]
-fn a_run_ends_where_the_sink_fails(rt: HostRuntime) -> Result<(), Fail> {
-    let ended = ends_behind(&rt, rt.alloc(), TILES, TILES_INPUT, 4, 2);
-    assert!(rt; matches!(ended, Ok(true)));
-    Ok(())
+fn a_run_ends_where_the_sink_fails(rt: HostRuntime) {
+    assert!(rt; ends_behind(&rt, rt.alloc(), TILES, TILES_INPUT, 4, 2));
 }
