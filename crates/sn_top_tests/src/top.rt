@@ -2,12 +2,12 @@ ghost use Rattle.std.specs.Prelude.{◌≡◌, IfOk, true};
 ghost use Rattle.sn_words.specs.Command.{IsInRange};
 ghost use Rattle.sn_top.specs.Answer.{is_plain};
 
-use crate::served::{Served, files, serve_files, sink};
+use crate::served::{Served, files, serve_files, sink, try_files, try_sink};
 use sn_io::{MemFiles, MemSink, OpenGate};
 use sn_list::{Memory, Seq};
 use sn_top::{Command, DEFAULT_DEPTH, DEFAULT_FUEL, INPUT_LIMIT, Status, serve_plain};
 use std::alloc::Global;
-use std::test::Fail;
+use std::process::Abort;
 
 const SOURCE: &[u8] = b"net main ({a} -> {b}) connect [{a} -> {b=a}];";
 
@@ -31,20 +31,37 @@ fn command(alloc: Global) -> Result<Command, Memory>
     })
 }
 
-fn serve(alloc: Global, mut files: MemFiles, mut out: MemSink) -> Result<Served, Memory> {
-    let command = command(alloc)?;
-    let mut err = sink(alloc, 64)?;
+fn serve(rt: &impl Abort, alloc: Global, mut files: MemFiles, mut out: MemSink) -> Served {
+    let command = command(alloc).expect(rt, "memory");
+    let mut err = sink(rt, alloc, 64);
     let status = serve_plain(alloc, &command, &mut files, &mut out, &mut err);
-    Ok(Served { status, out, err })
+    Served { status, out, err }
+}
+
+/// A source, its input, and what is answered: a status, what is printed on `out`, and on `err`.
+type Row = (
+    &'static [u8],
+    &'static [u8],
+    Status,
+    &'static [u8],
+    &'static [u8],
+);
+
+/// Whether the row is answered so, with a sink that takes so many bytes a call.
+fn answers(rt: &impl Abort, alloc: Global, row: Row, piece: usize) -> bool
+    requires { 0 < piece }
+{
+    let (source, input, status, out, err) = row;
+    let stored = files(rt, alloc, source, input);
+    serve(rt, alloc, stored, sink(rt, alloc, piece)).is(status, out, err)
 }
 
 const BOX: &[u8] =
     b"box g ((a) -> (b)) { out 1(at(a, 0)); out 1(at(a, 1)) } net main ({a} -> {b}) connect g;";
 
 #[test]
-fn boxes_and_filters_answer_in_series(rt: HostRuntime) -> Result<(), Fail> {
-    let alloc = rt.alloc();
-    let table: [(&[u8], &[u8], Status, &[u8], &[u8]); 5] = [
+fn boxes_and_filters_answer_in_series(rt: HostRuntime) {
+    let table: [Row; 5] = [
         (SOURCE, INPUT, Status::Ok, OUTPUT, b""),
         (
             BOX,
@@ -69,19 +86,16 @@ fn boxes_and_filters_answer_in_series(rt: HostRuntime) -> Result<(), Fail> {
             b"source: Unexpected at 8\n",
         ),
     ];
-    for (source, input, status, out, err) in table {
-        let served = serve(alloc, files(alloc, source, input)?, sink(alloc, 5)?)?;
-        assert!(rt; served.is(status, out, err));
+    for row in table {
+        assert!(rt; answers(&rt, rt.alloc(), row, 5), "{:?} {:?}", row.0, row.1);
     }
-    Ok(())
 }
 
 const REST: &[u8] = b"net main ({<a>,<b>} -> {<a>}) connect [{<a>,<b>} -> {<a>=<a>%<b>}];";
 
 #[test]
-fn record_files_are_read_whole(rt: HostRuntime) -> Result<(), Fail> {
-    let alloc = rt.alloc();
-    let table: [(&[u8], &[u8], Status, &[u8], &[u8]); 6] = [
+fn record_files_are_read_whole(rt: HostRuntime) {
+    let table: [Row; 6] = [
         (
             SOURCE,
             b"{ a = \"x\\\"y\" , <t>=007 }\r\n",
@@ -125,22 +139,19 @@ fn record_files_are_read_whole(rt: HostRuntime) -> Result<(), Fail> {
             b"fault: DivZero at 38\n",
         ),
     ];
-    for (source, input, status, out, err) in table {
-        let served = serve(alloc, files(alloc, source, input)?, sink(alloc, 64)?)?;
-        assert!(rt; served.is(status, out, err));
+    for row in table {
+        assert!(rt;
+            answers(&rt, rt.alloc(), row, 64),
+            "{:?} {:?}",
+            row.0,
+            row.1
+        );
     }
-    Ok(())
-}
-
-/// Whether the source is refused with the line, and nothing is printed.
-fn is_refused(alloc: Global, source: &[u8], status: Status, line: &[u8]) -> Result<bool, Memory> {
-    let served = serve(alloc, files(alloc, source, INPUT)?, sink(alloc, 64)?)?;
-    Ok(served.is(status, b"", line))
 }
 
 #[test]
-fn the_first_refusal_of_names_comes(rt: HostRuntime) -> Result<(), Fail> {
-    let table: [(&[u8], &[u8]); 10] = [
+fn the_first_refusal_of_names_comes(rt: HostRuntime) {
+    let table: [(&'static [u8], &'static [u8]); 10] = [
         (b"", b"source: NoMain\n"),
         (b"net main connect [];", b"source: NoMain\n"),
         (
@@ -180,9 +191,9 @@ fn the_first_refusal_of_names_comes(rt: HostRuntime) -> Result<(), Fail> {
         ),
     ];
     for (source, line) in table {
-        assert!(rt; is_refused(rt.alloc(), source, Status::Source, line)?);
+        let row = (source, INPUT, Status::Source, b"".as_slice(), line);
+        assert!(rt; answers(&rt, rt.alloc(), row, 64), "{source:?}");
     }
-    Ok(())
 }
 
 const CELL: &[u8] = b"net main ({a} | {b} -> {a} | {b}) connect [|{a},{b}|];";
@@ -195,9 +206,8 @@ const STAR: &[u8] =
 const SPLIT: &[u8] = b"net main ({a,<k>} -> {b,<k>}) connect [{a} -> {b=a}] !! <k>;";
 
 #[test]
-fn networks_of_every_form_answer(rt: HostRuntime) -> Result<(), Fail> {
-    let alloc = rt.alloc();
-    let table: [(&[u8], &[u8], Status, &[u8], &[u8]); 5] = [
+fn networks_of_every_form_answer(rt: HostRuntime) {
+    let table: [Row; 5] = [
         (
             CELL,
             b"{a=1}\n{a=2}\n{b=3}\n{b=4}\n",
@@ -236,64 +246,83 @@ fn networks_of_every_form_answer(rt: HostRuntime) -> Result<(), Fail> {
             b"input: Untyped 2\n",
         ),
     ];
-    for (source, input, status, out, err) in table {
-        let served = serve(alloc, files(alloc, source, input)?, sink(alloc, 64)?)?;
-        assert!(rt; served.is(status, out, err));
+    for row in table {
+        assert!(rt;
+            answers(&rt, rt.alloc(), row, 64),
+            "{:?} {:?}",
+            row.0,
+            row.1
+        );
     }
-    Ok(())
+}
+
+/// Whether a failing call to the files is told in this line.
+fn tells_read(rt: &impl Abort, alloc: Global, call: u64, line: &[u8]) -> bool {
+    let mut failing = files(rt, alloc, SOURCE, INPUT);
+    failing.fail_at(call).expect(rt, "memory");
+    serve(rt, alloc, failing, sink(rt, alloc, 1)).is(Status::Read, b"", line)
 }
 
 #[test]
-fn failed_reads_and_writes_are_told(rt: HostRuntime) -> Result<(), Fail> {
-    let alloc = rt.alloc();
+fn failed_reads_are_told(rt: HostRuntime) {
     for (call, line) in [(1, b"read: s\n"), (2, b"read: i\n")] {
-        let mut failing = files(alloc, SOURCE, INPUT)?;
-        failing.fail_at(call)?;
-        let served = serve(alloc, failing, sink(alloc, 1)?)?;
-        assert!(rt; served.is(Status::Read, b"", line));
+        assert!(rt; tells_read(&rt, rt.alloc(), call, line), "call {call}");
     }
-    let mut out = sink(alloc, 1)?;
-    out.fail_at(4)?;
-    let served = serve(alloc, files(alloc, SOURCE, INPUT)?, out)?;
-    assert!(rt; served.is(Status::Write, b"{b=", b"write\n"));
-    Ok(())
+}
+
+/// What is served where a call to `out` fails.
+fn unwritten(rt: &impl Abort, alloc: Global, call: u64) -> Served {
+    let stored = files(rt, alloc, SOURCE, INPUT);
+    let mut out = sink(rt, alloc, 1);
+    out.fail_at(call).expect(rt, "memory");
+    serve(rt, alloc, stored, out)
 }
 
 #[test]
-fn missing_and_large_files_are_told(rt: HostRuntime) -> Result<(), Fail> {
-    let alloc = rt.alloc();
-    let served = serve(alloc, MemFiles::new(alloc), sink(alloc, 1)?)?;
+fn failed_writes_are_told(rt: HostRuntime) {
+    let served = unwritten(&rt, rt.alloc(), 4);
+    assert!(rt; served.is(Status::Write, b"{b=", b"write\n"));
+}
+
+#[test]
+fn missing_files_are_told(rt: HostRuntime) {
+    let none = MemFiles::new(rt.alloc());
+    let served = serve(&rt, rt.alloc(), none, sink(&rt, rt.alloc(), 1));
     assert!(rt; served.is(Status::Read, b"", b"read: s\n"));
-    let large = vec![in alloc; b' '; INPUT_LIMIT as usize + 1]?;
-    let served = serve(alloc, files(alloc, SOURCE, &large)?, sink(alloc, 1)?)?;
+}
+
+#[test]
+fn large_files_are_told(rt: HostRuntime) {
+    let large = vec![in rt.alloc(); b' '; INPUT_LIMIT as usize + 1].expect(&rt, "memory");
+    let stored = files(&rt, rt.alloc(), SOURCE, &large);
+    let served = serve(&rt, rt.alloc(), stored, sink(&rt, rt.alloc(), 1));
     assert!(rt; served.is(Status::TooLarge, b"", b"too large: i\n"));
-    Ok(())
 }
 
 /// Does a command that reads the source `s` alone.
-fn serve_source(alloc: Global, command: &Command, source: &[u8]) -> Result<Served, Memory>
+fn serve_source(rt: &impl Abort, alloc: Global, command: &Command, source: &[u8]) -> Served
     requires plain { is_plain command.now ≡ true }
     requires numbers { IsInRange command.now }
 {
-    let mut files = files(alloc, source, b"")?;
-    let mut out = sink(alloc, 7)?;
-    let mut err = sink(alloc, 64)?;
-    let status = serve_plain(alloc, command, &mut files, &mut out, &mut err);
-    Ok(Served { status, out, err })
+    let mut stored = files(rt, alloc, source, b"");
+    let mut out = sink(rt, alloc, 7);
+    let mut err = sink(rt, alloc, 64);
+    let status = serve_plain(alloc, command, &mut stored, &mut out, &mut err);
+    Served { status, out, err }
 }
 
-fn print(alloc: Global, source: &[u8]) -> Result<Served, Memory> {
-    let name = Seq::from_slice(alloc, b"s")?;
-    serve_source(alloc, &Command::Print { source: name }, source)
+fn print(rt: &impl Abort, alloc: Global, source: &[u8]) -> Served {
+    let name = Seq::from_slice(alloc, b"s").expect(rt, "memory");
+    serve_source(rt, alloc, &Command::Print { source: name }, source)
 }
 
-fn check(alloc: Global, source: &[u8]) -> Result<Served, Memory> {
-    let name = Seq::from_slice(alloc, b"s")?;
-    serve_source(alloc, &Command::Check { source: name }, source)
+fn check(rt: &impl Abort, alloc: Global, source: &[u8]) -> Served {
+    let name = Seq::from_slice(alloc, b"s").expect(rt, "memory");
+    serve_source(rt, alloc, &Command::Check { source: name }, source)
 }
 
 #[test]
-fn types_are_checked(rt: HostRuntime) -> Result<(), Fail> {
+fn types_are_checked(rt: HostRuntime) {
     let table: [(&[u8], Status, &[u8], &[u8]); 7] = [
         (SOURCE, Status::Ok, b"{a} -> {b}\n", b""),
         (CELL, Status::Ok, b"{a} -> {a}\n{b} -> {b}\n", b""),
@@ -320,30 +349,22 @@ fn types_are_checked(rt: HostRuntime) -> Result<(), Fail> {
         (b"net", Status::Source, b"", b"source: Unexpected at 3\n"),
     ];
     for (source, status, out, err) in table {
-        let served = check(rt.alloc(), source)?;
-        assert!(rt; served.is(status, out, err));
+        let served = check(&rt, rt.alloc(), source);
+        assert!(rt; served.is(status, out, err), "{source:?}");
     }
-    Ok(())
 }
 
 #[test]
-fn records_of_a_number_are_counted(rt: HostRuntime) -> Result<(), Fail> {
-    let alloc = rt.alloc();
+fn records_of_a_number_are_counted(rt: HostRuntime) {
+    let none = MemFiles::new(rt.alloc());
+    let out = sink(&rt, rt.alloc(), 9);
     let words = ["sample", "1", "3"];
-    let served = serve_files(
-        &rt,
-        alloc,
-        &words,
-        MemFiles::new(alloc),
-        sink(alloc, 9)?,
-        &OpenGate,
-    )?;
+    let served = serve_files(&rt, rt.alloc(), &words, none, out, &OpenGate);
     assert!(rt; served.is(Status::Ok, b"records=3 s=156 w=2498 mix=1208114\n", b""));
-    Ok(())
 }
 
 #[test]
-fn sources_are_printed(rt: HostRuntime) -> Result<(), Fail> {
+fn sources_are_printed(rt: HostRuntime) {
     let table: [(&[u8], Status, &[u8], &[u8]); 6] = [
         (b"", Status::Ok, b"", b""),
         (
@@ -363,10 +384,9 @@ fn sources_are_printed(rt: HostRuntime) -> Result<(), Fail> {
         (b"\xff", Status::Source, b"", b"source: BadUtf8 at 0\n"),
     ];
     for (source, status, out, err) in table {
-        let served = print(rt.alloc(), source)?;
-        assert!(rt; served.is(status, out, err));
+        let served = print(&rt, rt.alloc(), source);
+        assert!(rt; served.is(status, out, err), "{source:?}");
     }
-    Ok(())
 }
 
 /// What may be left where memory may be wanted: all of the output, or some first bytes of it and of the line.
@@ -380,44 +400,47 @@ fn is_allowed(served: &Served) -> bool {
     }
 }
 
+/// What is served, if the test itself finds memory to start with.
+fn try_serve(alloc: Global) -> Result<Served, Memory> {
+    let command = command(alloc)?;
+    let mut stored = try_files(alloc, SOURCE, INPUT)?;
+    let mut out = try_sink(alloc, 64)?;
+    let mut err = try_sink(alloc, 64)?;
+    let status = serve_plain(alloc, &command, &mut stored, &mut out, &mut err);
+    Ok(Served { status, out, err })
+}
+
 /// Run with the first allocation refused, then with the second, and so on. That the test itself finds no memory to
 /// start with is no fault of the call.
 #[test]
-fn wanted_memory_is_told(rt: HostRuntime) -> Result<(), Fail> {
-    let alloc = rt.alloc();
-    let (Ok(files), Ok(out)) = (files(alloc, SOURCE, INPUT), sink(alloc, 64)) else {
-        return Ok(());
-    };
-    let Ok(served) = serve(alloc, files, out) else {
-        return Ok(());
-    };
-    assert!(rt; is_allowed(&served));
-    Ok(())
+fn wanted_memory_is_told(rt: HostRuntime) {
+    if let Ok(served) = try_serve(rt.alloc()) {
+        assert!(rt; is_allowed(&served));
+    }
 }
 
 #[test]
-fn words_are_served(rt: HostRuntime) -> Result<(), Fail> {
-    let alloc = rt.alloc();
-    let served = serve_files(
-        &rt,
-        alloc,
-        &[],
-        MemFiles::new(alloc),
-        sink(alloc, 9)?,
-        &OpenGate,
-    )?;
-    assert!(rt; served.status == Status::Usage && served.out.held().is_empty());
+fn no_words_are_answered_by_the_usage(rt: HostRuntime) {
+    let none = MemFiles::new(rt.alloc());
+    let out = sink(&rt, rt.alloc(), 9);
+    let served = serve_files(&rt, rt.alloc(), &[], none, out, &OpenGate);
+    assert!(rt; served.status == Status::Usage);
+    assert!(rt; served.out.held().is_empty());
     assert!(rt;
         served
             .err
             .held()
             .starts_with(b"usage: snet run SOURCE INPUT")
     );
+}
+
+#[test]
+fn words_are_served(rt: HostRuntime) {
     for command in ["once", "run"] {
         let words = [command, "s", "i"];
-        let stored = files(alloc, SOURCE, INPUT)?;
-        let served = serve_files(&rt, alloc, &words, stored, sink(alloc, 64)?, &OpenGate)?;
-        assert!(rt; served.is(Status::Ok, OUTPUT, b""));
+        let stored = files(&rt, rt.alloc(), SOURCE, INPUT);
+        let out = sink(&rt, rt.alloc(), 64);
+        let served = serve_files(&rt, rt.alloc(), &words, stored, out, &OpenGate);
+        assert!(rt; served.is(Status::Ok, OUTPUT, b""), "{command}");
     }
-    Ok(())
 }

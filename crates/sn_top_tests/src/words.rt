@@ -1,19 +1,47 @@
 use sn_list::Seq;
 use sn_words::{Command, WordsFault, read_words};
 use std::alloc::Global;
-use std::test::Fail;
+use std::process::Abort;
 
-fn read(alloc: Global, words: &[&str]) -> Result<Result<Command, WordsFault>, Fail> {
+fn read(rt: &impl Abort, alloc: Global, words: &[&str]) -> Result<Command, WordsFault> {
     let mut owned = Vec::new(alloc);
     for word in words {
-        owned.push(String::from_str(alloc, word)?)?;
+        let word = String::from_str(alloc, word).expect(rt, "memory");
+        owned.push(word).expect(rt, "memory");
     }
-    Ok(read_words(alloc, &owned))
+    read_words(alloc, &owned)
+}
+
+/// Whether the words are this command.
+fn is_read(rt: &impl Abort, alloc: Global, words: &[&str], wanted: &Command) -> bool {
+    matches!(&read(rt, alloc, words), Ok(found) if found == wanted)
+}
+
+/// The name of a file.
+fn file(rt: &impl Abort, alloc: Global, name: &str) -> Seq<u8> {
+    Seq::from_slice(alloc, name.as_bytes()).expect(rt, "memory")
+}
+
+/// Whether the words run a source of this name on one thread.
+fn is_once(
+    rt: &impl Abort,
+    alloc: Global,
+    words: &[&str],
+    name: &str,
+    fuel: u64,
+    depth: u32,
+) -> bool {
+    let wanted = Command::Once {
+        source: file(rt, alloc, name),
+        input: file(rt, alloc, "i"),
+        fuel,
+        depth,
+    };
+    is_read(rt, alloc, words, &wanted)
 }
 
 #[test]
-fn gives_commands(rt: HostRuntime) -> Result<(), Fail> {
-    let alloc = rt.alloc();
+fn gives_commands(rt: HostRuntime) {
     let table: [(&[&str], &str, u64, u32); 6] = [
         (&["once", "s", "i"], "s", 1_000_000, 1_000),
         (&["once", "--", "-s", "i"], "-s", 1_000_000, 1_000),
@@ -33,22 +61,36 @@ fn gives_commands(rt: HostRuntime) -> Result<(), Fail> {
         (&["once", "--depth=1", "s", "--fuel=5", "i"], "s", 5, 1),
     ];
     for (words, name, fuel, depth) in table {
-        let source = Seq::from_slice(alloc, name.as_bytes())?;
-        let input = Seq::from_slice(alloc, b"i")?;
-        let wanted = Command::Once {
-            source,
-            input,
-            fuel,
-            depth,
-        };
-        assert!(rt; read(alloc, words)? == Ok(wanted));
+        assert!(rt;
+            is_once(&rt, rt.alloc(), words, name, fuel, depth),
+            "{words:?}"
+        );
     }
-    Ok(())
+}
+
+/// Whether the words run the source `s` with these numbers.
+fn is_run(
+    rt: &impl Abort,
+    alloc: Global,
+    words: &[&str],
+    workers: u32,
+    fuel: u64,
+    depth: u32,
+    queue: u32,
+) -> bool {
+    let wanted = Command::Run {
+        source: file(rt, alloc, "s"),
+        input: file(rt, alloc, "i"),
+        workers,
+        fuel,
+        depth,
+        queue,
+    };
+    is_read(rt, alloc, words, &wanted)
 }
 
 #[test]
-fn gives_runs(rt: HostRuntime) -> Result<(), Fail> {
-    let alloc = rt.alloc();
+fn gives_runs(rt: HostRuntime) {
     let table: [(&[&str], u32, u64, u32, u32); 4] = [
         (&["run", "s", "i"], 4, 1_000_000, 1_000, 16),
         (
@@ -74,36 +116,46 @@ fn gives_runs(rt: HostRuntime) -> Result<(), Fail> {
         ),
     ];
     for (words, workers, fuel, depth, queue) in table {
-        let wanted = Command::Run {
-            source: Seq::from_slice(alloc, b"s")?,
-            input: Seq::from_slice(alloc, b"i")?,
-            workers,
-            fuel,
-            depth,
-            queue,
-        };
-        assert!(rt; read(alloc, words)? == Ok(wanted));
+        assert!(rt;
+            is_run(&rt, rt.alloc(), words, workers, fuel, depth, queue),
+            "{words:?}"
+        );
     }
-    Ok(())
+}
+
+fn is_check(rt: &impl Abort, alloc: Global, words: &[&str]) -> bool {
+    let source = file(rt, alloc, "s");
+    is_read(rt, alloc, words, &Command::Check { source })
+}
+
+fn is_print(rt: &impl Abort, alloc: Global, words: &[&str]) -> bool {
+    let source = file(rt, alloc, "s");
+    is_read(rt, alloc, words, &Command::Print { source })
+}
+
+fn is_sample(rt: &impl Abort, alloc: Global, words: &[&str], number: u32, count: u32) -> bool {
+    is_read(rt, alloc, words, &Command::Sample { number, count })
 }
 
 #[test]
-fn gives_commands_of_a_source(rt: HostRuntime) -> Result<(), Fail> {
-    let alloc = rt.alloc();
-    let source = Seq::from_slice(alloc, b"s")?;
-    assert!(rt; read(alloc, &["check", "s"])? == Ok(Command::Check { source }));
-    let source = Seq::from_slice(alloc, b"s")?;
-    assert!(rt; read(alloc, &["print", "--", "s"])? == Ok(Command::Print { source }));
-    let sample = Command::Sample {
-        number: 2_147_483_647,
-        count: 50_000,
-    };
-    assert!(rt; read(alloc, &["sample", "--", "2147483647", "0000050000"])? == Ok(sample));
-    Ok(())
+fn gives_commands_of_a_source(rt: HostRuntime) {
+    assert!(rt; is_check(&rt, rt.alloc(), &["check", "s"]));
+    assert!(rt; is_print(&rt, rt.alloc(), &["print", "--", "s"]));
 }
 
 #[test]
-fn refuses_words(rt: HostRuntime) -> Result<(), Fail> {
+fn gives_samples(rt: HostRuntime) {
+    let words = ["sample", "--", "2147483647", "0000050000"];
+    assert!(rt; is_sample(&rt, rt.alloc(), &words, 2_147_483_647, 50_000));
+}
+
+/// Whether the words are refused.
+fn is_refused(rt: &impl Abort, alloc: Global, words: &[&str]) -> bool {
+    matches!(read(rt, alloc, words), Err(WordsFault::Usage))
+}
+
+#[test]
+fn refuses_words(rt: HostRuntime) {
     let table: [&[&str]; 37] = [
         &[],
         &["help"],
@@ -144,7 +196,6 @@ fn refuses_words(rt: HostRuntime) -> Result<(), Fail> {
         &["sample", "1", "3", "--fuel=5"],
     ];
     for words in table {
-        assert!(rt; read(rt.alloc(), words)? == Err(WordsFault::Usage));
+        assert!(rt; is_refused(&rt, rt.alloc(), words), "{words:?}");
     }
-    Ok(())
 }
