@@ -17,6 +17,7 @@ use Rattle.sn_list.proofs.boxed.Boxed.TheSendSync as boxed
 use Rattle.sn_list.proofs.seq.Seq.TheSendSync as seq
 use Rattle.sn_record.proofs.label_map.LabelMap.TheSendSync as label_map
 use Rattle.sn_record.proofs.value.Value.TheLaws.TheKnot as value
+use Rattle.sn_record.specs.contracts.item.Item as record_item
 use Rattle.sn_stream.specs.contracts.ends.GetEnd as get_end
 use Rattle.sn_stream.specs.contracts.ends.PutEnd as put_end
 use Rattle.sn_stream.specs.contracts.ends.Stream as stream
@@ -45,7 +46,10 @@ stream_send = declared_send stream.the_type (line_send, (search (sendable, cross
 stream_sync : IsSync stream.the_row
 stream_sync = declared_sync stream.the_type (line_sync, (search (sendable, crosses), (search (sendable, crosses), tt)))
 
--- for the closures of callers, which take an end along
+-- for the closures of callers, which take an end along, and items
+pub items_sync : IsSync record_item.the_row
+items_sync = search (sendable, crosses, seq.the_send, seq.the_sync, label_map.the_sync, value.send-Value, value.sync-Value) depth 60 fits 100000
+
 pub put_end_send : IsSend put_end.the_row
 put_end_send = search (sendable, crosses, stream_send, stream_sync, seat.the_send, option_crosses.the_send, item_send) depth 60 fits 100000
 
