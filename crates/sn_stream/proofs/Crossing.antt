@@ -13,7 +13,6 @@ use Rattle.crossbeam_queue.specs.contracts.array_queue.Slotted as slotted
 use Rattle.crossbeam_queue.specs.contracts.array_queue.Turns as turns
 use Rattle.crossbeam_queue.specs.contracts.array_queue.TurnsTableRuleOptionDoingUnit.TheImpl as rule
 use Rattle.crossbeam_queue.proofs.array_queue.Slotted.TheSendSync.{the_send, the_sync}
-use Rattle.sn_list.proofs.boxed.Boxed.TheSendSync as boxed
 use Rattle.sn_list.proofs.seq.Seq.TheSendSync as seq
 use Rattle.sn_record.proofs.label_map.LabelMap.TheSendSync as label_map
 use Rattle.sn_record.proofs.value.Value.TheLaws.TheKnot as value
@@ -27,8 +26,7 @@ use Rattle.sn_stream.specs.contracts.rule.FlowProtocolStreamItemKnown.TheImpl as
 use Rattle.sn_stream.specs.contracts.rule.Known as known
 
 item_send : IsSend item.the_row
-item_send =
-    search (sendable, crosses, boxed.the_send, boxed.the_sync, seq.the_send, seq.the_sync, label_map.the_send, label_map.the_sync, value.send-Value, value.sync-Value) depth 60 fits 100000
+item_send = search (sendable, crosses, seq.the_send, label_map.the_send, value.send-Value) depth 60 fits 100000
 
 line_send : IsSend (slotted.the_row (option.the_row item.the_row) (doing.the_row item.the_row known.the_row) (turns.the_row flow.the_row) global.the_row (rule.ghosts item.the_row known.the_row flow.the_row flow_rule.ghosts flow_rule.dict) ghosts)
 line_send =
@@ -48,7 +46,7 @@ stream_sync = declared_sync stream.the_type (line_sync, (search (sendable, cross
 
 -- for the closures of callers, which take an end along, and items
 pub items_sync : IsSync record_item.the_row
-items_sync = search (sendable, crosses, seq.the_send, seq.the_sync, label_map.the_sync, value.send-Value, value.sync-Value) depth 60 fits 100000
+items_sync = search (sendable, crosses, seq.the_sync, label_map.the_sync, value.sync-Value) depth 60 fits 100000
 
 pub put_end_send : IsSend put_end.the_row
 put_end_send = search (sendable, crosses, stream_send, stream_sync, seat.the_send, option_crosses.the_send, item_send) depth 60 fits 100000

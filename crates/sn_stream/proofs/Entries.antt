@@ -1,6 +1,6 @@
 -- Entries of a history, and how they stand on a stream.
 use Rattle.std.proofs.Common.{◌≡◌, ◌∙◌, List, [], ◌∷◌, ◌++◌, map, refl, sym, ap, ap₂, is_some, true≢false}
-use Rattle.std.specs.Prelude.{Option, None, Some, unwrap_or}
+use Rattle.std.specs.Prelude.{Some, unwrap_or}
 use mathlib.Core.List.{IsPrefix, cons≢nil, head-eq_of_cons-eq, tail-eq_of_cons-eq, map-append}
 use Rattle.sn_record.specs.declared.item.Item.TheVariants as item
 use Rattle.sn_net.specs.Item.{ModelItem, Rec, Fault, Stuck}

@@ -1,5 +1,5 @@
 -- The next entry of items and then the end.
-use Rattle.std.proofs.Common.{◌≡◌, ◌∙◌, ◌<◌, ◌≤◌, ◌+◌, ℕ, zero, suc, List, [], ◌∷◌, ◌++◌, length, get_or, map, take, drop, refl, sym, ap, add-one, not-suc-le-zero, le_of_suc-le-suc}
+use Rattle.std.proofs.Common.{◌≡◌, ◌∙◌, ◌<◌, ◌≤◌, ◌+◌, ℕ, zero, suc, List, [], ◌∷◌, ◌++◌, length, get_or, take, drop, refl, sym, ap, add-one, not-suc-le-zero, le_of_suc-le-suc}
 use mathlib.Core.List.{IsPrefix, map-append}
 use Rattle.sn_record.specs.declared.item.Item.{Item}
 use Rattle.sn_net.specs.Item.{ModelItem, modelled}

@@ -1,4 +1,4 @@
-use Rattle.std.proofs.Common.{◌≡◌, ◌∙◌, ap, ap₂, sym}
+use Rattle.std.proofs.Common.{◌∙◌, ap, ap₂, sym}
 use Rattle.sn_stream.specs.Ends.{stated_at}
 use Rattle.sn_stream.proofs.Flowing.{begins, splits}
 use Rattle.sn_stream.proofs.Kept.{fresh}
