@@ -1,12 +1,12 @@
 //! Sending a history that is known as items and then the end, and receiving entries.
-ghost use Rattle.std.specs.Prelude.{◌≡◌, ◌≤◌, ◌+◌, [], List, IfErr, IfOk, IsTrue, OnOk, if◌then◌else◌, length, map, take};
+ghost use Rattle.std.specs.Prelude.{◌≡◌, ◌≤◌, ◌+◌, [], List, IfErr, IfOk, IsFalse, IsTrue, OnOk, if◌then◌else◌, length, map, take};
 ghost use Rattle.sn_model.specs.Ranges.{IsWithin};
 ghost use Rattle.sn_model.specs.Run.{given, items_of};
 ghost use Rattle.sn_model.specs.declared.run.TheConstants.{LONGEST_QUEUE};
 ghost use Rattle.sn_net.specs.Item.{modelled};
 ghost use Rattle.sn_net_histories.specs.declared.place.Port.TheVariants as some_port;
 ghost use Rattle.sn_record.specs.declared.item.Item.{Item as SomeItem};
-ghost use Rattle.sn_stream.specs.Ends.{history_of, is_open, moves, passed};
+ghost use Rattle.sn_stream.specs.Ends.{history_of, is_open, moves, passed, WasFull};
 ghost use Rattle.sn_stream.specs.Ended.{ended, numbered};
 
 use crate::ends::{GetEnd, PutEnd, make};
@@ -48,7 +48,7 @@ fn entry(alloc: Global, items: &[Item], number: usize) -> Result<StreamItem, Mem
 }
 
 /// Puts the next entry on a stream whose history is these items and then the end: that of this number, from 0, where those before it
-/// were put. Answers whether there was room for it.
+/// were put. Answers whether there was room for it; there was none only where the stream was full at a step of this call.
 pub fn send<R: Wait>(
     rt: &R,
     alloc: Global,
@@ -60,6 +60,7 @@ pub fn send<R: Wait>(
     requires sent { passed put.old.moved ≡ take number (ended items.now) }
     requires within { number ≤ length items.now }
     ensures sent { IfOk result (λ was_room. passed put.new.moved ≡ take (if was_room then number + 1 else number) (ended items.now)) }
+    ensures full { IfOk result (λ was_room. IsFalse was_room → WasFull put.old) }
     ensures made { put.new.made ≡ put.old.made }
     ensures unchanged { IfErr result (λ _. put.new ≡ put.old) }
 {

@@ -1,4 +1,4 @@
-ghost use Rattle.std.specs.Prelude.{◌≡◌, IfOk, true};
+ghost use Rattle.std.specs.Prelude.{◌<◌, ◌≡◌, IfOk, true};
 ghost use Rattle.sn_words.specs.Command.{IsInRange};
 ghost use Rattle.sn_top.specs.Answer.{is_plain};
 
