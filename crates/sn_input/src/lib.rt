@@ -8,4 +8,5 @@ mod reading;
 mod repeats;
 
 pub use input::{Input, InputFault};
+pub use numbering::record_of;
 pub use reading::read_records;

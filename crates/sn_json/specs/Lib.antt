@@ -1,0 +1,4 @@
+pub mod Keys
+pub mod Reading
+pub mod Writing
+pub mod Lines
