@@ -108,6 +108,7 @@ fn reason_word(why: Reason) -> &'static str {
 }
 
 /// A key as it stands in JSON, in quotes.
+#[derive(Drop)]
 struct Quoted<'a>(&'a Text);
 
 impl fmt::Display for Quoted<'_> {

@@ -16,4 +16,8 @@ mod whole;
 
 pub use claims::{check, flow};
 pub use fault::FlowFault;
+pub use indexed::{Indexed, OfVariant};
 pub use sn_list::Memory;
+pub use stop::Stop;
+pub use table::{Row, Table};
+pub use whole::visit_each;

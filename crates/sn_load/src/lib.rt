@@ -10,6 +10,8 @@ mod types;
 
 pub use canonical::canonical_text;
 pub use items::items_of;
-pub use load::{INPUT_LIMIT, Program, SOURCE_LIMIT, is_of_type, load_source, read_input};
+pub use load::{
+    INPUT_LIMIT, Program, SOURCE_LIMIT, is_of_type, load_source, read_input, tell_fault,
+};
 pub use status::{LineFault, Refusal, SourceFault, Status, Stop, TypeFault, Which};
 pub use types::flows_text;

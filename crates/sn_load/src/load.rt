@@ -48,7 +48,7 @@ fn tell_type(alloc: Global, names: &Names, fault: TypeFault, at: u32, variant: &
 }
 
 /// Why a claim is refused.
-fn tell_fault(alloc: Global, names: &Names, fault: &FlowFault) -> Stop
+pub fn tell_fault(alloc: Global, names: &Names, fault: &FlowFault) -> Stop
     ensures { TellsRefusal names.now fault.now result }
 {
     match fault {

@@ -9,6 +9,7 @@ mod program;
 mod tags;
 mod words;
 
-pub use program::print;
+pub use networks::{exit_text, network_text};
+pub use program::{box_text, print};
 pub use sn_ast::{Program, Text};
 pub use sn_list::Memory;

@@ -1,5 +1,5 @@
 //! The texts of networks.
-ghost use Rattle.std.specs.Prelude.{◌≡◌, ◌++◌, map, codes, OnOk};
+ghost use Rattle.std.specs.Prelude.{◌≡◌, ◌++◌, map, codes, IfOk, OnOk};
 ghost use Rattle.sn_print.specs.Expressions.{is_alone, operand};
 ghost use Rattle.sn_print.specs.Labels.{variant_text};
 ghost use Rattle.sn_print.specs.Networks.{guard_text, item_text, net_shown, net_text, source_text, template_text};
@@ -9,7 +9,8 @@ use crate::labels::{push_label, push_variant};
 use crate::tags::push_tag_expr;
 use crate::words::{push_separator, push_tag};
 use sn_ast::{ItemAt, ItemSource, NetExpr, NetForm, TExpr, TemplateAt, Text, Variant};
-use sn_list::Memory;
+use sn_list::{Memory, Seq};
+use std::alloc::Global;
 
 fn push_source(text: &mut Text, source: &ItemSource) -> Result<(), Memory>
     ensures { OnOk result (text.new ≡ text.old ++ source_text source.now) }
@@ -191,4 +192,27 @@ fn push_operands(text: &mut Text, separator: &[u8], parts: &[NetExpr]) -> Result
         push_operand(text, part)?;
     }
     Ok(())
+}
+
+/// The canonical text of a network.
+pub fn network_text(alloc: Global, n: &NetExpr) -> Result<Text, Memory>
+    ensures { IfOk result (λ text. text ≡ net_text n.now) }
+{
+    let mut text = Seq::new(alloc);
+    push_network(&mut text, n)?;
+    Ok(text)
+}
+
+/// What stands behind the body of a star: its operator, its exit and its guard.
+pub fn exit_text(
+    alloc: Global,
+    det: bool,
+    exit: &Variant,
+    guard: &Option<TExpr>,
+) -> Result<Text, Memory>
+    ensures { IfOk result (λ text. text ≡ chosen det (codes " ** ") (codes " * ") ++ (variant_text exit.now ++ guard_text guard.now)) }
+{
+    let mut text = Seq::new(alloc);
+    push_exit(&mut text, operator(det, b" ** ", b" * "), exit, guard)?;
+    Ok(text)
 }

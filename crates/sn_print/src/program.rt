@@ -181,6 +181,15 @@ fn push_line(text: &mut Text, decl: &Decl) -> Result<(), Memory>
     text.extend_from_slice(b"\n")
 }
 
+/// The canonical text of a box's declaration.
+pub fn box_text(alloc: Global, decl: &BoxDecl) -> Result<Text, Memory>
+    ensures { IfOk result (λ text. text ≡ box_decl_text decl.now) }
+{
+    let mut text = Seq::new(alloc);
+    push_box(&mut text, decl)?;
+    Ok(text)
+}
+
 /// The canonical text of the program.
 pub fn print(alloc: Global, program: &Program) -> Result<Text, Memory>
     ensures { IfOk result (λ text. text ≡ program_text program.now) }

@@ -1,0 +1,23 @@
+//! The net that is drawn.
+use sn_ast::Decl;
+use sn_net::Claim;
+
+/// The place of the name of the first net of that name with a signature, in the order of the source.
+pub fn place_of(decls: &[Decl], name: &[u8]) -> Option<u32> {
+    for decl in decls {
+        if let Decl::NetDecl(net) = decl {
+            if net.sig.is_some() && net.name.text.as_slice() == name {
+                return Some(net.name.at);
+            }
+            if let Some(place) = place_of(net.decls.as_slice(), name) {
+                return Some(place);
+            }
+        }
+    }
+    None
+}
+
+/// The claim about the net whose name stands at the place.
+pub fn claim_at(claims: &[Claim], place: u32) -> Option<&Claim> {
+    claims.iter().find(|claim| claim.place == place)
+}

@@ -1,0 +1,104 @@
+//! From the bytes of a source to a picture.
+use crate::claim::{claim_at, place_of};
+use crate::refusal::{Refusal, line_of};
+use sn_ast::Program;
+use sn_draw::{Texts, dot_text, draw_net};
+use sn_flow::{FlowFault, Stop, Table, check, visit_each};
+use sn_lexer::lex;
+use sn_list::Seq;
+use sn_load::tell_fault;
+use sn_names::Names;
+use sn_net::{Boxes, Claim};
+use sn_output::push_type;
+use sn_parser::parse;
+use sn_record::Text;
+use sn_scope::resolve;
+use std::alloc::Global;
+
+/// What the checker says of a claim where it refuses it.
+fn verdict(
+    alloc: Global,
+    names: &Names,
+    claim: &Claim,
+    boxes: &Boxes,
+) -> Result<Option<Text>, Refusal> {
+    match check(alloc, claim, boxes) {
+        Ok(()) => Ok(None),
+        Err(FlowFault::Memory) => Err(Refusal::Memory),
+        Err(fault) => Ok(Some(line_of(alloc, &tell_fault(alloc, names, &fault), b"")?)),
+    }
+}
+
+/// The title of a claim's picture: the net with its types, and on a line of its own why these are refused, if they are.
+fn title(
+    alloc: Global,
+    name: &[u8],
+    names: &Names,
+    claim: &Claim,
+    verdict: Option<Text>,
+) -> Result<Text, Refusal> {
+    let mut text = Seq::from_slice(alloc, b"net ")?;
+    text.extend_from_slice(name)?;
+    text.extend_from_slice(b"\n")?;
+    push_type(alloc, &mut text, claim.input.as_slice(), names)?;
+    text.extend_from_slice(b" -> ")?;
+    push_type(alloc, &mut text, claim.output.as_slice(), names)?;
+    if let Some(why) = verdict {
+        text.extend_from_slice(b"\n")?;
+        text.extend_from_slice(why.as_slice())?;
+    }
+    Ok(text)
+}
+
+/// What reaches each part of a claim's network. There is no table where more than 1,024 variants come to a part.
+fn table_of(alloc: Global, claim: &Claim, boxes: &Boxes) -> Result<Option<Table>, Refusal> {
+    match visit_each(alloc, &claim.net, boxes, claim.input.as_slice()) {
+        Ok(table) => Ok(Some(table)),
+        Err(Stop::TooMany) => Ok(None),
+        Err(Stop::Memory) => Err(Refusal::Memory),
+    }
+}
+
+/// The picture of a claim.
+fn draw_claim(
+    alloc: Global,
+    program: &Program,
+    name: &[u8],
+    names: &Names,
+    claim: &Claim,
+    boxes: &Boxes,
+) -> Result<Text, Refusal> {
+    let texts = Texts::of(alloc, program)?;
+    let verdict = verdict(alloc, names, claim, boxes)?;
+    let title = title(alloc, name, names, claim, verdict)?;
+    let table = table_of(alloc, claim, boxes)?;
+    let statements = draw_net(alloc, &claim.net, names, &texts, table.as_ref())?;
+    Ok(dot_text(alloc, title.as_slice(), statements.as_slice())?)
+}
+
+/// The picture of the net of that name in a source.
+///
+/// # Errors
+///
+/// `Source` where the source is refused, by its tokens, its grammar or its names, and `Claim` where it has no net of that name with a
+/// signature.
+pub fn picture_of(alloc: Global, source: &[u8], name: &[u8]) -> Result<Text, Refusal> {
+    let tokens = lex(alloc, source)?;
+    let program = parse(alloc, source, tokens.as_slice())?;
+    let resolved = resolve(alloc, &program)?;
+    let parts = resolved.as_parts();
+    let Some(place) = place_of(program.decls.as_slice(), name) else {
+        return Err(Refusal::claim(alloc, name));
+    };
+    match claim_at(parts.claims.as_slice(), place) {
+        Some(claim) => draw_claim(
+            alloc,
+            &program,
+            name,
+            &parts.names,
+            claim,
+            &parts.boxes,
+        ),
+        None => Err(Refusal::claim(alloc, name)),
+    }
+}

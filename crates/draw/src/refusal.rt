@@ -1,0 +1,148 @@
+//! Why no picture is printed, as it is told on standard error.
+use itoa::Buffer;
+use sn_lexer::LexFault;
+use sn_list::{Memory, Seq};
+use sn_load::Stop;
+use sn_parser::ParseFault;
+use sn_record::Text;
+use sn_scope::ScopeFault;
+use std::alloc::{AllocError, Global};
+use std::fmt;
+use std::io;
+use std::io::ErrorKind;
+
+/// Why no picture is printed.
+#[derive(Drop)]
+pub enum Refusal {
+    Usage,
+    Read,
+    TooLarge,
+    /// What is wrong in the source.
+    Source(Stop),
+    /// No net of this name has a signature.
+    Claim(Text),
+    Memory,
+    Write,
+}
+
+impl From<Memory> for Refusal {
+    fn from(_memory: Memory) -> Refusal {
+        Refusal::Memory
+    }
+}
+
+impl From<AllocError> for Refusal {
+    fn from(_memory: AllocError) -> Refusal {
+        Refusal::Memory
+    }
+}
+
+impl From<io::Error> for Refusal {
+    fn from(fault: io::Error) -> Refusal {
+        match fault.kind() {
+            ErrorKind::OutOfMemory => Refusal::Memory,
+            _ => Refusal::Read,
+        }
+    }
+}
+
+/// That a source is refused, or that memory is wanted.
+fn refused(stop: Stop) -> Refusal {
+    match stop {
+        Stop::Memory => Refusal::Memory,
+        other => Refusal::Source(other),
+    }
+}
+
+impl From<LexFault> for Refusal {
+    fn from(fault: LexFault) -> Refusal {
+        refused(Stop::from(fault))
+    }
+}
+
+impl From<ParseFault> for Refusal {
+    fn from(fault: ParseFault) -> Refusal {
+        refused(Stop::from(fault))
+    }
+}
+
+impl From<ScopeFault> for Refusal {
+    fn from(fault: ScopeFault) -> Refusal {
+        refused(Stop::from(fault))
+    }
+}
+
+/// What is said of a refusal, without the end of the line.
+pub fn line_of(alloc: Global, stop: &Stop, source: &[u8]) -> Result<Text, Memory> {
+    let mut buffer = Buffer::new();
+    let place = buffer.format(stop.place()).as_bytes();
+    let mut line = Seq::from_slice(alloc, stop.label())?;
+    line.extend_from_slice(stop.name(source, b"", place))?;
+    let (first, second, third) = stop.detail();
+    line.extend_from_slice(first)?;
+    line.extend_from_slice(second)?;
+    line.extend_from_slice(third)?;
+    Ok(line)
+}
+
+impl Refusal {
+    /// That no net of the name has a signature.
+    pub fn claim(alloc: Global, name: &[u8]) -> Refusal {
+        match Seq::from_slice(alloc, name) {
+            Ok(name) => Refusal::Claim(name),
+            Err(_) => Refusal::Memory,
+        }
+    }
+
+    /// The exit status of the program.
+    pub fn status(&self) -> u8 {
+        match self {
+            Refusal::Usage => 2,
+            Refusal::Read => 3,
+            Refusal::TooLarge | Refusal::Source(_) | Refusal::Claim(_) => 6,
+            Refusal::Memory => 8,
+            Refusal::Write => 9,
+        }
+    }
+}
+
+/// Bytes that are text.
+#[derive(Drop)]
+struct Shown<'a>(&'a [u8]);
+
+impl fmt::Display for Shown<'_> {
+    fn fmt<W: fmt::Write>(&self, f: &mut fmt::Formatter<W>) -> fmt::Result {
+        match str::from_utf8(self.0) {
+            Ok(text) => f.write_str(text),
+            Err(_) => Ok(()),
+        }
+    }
+}
+
+/// Writes what is wrong in a source.
+fn write_stop<W: fmt::Write>(f: &mut fmt::Formatter<W>, stop: &Stop) -> fmt::Result {
+    let mut buffer = Buffer::new();
+    let place = buffer.format(stop.place()).as_bytes();
+    let label = Shown(stop.label());
+    let name = Shown(stop.name(b"", b"", place));
+    let (_, detail, _) = stop.detail();
+    let detail = Shown(detail);
+    write!(f, "{label}{name}{detail}")
+}
+
+impl fmt::Display for Refusal {
+    fn fmt<W: fmt::Write>(&self, f: &mut fmt::Formatter<W>) -> fmt::Result {
+        match self {
+            Refusal::Usage => f.write_str("usage: draw SOURCE [--claim NAME]"),
+            Refusal::Read => f.write_str("read: the source"),
+            Refusal::TooLarge => f.write_str("too large: the source"),
+            Refusal::Source(stop) => write_stop(f, stop),
+            Refusal::Claim(name) => {
+                let name = Shown(name.as_slice());
+                write!(f, "source: no net {name} has a signature")
+            }
+            Refusal::Memory => f.write_str("memory"),
+            Refusal::Write => f.write_str("write"),
+        }
+    }
+}
