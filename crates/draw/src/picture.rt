@@ -91,14 +91,7 @@ pub fn picture_of(alloc: Global, source: &[u8], name: &[u8]) -> Result<Text, Ref
         return Err(Refusal::claim(alloc, name));
     };
     match claim_at(parts.claims.as_slice(), place) {
-        Some(claim) => draw_claim(
-            alloc,
-            &program,
-            name,
-            &parts.names,
-            claim,
-            &parts.boxes,
-        ),
+        Some(claim) => draw_claim(alloc, &program, name, &parts.names, claim, &parts.boxes),
         None => Err(Refusal::claim(alloc, name)),
     }
 }

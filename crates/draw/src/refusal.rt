@@ -7,9 +7,8 @@ use sn_parser::ParseFault;
 use sn_record::Text;
 use sn_scope::ScopeFault;
 use std::alloc::{AllocError, Global};
-use std::fmt;
-use std::io;
 use std::io::ErrorKind;
+use std::{fmt, io};
 
 /// Why no picture is printed.
 #[derive(Drop)]

@@ -36,7 +36,9 @@ fn with_command<'a>(
 /// The program's commands, as `clap` is told of them.
 fn program_form<'a>(alloc: Global) -> Result<Command<'a>, AllocError> {
     let program = Command::new(alloc, "records")
-        .about("Converts the records of S-Net to JSON lines and back, from standard input to standard output")
+        .about(
+            "Converts the records of S-Net to JSON lines and back, from standard input to standard output",
+        )
         .version("0.1")
         .no_binary_name(true)
         .subcommand_required(true);

@@ -1,6 +1,6 @@
 //! Lines, one after another.
-use crate::refusal::{Cause, Refusal};
 use crate::command::Direction;
+use crate::refusal::{Cause, Refusal};
 use sn_json::{json_of_lines, line_of_json};
 use sn_record::Text;
 use std::alloc::Global;

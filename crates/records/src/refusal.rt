@@ -3,9 +3,8 @@ use sn_input::InputFault;
 use sn_json::{JsonFault, Reason};
 use sn_record::{Kind, Text};
 use std::alloc::AllocError;
-use std::fmt;
-use std::io;
 use std::io::ErrorKind;
+use std::{fmt, io};
 
 /// What is wrong in a line.
 #[derive(Drop)]

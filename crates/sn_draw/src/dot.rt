@@ -10,7 +10,8 @@ use sn_record::Text;
 use std::alloc::Global;
 
 /// What stands before a picture: the direction, and fonts.
-const HEADER: &[u8] = b"digraph network {\nranksep=0.1;\nnodesep=0.25;\ngraph [fontname=\"Helvetica\", fontsize=10, color=\"#888888\", labeljust=l];\nnode [fontname=\"Helvetica\", fontsize=10, margin=\"0.08,0.03\", width=0.2, height=0.2];\nedge [fontname=\"Helvetica\", fontsize=9, arrowsize=0.6];\n";
+const HEADER: &[u8] =
+    b"digraph network {\nranksep=0.1;\nnodesep=0.25;\ngraph [fontname=\"Helvetica\", fontsize=10, color=\"#888888\", labeljust=l];\nnode [fontname=\"Helvetica\", fontsize=10, margin=\"0.08,0.03\", width=0.2, height=0.2];\nedge [fontname=\"Helvetica\", fontsize=9, arrowsize=0.6];\n";
 
 fn push_escaped(text: &mut Text, byte: u8) -> Result<(), Memory>
     ensures { OnOk result (text.new ≡ text.old ++ escaped byte) }

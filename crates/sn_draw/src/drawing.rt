@@ -142,12 +142,7 @@ impl Drawing<'_> {
     }
 
     /// Opens a cluster, with the nodes where records part and where they merge.
-    fn open_fork(
-        &mut self,
-        label: Text,
-        fork: &[u8],
-        merge: Merge,
-    ) -> Result<Ends, Memory>
+    fn open_fork(&mut self, label: Text, fork: &[u8], merge: Merge) -> Result<Ends, Memory>
         ensures { OnOk result (count_nodes self.new.statements ≡ count_nodes self.old.statements + 2) }
     {
         self.open(label)?;

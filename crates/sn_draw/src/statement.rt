@@ -33,7 +33,10 @@ pub enum Flow {
 #[derive(Drop)]
 pub enum Statement {
     /// A cluster, which has what follows up to its end.
-    Open { number: u64, label: Text },
+    Open {
+        number: u64,
+        label: Text,
+    },
     Close,
     Node {
         number: u64,

@@ -67,11 +67,7 @@ pub fn part_of<'a>(table: Option<&'a Table>, i: usize) -> Option<&'a Table> {
 }
 
 /// What reaches a part, a variant a line. It is empty where nothing does.
-pub fn reaching_text(
-    alloc: Global,
-    names: &Names,
-    table: Option<&Table>,
-) -> Result<Text, Memory> {
+pub fn reaching_text(alloc: Global, names: &Names, table: Option<&Table>) -> Result<Text, Memory> {
     let variants = reaching(alloc, rows_of(table))?;
     lines_of(alloc, names, variants.as_slice())
 }

@@ -1,5 +1,5 @@
 -- The JSON of a record reads as the record.
-use Rattle.std.proofs.Common.{◌≡◌, ℕ, Bool, true, false, cond, IsUtf8, List, [], ◌∷◌, ◌++◌, get_or, map, Option, Some, None, IfSome, Result, Ok, Err, Ordering, Less, Equal, Greater, option_map, refl, sym, ap, ◌∙◌, subst, arith}
+use Rattle.std.proofs.Common.{◌≡◌, ℕ, Bool, true, false, cond, IsUtf8, List, [], ◌∷◌, ◌++◌, get_or, map, Option, Some, None, IfSome, Ok, Err, Less, Equal, Greater, option_map, refl, sym, ap, ◌∙◌, subst, arith}
 use Rattle.std.specs.List.{All}
 use Rattle.std.specs.Option.{is_some}
 use Rattle.std.specs.Ordering.{eq_by_cmp, match_ordering, nat_cmp}
@@ -26,13 +26,13 @@ use Rattle.sn_record.specs.Value.{IsSound, nesting, weight}
 use Rattle.sn_record.specs.Record.{Entries, FitsLabel, IsInt}
 use Rattle.sn_record.proofs.Maps.{get-slice_get, same_label, ties_itself}
 use Rattle.sn_record.proofs.Records.{same_record}
-use Rattle.sn_names.specs.Names.{AreNames, are_distinct, name_at, number_in}
+use Rattle.sn_names.specs.Names.{are_distinct, name_at, number_in}
 use Rattle.sn_names.proofs.NamesLaws.{number_in-name_at}
 use Rattle.sn_lexer.specs.Spelling.{is_name}
 use Rattle.sn_record_tokens.specs.Tokens.{SpellsName}
 use Rattle.sn_record_parser.specs.declared.entry.Entry.{Entry}
 use Rattle.sn_record_parser.specs.declared.entry.WrittenLabel.{WrittenLabel}
-use Rattle.sn_input.specs.Numbered.{entry_in, record_of, with_entries}
+use Rattle.sn_input.specs.Numbered.{record_of, with_entries}
 use Rattle.sn_output.specs.Line.{printed_label}
 use Rattle.sn_output.specs.Types.{label_text}
 use Rattle.sn_record_roundtrip.specs.Writable.{AreBounded, HasName, IsWritable}

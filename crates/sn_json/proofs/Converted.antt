@@ -1,5 +1,5 @@
 -- What the steps from a text of JSON to a line say of the whole.
-use Rattle.std.proofs.Common.{◌≡◌, ◌<◌, ◌≤◌, ◌⊎◌, inl, inr, ℕ, List, [], ◌++◌, codes, length, Some, None, Result, Ok, Err, IfOk, IfErr, IsUtf8, false, sym, ap, ◌∙◌, subst}
+use Rattle.std.proofs.Common.{◌≡◌, ◌<◌, ◌≤◌, ◌⊎◌, inl, inr, ℕ, List, [], length, Some, None, Result, Ok, Err, IfOk, IfErr, IsUtf8, false, sym, ap, ◌∙◌, subst}
 use Rattle.sn_record.specs.Record.{Entries}
 use Rattle.sn_record_parser.specs.declared.entry.Entry.{Entry}
 use Rattle.sn_input.specs.Numbered.{with_entries}

@@ -26,7 +26,6 @@ pub entry_behind : (done : List Entry) (e : Entry) (more : Result (List Entry) J
 entry_behind done e (Ok more) = ap Ok (sym (append_assoc done (e ∷ []) more))
 entry_behind done e (Err why) = refl
 
-
 -- what is left, where the next member is an entry
 pub entry_read : (whole : Result (List Entry) JsonFault) (done : List Entry) (left rest : List (String Global × Json)) (k : String Global) (j : Json) (e : Entry)
     → whole ≡ behind done (entries_in (members_view left)) → left ≡ (k, j) ∷ rest → entry_of (string_bytes k) (label_of (string_bytes k)) (value_of (view j)) ≡ Ok e

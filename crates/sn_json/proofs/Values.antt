@@ -1,5 +1,5 @@
 -- The JSON of a value reads as the value.
-use Rattle.std.proofs.Common.{◌≡◌, ◌<◌, ◌≤◌, ◌+◌, ◌^◌, ◌&&◌, ℕ, ℤ, pos, negsuc, Bool, true, false, cond, List, [], ◌∷◌, length, map, sum, Option, Some, None, Result, Ok, Err, refl, sym, ap, ◌∙◌, subst, arith}
+use Rattle.std.proofs.Common.{◌≡◌, ◌≤◌, ◌+◌, ◌^◌, ℕ, ℤ, pos, negsuc, Bool, true, cond, List, [], ◌∷◌, length, map, sum, Some, None, Ok, Err, refl, sym, ap, ◌∙◌, subst, arith}
 use Rattle.std.specs.Prelude.{FitsSigned, nat_lt, nat_le}
 use Rattle.std.specs.Int.{w64}
 use Rattle.std.specs.List.{All}
@@ -10,8 +10,8 @@ use Rattle.std.proofs.lemmas.List.Elements.{All-nil, All-head, All-tail, All-con
 use Rattle.sn_record.specs.declared.value.Value.{Value}
 use Rattle.sn_record.specs.declared.value.Value.TheOpen.{Value-F}
 use Rattle.sn_record.specs.declared.value.Value.TheFolds.{fold-roll-Value, ind-Value, map-Value, every_here-Value, every_held-Value}
-use Rattle.sn_record.specs.declared.value.Value.TheVariants.{Int, Text, List as Many, rolls-Int, rolls-Text, rolls-List}
-use Rattle.sn_record.specs.declared.value.Value.TheViews.{roll-Value, out-Value, out-roll-Value}
+use Rattle.sn_record.specs.declared.value.Value.TheVariants.{Int, Text, rolls-Int, rolls-Text, rolls-List}
+use Rattle.sn_record.specs.declared.value.Value.TheViews.{roll-Value, out-roll-Value}
 use Rattle.sn_record.specs.Value.{every, is_printable, is_printable_text, printable_step, weight, weight_step}
 use Rattle.sn_record_roundtrip.specs.Writable.{AreBounded, IsBounded}
 use Rattle.serde_json.specs.Data.{Data}
@@ -96,5 +96,5 @@ value_reads = ind-Value Good (λ x y is. subst (λ z. Good (roll-Value z)) is
           let light_list = light_here (Value-F.List (values vs)) light in
           shown (Value-F.List (values vs))
           (ap listed (all_read vs (sym (fold-roll-Value Bool printable_step (Value-F.List (values vs))) ∙ printable) (elements_bounded (Value-F.List (values vs)) bounded) (omega (arith, light_list)))
-              ∙ ap Ok (sym (rolls-List (values vs))))
+          ∙ ap Ok (sym (rolls-List (values vs))))
     ]))

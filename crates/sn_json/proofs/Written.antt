@@ -1,5 +1,5 @@
 -- Records as JSON: texts are UTF-8, and a value's levels are those of its JSON.
-use Rattle.std.proofs.Common.{◌≡◌, ◌<◌, ◌-◌, ◌&&◌, ℕ, zero, suc, drop, inl, inr, None, ℤ, Bool, true, List, [], ◌∷◌, ◌++◌, get_or, length, map, codes, refl, sym, ap, ◌∙◌, subst, slice_get, arith, IsUtf8, Option, Some, IfSome}
+use Rattle.std.proofs.Common.{◌≡◌, ◌<◌, ◌-◌, ◌&&◌, ℕ, zero, suc, drop, inl, inr, None, ℤ, true, List, [], ◌∷◌, get_or, length, map, refl, sym, ap, ◌∙◌, subst, slice_get, arith, IsUtf8, Option, Some, IfSome}
 use Rattle.std.specs.FinMap as finite
 use Rattle.std.specs.List.{list_all}
 use Rattle.std.specs.Option.{is_some}

@@ -1,7 +1,6 @@
 -- The keys of an object that is a record: a field's name, or a tag's name in angle brackets.
-use Rattle.std.specs.Prelude.{ℕ, ◌-◌, ◌==◌, List, [], ◌∷◌, ◌++◌, length, take, drop, Option, None, Some, if◌then◌else◌}
+use Rattle.std.specs.Prelude.{ℕ, ◌-◌, List, [], ◌∷◌, ◌++◌, length, take, drop, Option, None, Some, if◌then◌else◌}
 use Rattle.std.specs.Str.{bytes_eq, chars}
-use Rattle.sn_record.specs.declared.label.Kind.{Kind}
 use Rattle.sn_record.specs.declared.label.Kind.TheVariants.{Field, Tag}
 use Rattle.sn_record_parser.specs.declared.entry.WrittenLabel.{WrittenLabel}
 use Rattle.sn_lexer.specs.Spelling.{is_name}

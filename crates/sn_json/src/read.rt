@@ -98,12 +98,7 @@ fn is_at_kind(kind: Kind, value: &Value) -> bool
 }
 
 /// The entry of the value, where it is sound and suits the label.
-fn suited(
-    alloc: Global,
-    key: &str,
-    label: WrittenLabel,
-    value: Value,
-) -> Result<Entry, JsonFault>
+fn suited(alloc: Global, key: &str, label: WrittenLabel, value: Value) -> Result<Entry, JsonFault>
     ensures entry { IfOk result (λ e. suited key.now label value ≡ Ok e) }
     ensures fits { IfOk result Fits }
     ensures refused { IfErr result (λ fault. (fault ≡ Fault.Memory) ⊎ (suited key.now label value ≡ Err fault)) }

@@ -1,4 +1,4 @@
-use Rattle.std.proofs.Common.{rules, ap, ◌∙◌}
+use Rattle.std.proofs.Common.{ap, ◌∙◌}
 use Rattle.std.specs.Option.{option_copied}
 use Rattle.sn_json.proofs.Keys.{inside_by, none_opens}
 use Rattle.sn_json.proofs.key.inside.Goals as goal

@@ -1,5 +1,5 @@
-use Rattle.std.proofs.Common.{rules, ◌∙◌}
-use Rattle.sn_json.proofs.Keys.{name_is_all, begins_none}
+use Rattle.std.proofs.Common.{◌∙◌}
+use Rattle.sn_json.proofs.Keys.{name_is_all}
 use Rattle.sn_json.proofs.key.is_name.Goals as goal
 
 pub returns-in-Some : goal.returns-in-Some

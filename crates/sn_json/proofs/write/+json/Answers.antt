@@ -1,6 +1,6 @@
 use Rattle.std.proofs.Common.{◌≡◌, rules, map, sym, subst, true, IsUtf8}
 use Rattle.sn_record.specs.Value.{every, is_printable}
-use Rattle.sn_record.specs.declared.value.Value.{Value, the_lemmas}
+use Rattle.sn_record.specs.declared.value.Value.{the_lemmas}
 use Rattle.sn_json.proofs.Written.{element_printable, elements_printable, value_utf8}
 use Rattle.sn_json.proofs.write.+json.Goals as goal
 
