@@ -4,20 +4,28 @@ use Rattle.sn_record.specs.Record.{Entries}
 use Rattle.sn_record_parser.specs.declared.entry.Entry.{Entry}
 use Rattle.sn_input.specs.Numbered.{with_entries}
 use Rattle.sn_input.specs.Reading.{most_names}
-use Rattle.serde_json.specs.Data.{Data}
-use Rattle.serde_json.specs.Read.{read}
+use Rattle.sn_record_roundtrip.specs.Writable.{IsWritable}
+use Rattle.serde_json.specs.Data.{Data, depth}
+use Rattle.serde_json.specs.Read.{max_depth, read}
 use Rattle.serde_json.specs.Written.{compact_text, has_float}
 use Rattle.sn_json.specs.declared.fault.JsonFault.{JsonFault}
 use Rattle.sn_json.specs.declared.fault.JsonFault.TheVariants.{Memory, NoJson, TooManyNames}
-use Rattle.sn_json.specs.Lines.{Converts, line_of_entries}
+use Rattle.sn_json.specs.Lines.{Converts, IsReadBack, line_of_entries}
 use Rattle.sn_json.specs.Lines.Converts.{no_text, no_json, no_record, many_names, converted}
 use Rattle.sn_json.specs.Reading.{entries_of}
 use Rattle.sn_json.specs.Writing.{json_of}
+use Rattle.sn_json.proofs.Depths.{json_deep}
 use Rattle.sn_json.proofs.Floats.{json_whole}
 
 -- the text of a record's JSON
 pub text_is : (d : Data) (text : List ℕ) (names : List (List ℕ)) (r : Entries) → (has_float d ≡ false → text ≡ compact_text d) → d ≡ json_of names r → text ≡ compact_text (json_of names r)
 text_is d text names r written is = written (ap has_float is ∙ json_whole names r) ∙ ap compact_text is
+
+pub read_back : (d : Data) (text : List ℕ) (names : List (List ℕ)) (r : Entries) → IsWritable names r → (has_float d ≡ false → text ≡ compact_text d) → (depth d ≤ max_depth → read text ≡ Some d)
+    → d ≡ json_of names r → IsReadBack names r
+read_back d text names r writable written reads is =
+    let deep : depth d ≤ max_depth = subst (λ x. depth x ≤ max_depth) (sym is) (json_deep names r writable) in
+    ap read (sym (text_is d text names r written is)) ∙ reads deep ∙ ap Some is
 
 abbrev pub Ends : List ℕ → JsonFault → Type 0
 Ends text fault = (fault ≡ Memory) ⊎ Converts text (Err fault)

@@ -1,5 +1,6 @@
 mod Back
 mod Converted
+mod Depths
 mod Files
 mod Floats
 mod Keys

@@ -17,6 +17,10 @@ use Rattle.sn_json.specs.Writing.{json_of}
 abbrev pub json_line : List (List ℕ) → Entries → List ℕ
 json_line names r = compact_text (json_of names r) ++ codes "\n"
 
+-- the text of a record's JSON reads as that JSON
+abbrev pub IsReadBack : List (List ℕ) → Entries → Type 0
+IsReadBack names r = read (compact_text (json_of names r)) ≡ Some (json_of names r)
+
 -- the printed line of the record that entries are
 abbrev pub line_of_entries : List Entry → List ℕ
 line_of_entries entries = line (with_entries [] entries) (record_of (with_entries [] entries) entries)

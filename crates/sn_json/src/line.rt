@@ -10,7 +10,7 @@ ghost use Rattle.sn_record_roundtrip.specs.Writable.{IsWritable};
 ghost use Rattle.serde_json.specs.Read.{read};
 ghost use Rattle.serde_json.specs.View.{view};
 ghost use Rattle.sn_json.specs.declared.fault.JsonFault.{JsonFault as Fault};
-ghost use Rattle.sn_json.specs.Lines.{Converts, json_line, line_of_entries};
+ghost use Rattle.sn_json.specs.Lines.{Converts, IsReadBack, json_line, line_of_entries};
 
 use crate::fault::JsonFault;
 use crate::read::entries_of;
@@ -27,7 +27,8 @@ use std::alloc::Global;
 /// The line of JSON that a record is.
 fn json_line(alloc: Global, shown: &Record, names: &Names) -> Result<Text, Memory>
     requires { IsWritable names.now shown.now }
-    ensures { IfOk result (λ text. text ≡ json_line names.now shown.now) }
+    ensures line { IfOk result (λ text. text ≡ json_line names.now shown.now) }
+    ensures reads { IfOk result (λ _. IsReadBack names.now shown.now) }
 {
     let json = json_of(alloc, shown, names)?;
     let mut text = Seq::from_vec(json.to_vec(alloc)?);
@@ -38,7 +39,8 @@ fn json_line(alloc: Global, shown: &Record, names: &Names) -> Result<Text, Memor
 /// The lines of JSON that the records of an input are.
 fn json_lines(alloc: Global, input: &Input) -> Result<Text, Memory>
     requires { All (IsWritable input.now.names) input.now.records }
-    ensures { IfOk result (λ text. text ≡ flat_map (json_line input.now.names) input.now.records) }
+    ensures lines { IfOk result (λ text. text ≡ flat_map (json_line input.now.names) input.now.records) }
+    ensures read { IfOk result (λ _. All (IsReadBack input.now.names) input.now.records) }
 {
     let mut text = Seq::new(alloc);
     for shown in input.records.as_slice() {
@@ -48,10 +50,10 @@ fn json_lines(alloc: Global, input: &Input) -> Result<Text, Memory>
     Ok(text)
 }
 
-/// The lines of JSON that the records of these lines are. Lines of blanks alone have no record.
+/// The lines of JSON that the records of these lines are, each of which reads as that JSON. Lines of blanks alone have no record.
 pub fn json_of_lines(alloc: Global, lines: &[u8]) -> Result<Text, InputFault>
     requires { length lines.now ≤ 16777216 }
-    ensures text { IfOk result (λ text. (input : SomeInput) × ReadsFile [] lines.now (Ok input) × (text ≡ flat_map (json_line input.names) input.records)) }
+    ensures text { IfOk result (λ text. (input : SomeInput) × ReadsFile [] lines.now (Ok input) × (text ≡ flat_map (json_line input.names) input.records) × All (IsReadBack input.names) input.records) }
     ensures refused { IfErr result (λ fault. (fault ≡ SomeFault.Memory) ⊎ ReadsFile [] lines.now (Err fault)) }
 {
     let names = Names::new(alloc)?;
