@@ -15,7 +15,7 @@ use command::{Asked, Command, read_words};
 use picture::picture_of;
 use refusal::Refusal;
 use sn_load::SOURCE_LIMIT;
-use std::io::Write;
+use std::io::{ErrorKind, Write};
 use std::process::ExitCode;
 use std::{env, fs};
 
@@ -24,12 +24,16 @@ fn words(rt: &HostRuntime) -> Result<Vec<String>, Refusal> {
     Ok(env::args(rt)?.skip(1).collect(rt.alloc())?)
 }
 
+/// The bytes of a source.
 fn read_source(rt: &HostRuntime, name: &str) -> Result<Vec<u8>, Refusal> {
-    let source = fs::read(rt, name)?;
-    if source.len() as u64 > SOURCE_LIMIT {
-        return Err(Refusal::TooLarge);
+    match fs::read(rt, name) {
+        Ok(source) if source.len() as u64 > SOURCE_LIMIT => {
+            Err(Refusal::too_large(rt.alloc(), name))
+        }
+        Ok(source) => Ok(source),
+        Err(fault) if fault.kind() == ErrorKind::OutOfMemory => Err(Refusal::Memory),
+        Err(_) => Err(Refusal::read(rt.alloc(), name)),
     }
-    Ok(source)
 }
 
 /// Prints the picture that a command asks for.

@@ -1,6 +1,6 @@
 //! From the bytes of a source to a picture.
 use crate::claim::{claim_at, place_of};
-use crate::refusal::{Refusal, line_of};
+use crate::refusal::Refusal;
 use sn_ast::Program;
 use sn_draw::{Texts, dot_text, draw_net};
 use sn_flow::{FlowFault, Stop, Table, check, visit_each};
@@ -21,11 +21,14 @@ fn verdict(
     names: &Names,
     claim: &Claim,
     boxes: &Boxes,
-) -> Result<Option<Text>, Refusal> {
+) -> Result<Option<String>, Refusal> {
     match check(alloc, claim, boxes) {
         Ok(()) => Ok(None),
         Err(FlowFault::Memory) => Err(Refusal::Memory),
-        Err(fault) => Ok(Some(line_of(alloc, &tell_fault(alloc, names, &fault), b"")?)),
+        Err(fault) => {
+            let refusal = Refusal::Source(tell_fault(alloc, names, &fault));
+            Ok(Some(format!(in alloc; "{refusal}")?))
+        }
     }
 }
 
@@ -35,7 +38,7 @@ fn title(
     name: &[u8],
     names: &Names,
     claim: &Claim,
-    verdict: Option<Text>,
+    verdict: Option<String>,
 ) -> Result<Text, Refusal> {
     let mut text = Seq::from_slice(alloc, b"net ")?;
     text.extend_from_slice(name)?;
@@ -45,7 +48,7 @@ fn title(
     push_type(alloc, &mut text, claim.output.as_slice(), names)?;
     if let Some(why) = verdict {
         text.extend_from_slice(b"\n")?;
-        text.extend_from_slice(why.as_slice())?;
+        text.extend_from_slice(why.as_bytes())?;
     }
     Ok(text)
 }

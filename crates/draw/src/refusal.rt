@@ -14,8 +14,10 @@ use std::{fmt, io};
 #[derive(Drop)]
 pub enum Refusal {
     Usage,
-    Read,
-    TooLarge,
+    /// The file of this name was not read.
+    Read(Text),
+    /// It is too large to be a source.
+    TooLarge(Text),
     /// What is wrong in the source.
     Source(Stop),
     /// No net of this name has a signature.
@@ -40,7 +42,7 @@ impl From<io::Error> for Refusal {
     fn from(fault: io::Error) -> Refusal {
         match fault.kind() {
             ErrorKind::OutOfMemory => Refusal::Memory,
-            _ => Refusal::Read,
+            _ => Refusal::Usage,
         }
     }
 }
@@ -71,20 +73,23 @@ impl From<ScopeFault> for Refusal {
     }
 }
 
-/// What is said of a refusal, without the end of the line.
-pub fn line_of(alloc: Global, stop: &Stop, source: &[u8]) -> Result<Text, Memory> {
-    let mut buffer = Buffer::new();
-    let place = buffer.format(stop.place()).as_bytes();
-    let mut line = Seq::from_slice(alloc, stop.label())?;
-    line.extend_from_slice(stop.name(source, b"", place))?;
-    let (first, second, third) = stop.detail();
-    line.extend_from_slice(first)?;
-    line.extend_from_slice(second)?;
-    line.extend_from_slice(third)?;
-    Ok(line)
-}
-
 impl Refusal {
+    /// That the file of the name was not read.
+    pub fn read(alloc: Global, name: &str) -> Refusal {
+        match Seq::from_slice(alloc, name.as_bytes()) {
+            Ok(name) => Refusal::Read(name),
+            Err(_) => Refusal::Memory,
+        }
+    }
+
+    /// That the file of the name is too large.
+    pub fn too_large(alloc: Global, name: &str) -> Refusal {
+        match Seq::from_slice(alloc, name.as_bytes()) {
+            Ok(name) => Refusal::TooLarge(name),
+            Err(_) => Refusal::Memory,
+        }
+    }
+
     /// That no net of the name has a signature.
     pub fn claim(alloc: Global, name: &[u8]) -> Refusal {
         match Seq::from_slice(alloc, name) {
@@ -97,8 +102,8 @@ impl Refusal {
     pub fn status(&self) -> u8 {
         match self {
             Refusal::Usage => 2,
-            Refusal::Read => 3,
-            Refusal::TooLarge | Refusal::Source(_) | Refusal::Claim(_) => 6,
+            Refusal::Read(_) => 3,
+            Refusal::TooLarge(_) | Refusal::Source(_) | Refusal::Claim(_) => 6,
             Refusal::Memory => 8,
             Refusal::Write => 9,
         }
@@ -118,7 +123,7 @@ impl fmt::Display for Shown<'_> {
     }
 }
 
-/// Writes what is wrong in a source.
+/// Writes what is wrong in a source, as snet tells it.
 fn write_stop<W: fmt::Write>(f: &mut fmt::Formatter<W>, stop: &Stop) -> fmt::Result {
     let mut buffer = Buffer::new();
     let place = buffer.format(stop.place()).as_bytes();
@@ -133,8 +138,14 @@ impl fmt::Display for Refusal {
     fn fmt<W: fmt::Write>(&self, f: &mut fmt::Formatter<W>) -> fmt::Result {
         match self {
             Refusal::Usage => f.write_str("usage: draw SOURCE [--claim NAME]"),
-            Refusal::Read => f.write_str("read: the source"),
-            Refusal::TooLarge => f.write_str("too large: the source"),
+            Refusal::Read(name) => {
+                let name = Shown(name.as_slice());
+                write!(f, "read: {name}")
+            }
+            Refusal::TooLarge(name) => {
+                let name = Shown(name.as_slice());
+                write!(f, "too large: {name}")
+            }
             Refusal::Source(stop) => write_stop(f, stop),
             Refusal::Claim(name) => {
                 let name = Shown(name.as_slice());

@@ -13,13 +13,17 @@ mod refusal;
 use command::{Asked, Direction, read_words};
 use convert::convert;
 use refusal::Refusal;
-use std::io::{BufReader, BufWriter, Write};
+use std::io::{BufReader, BufWriter, ErrorKind, Write};
 use std::process::ExitCode;
 use std::{env, io};
 
 /// The words of the command line after the program's name.
 fn words(rt: &HostRuntime) -> Result<Vec<String>, Refusal> {
-    Ok(env::args(rt)?.skip(1).collect(rt.alloc())?)
+    match env::args(rt) {
+        Ok(all) => Ok(all.skip(1).collect(rt.alloc())?),
+        Err(fault) if fault.kind() == ErrorKind::OutOfMemory => Err(Refusal::Memory),
+        Err(_) => Err(Refusal::Usage),
+    }
 }
 
 /// Converts what standard input has. What was converted is written, also where a line behind it is refused.
