@@ -129,9 +129,11 @@ fn write_stop<W: fmt::Write>(f: &mut fmt::Formatter<W>, stop: &Stop) -> fmt::Res
     let place = buffer.format(stop.place()).as_bytes();
     let label = Shown(stop.label());
     let name = Shown(stop.name(b"", b"", place));
-    let (_, detail, _) = stop.detail();
+    let (before, detail, behind) = stop.detail();
+    let before = Shown(before);
     let detail = Shown(detail);
-    write!(f, "{label}{name}{detail}")
+    let behind = Shown(behind);
+    write!(f, "{label}{name}{before}{detail}{behind}")
 }
 
 impl fmt::Display for Refusal {
