@@ -1,6 +1,5 @@
 //! The net that is drawn.
 use sn_ast::Decl;
-use sn_net::Claim;
 
 /// The place of the name of the first net of that name with a signature, in the order of the source.
 pub fn place_of(decls: &[Decl], name: &[u8]) -> Option<u32> {
@@ -15,9 +14,4 @@ pub fn place_of(decls: &[Decl], name: &[u8]) -> Option<u32> {
         }
     }
     None
-}
-
-/// The claim about the net whose name stands at the place.
-pub fn claim_at(claims: &[Claim], place: u32) -> Option<&Claim> {
-    claims.iter().find(|claim| claim.place == place)
 }

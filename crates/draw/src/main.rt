@@ -24,13 +24,10 @@ fn words(rt: &HostRuntime) -> Result<Vec<String>, Refusal> {
     Ok(env::args(rt)?.skip(1).collect(rt.alloc())?)
 }
 
-/// The bytes of a source.
-fn read_source(rt: &HostRuntime, name: &str) -> Result<Vec<u8>, Refusal> {
+/// The bytes of a file.
+fn read(rt: &HostRuntime, name: &str) -> Result<Vec<u8>, Refusal> {
     match fs::read(rt, name) {
-        Ok(source) if source.len() as u64 > SOURCE_LIMIT => {
-            Err(Refusal::too_large(rt.alloc(), name))
-        }
-        Ok(source) => Ok(source),
+        Ok(bytes) => Ok(bytes),
         Err(fault) if fault.kind() == ErrorKind::OutOfMemory => Err(Refusal::Memory),
         Err(_) => Err(Refusal::read(rt.alloc(), name)),
     }
@@ -38,7 +35,11 @@ fn read_source(rt: &HostRuntime, name: &str) -> Result<Vec<u8>, Refusal> {
 
 /// Prints the picture that a command asks for.
 fn draw(rt: &HostRuntime, command: &Command) -> Result<(), Refusal> {
-    let source = read_source(rt, command.source.as_str())?;
+    let name = command.source.as_str();
+    let source = read(rt, name)?;
+    if source.len() as u64 > SOURCE_LIMIT {
+        return Err(Refusal::too_large(rt.alloc(), name));
+    }
     let text = picture_of(rt.alloc(), source.as_slice(), command.claim())?;
     print(rt, text.as_slice())
 }

@@ -1,5 +1,10 @@
 //! From the bytes of a source to a picture.
-use crate::claim::{claim_at, place_of};
+ghost use Rattle.std.specs.Prelude.{◌≤◌, length};
+ghost use Rattle.std.specs.List.{All};
+ghost use Rattle.sn_net.specs.WellFormed.{FitsBoxes};
+ghost use Rattle.sn_load.specs.declared.load.TheConstants.{SOURCE_LIMIT};
+
+use crate::claim::place_of;
 use crate::refusal::Refusal;
 use sn_ast::Program;
 use sn_draw::{Texts, dot_text, draw_net};
@@ -12,7 +17,7 @@ use sn_net::{Boxes, Claim};
 use sn_output::push_type;
 use sn_parser::parse;
 use sn_record::Text;
-use sn_scope::resolve;
+use sn_scope::{Parts, resolve};
 use std::alloc::Global;
 
 /// What the checker says of a claim where it refuses it.
@@ -21,7 +26,9 @@ fn verdict(
     names: &Names,
     claim: &Claim,
     boxes: &Boxes,
-) -> Result<Option<String>, Refusal> {
+) -> Result<Option<String>, Refusal>
+    requires { FitsBoxes boxes.now claim.now.net }
+{
     match check(alloc, claim, boxes) {
         Ok(()) => Ok(None),
         Err(FlowFault::Memory) => Err(Refusal::Memory),
@@ -54,7 +61,9 @@ fn title(
 }
 
 /// What reaches each part of a claim's network. There is no table where more than 1,024 variants come to a part.
-fn table_of(alloc: Global, claim: &Claim, boxes: &Boxes) -> Result<Option<Table>, Refusal> {
+fn table_of(alloc: Global, claim: &Claim, boxes: &Boxes) -> Result<Option<Table>, Refusal>
+    requires { FitsBoxes boxes.now claim.now.net }
+{
     match visit_each(alloc, &claim.net, boxes, claim.input.as_slice()) {
         Ok(table) => Ok(Some(table)),
         Err(Stop::TooMany) => Ok(None),
@@ -70,7 +79,9 @@ fn draw_claim(
     names: &Names,
     claim: &Claim,
     boxes: &Boxes,
-) -> Result<Text, Refusal> {
+) -> Result<Text, Refusal>
+    requires { FitsBoxes boxes.now claim.now.net }
+{
     let texts = Texts::of(alloc, program)?;
     let verdict = verdict(alloc, names, claim, boxes)?;
     let title = title(alloc, name, names, claim, verdict)?;
@@ -79,22 +90,38 @@ fn draw_claim(
     Ok(dot_text(alloc, title.as_slice(), statements.as_slice())?)
 }
 
+/// The picture of the claim about the net whose name stands at the place.
+fn draw_at(
+    alloc: Global,
+    program: &Program,
+    name: &[u8],
+    parts: &Parts,
+    place: u32,
+) -> Result<Text, Refusal>
+    requires { All (λ claim. FitsBoxes parts.now.boxes claim.net) parts.now.claims }
+{
+    for claim in parts.claims.as_slice() {
+        if claim.place == place {
+            return draw_claim(alloc, program, name, &parts.names, claim, &parts.boxes);
+        }
+    }
+    Err(Refusal::claim(alloc, name))
+}
+
 /// The picture of the net of that name in a source.
 ///
 /// # Errors
 ///
 /// `Source` where the source is refused, by its tokens, its grammar or its names, and `Claim` where it has no net of that name with a
 /// signature.
-pub fn picture_of(alloc: Global, source: &[u8], name: &[u8]) -> Result<Text, Refusal> {
+pub fn picture_of(alloc: Global, source: &[u8], name: &[u8]) -> Result<Text, Refusal>
+    requires { length source.now ≤ SOURCE_LIMIT }
+{
     let tokens = lex(alloc, source)?;
     let program = parse(alloc, source, tokens.as_slice())?;
     let resolved = resolve(alloc, &program)?;
-    let parts = resolved.as_parts();
-    let Some(place) = place_of(program.decls.as_slice(), name) else {
-        return Err(Refusal::claim(alloc, name));
-    };
-    match claim_at(parts.claims.as_slice(), place) {
-        Some(claim) => draw_claim(alloc, &program, name, &parts.names, claim, &parts.boxes),
+    match place_of(program.decls.as_slice(), name) {
+        Some(place) => draw_at(alloc, &program, name, resolved.as_parts(), place),
         None => Err(Refusal::claim(alloc, name)),
     }
 }
