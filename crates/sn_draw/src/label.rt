@@ -3,7 +3,7 @@ use sn_list::{Memory, Seq};
 use sn_record::Text;
 use std::alloc::Global;
 
-/// So many characters a line has, before the next blank ends it.
+/// So many characters a line has, before the next blank, comma or semicolon ends it.
 const WIDTH: usize = 40;
 
 /// So many it has at most.
@@ -17,11 +17,17 @@ fn begins_character(byte: u8) -> bool {
     byte & 0xc0 != 0x80
 }
 
+/// Whether a line may end between two bytes of which none is a blank.
+fn may_part(previous: u8, byte: u8) -> bool {
+    byte != b' ' && (previous == b',' || previous == b';')
+}
+
 /// A text in lines of some 40 characters, the first 192 of it.
 pub fn wrapped(alloc: Global, text: &[u8]) -> Result<Text, Memory> {
     let mut lines = Seq::new(alloc);
     let mut column = 0usize;
     let mut count = 0usize;
+    let mut previous = b' ';
     for byte in text {
         if begins_character(*byte) {
             if count >= MOST {
@@ -29,7 +35,7 @@ pub fn wrapped(alloc: Global, text: &[u8]) -> Result<Text, Memory> {
                 return Ok(lines);
             }
             count += 1;
-            if column >= MOST_WIDTH {
+            if column >= MOST_WIDTH || (column > WIDTH && may_part(previous, *byte)) {
                 lines.extend_from_slice(b"\n")?;
                 column = 0;
             }
@@ -41,6 +47,7 @@ pub fn wrapped(alloc: Global, text: &[u8]) -> Result<Text, Memory> {
         } else {
             lines.extend_from_slice(&[*byte])?;
         }
+        previous = *byte;
     }
     Ok(lines)
 }
