@@ -23,6 +23,8 @@ use Rattle.sn_type_parser.specs.Reads.{read as read_labels}
 use Rattle.sn_type_parser.specs.declared.labels.LabelParser.{LabelParser}
 use Rattle.sn_box_parser.specs.BoxDeclResidual.{AfterBody, AfterOutput, AfterParam, AfterPart, Completes, CompletesIn, InExpr, InTuple, NextArrow, NextAssign, NextBrace, NextFunction, NextOpening, NextParam, NextParams, NextTuple, Read, Through, WithOutput, after_body, after_output, after_param, after_part, next_arrow, next_assign, next_brace, next_function, next_opening, next_param, next_params, next_tuple, read, through, tuple_at}
 use Rattle.sn_box_parser.specs.declared.machine.BoxDeclParser.{BoxDeclParser}
+use Rattle.sn_box_parser.specs.declared.machine.InBody.TheVariants as in_body
+use Rattle.sn_box_parser.specs.declared.machine.InOutputs.TheVariants as in_outputs
 use Rattle.sn_box_parser.specs.declared.machine.Mode.{Mode}
 use Rattle.sn_box_parser.specs.declared.machine.Mode.TheVariants as mode
 use Rattle.sn_box_parser.specs.declared.parts.Opened.{Opened}
@@ -76,19 +78,19 @@ no_end_in (mode.Opening name) t h = no_end_rest h
 no_end_in (mode.Input name) t h = no_end_tuple h
 no_end_in (mode.InInput name opening labels) t h = no_end_through (no_labels_end labels) h
 no_end_in (mode.Arrow name input) t h = no_end_arrow h
-no_end_in (mode.Output head) t h = no_end_tuple h
-no_end_in (mode.InOutput head opening labels) t h = no_end_through (no_labels_end labels) h
-no_end_in (mode.AfterOutput head) t h = no_end_output h
-no_end_in (mode.Brace head) t h = no_end_brace h
-no_end_in (mode.Body b) t h = no_end_body h
-no_end_in (mode.FunctionName b) t h = no_end_function h
-no_end_in (mode.FunctionOpening b name) t h = no_end_opening h
-no_end_in (mode.FirstParam b name) t h = no_end_params h
-no_end_in (mode.Param b f) t h = no_end_param h
-no_end_in (mode.AfterParam b f) t h = no_end_after_param h
-no_end_in (mode.Assign b f) t h = no_end_assign h
-no_end_in (mode.InFunction b f part) t h = no_end_through (no_expr_end part) h
-no_end_in (mode.InPart b parts part) t h = no_end_through (no_expr_end part) h
+no_end_in (mode.Outputs head in_outputs.Output) t h = no_end_tuple h
+no_end_in (mode.Outputs head (in_outputs.InOutput opening labels)) t h = no_end_through (no_labels_end labels) h
+no_end_in (mode.Outputs head in_outputs.AfterOutput) t h = no_end_output h
+no_end_in (mode.Outputs head in_outputs.Brace) t h = no_end_brace h
+no_end_in (mode.Inside b in_body.Body) t h = no_end_body h
+no_end_in (mode.Inside b in_body.FunctionName) t h = no_end_function h
+no_end_in (mode.Inside b (in_body.FunctionOpening name)) t h = no_end_opening h
+no_end_in (mode.Inside b (in_body.FirstParam name)) t h = no_end_params h
+no_end_in (mode.Inside b (in_body.Param f)) t h = no_end_param h
+no_end_in (mode.Inside b (in_body.AfterParam f)) t h = no_end_after_param h
+no_end_in (mode.Inside b (in_body.Assign f)) t h = no_end_assign h
+no_end_in (mode.Inside b (in_body.InFunction f part)) t h = no_end_through (no_expr_end part) h
+no_end_in (mode.Inside b (in_body.InPart parts part)) t h = no_end_through (no_expr_end part) h
 
 pub no_end : (s : BoxDeclParser) (t : Read) → Completes s [] t → ⊥
 no_end s t h = no_end_in s.mode t h
@@ -192,26 +194,26 @@ completable_in (mode.Opening name) us =
 completable_in (mode.Input name) us = let r = first_input name us in (tuple_then (arrow_then us), r.0, r.1)
 completable_in (mode.InInput name opening labels) us = in_tuple (NextArrow name) opening labels (arrow_then us) us (λ u. arrowed name u us)
 completable_in (mode.Arrow name input) us = let r = arrowed name input us in (arrow_then us, r.0, r.1)
-completable_in (mode.Output h) us = let r = output h.name h.input h.outputs us in (tuple_then (outputs_then us), r.0, r.1)
-completable_in (mode.InOutput h opening labels) us =
+completable_in (mode.Outputs h in_outputs.Output) us = let r = output h.name h.input h.outputs us in (tuple_then (outputs_then us), r.0, r.1)
+completable_in (mode.Outputs h (in_outputs.InOutput opening labels)) us =
     in_tuple (WithOutput h.name h.input h.outputs) opening labels (outputs_then us) us (λ u. closed h.name h.input (append h.outputs u) us)
-completable_in (mode.AfterOutput h) us = let r = closed h.name h.input h.outputs us in (outputs_then us, r.0, r.1)
-completable_in (mode.Brace h) us = let r = braced h.name h.input h.outputs us in (Symbol OpenBrace 0 ∷ body_then us, r.0, r.1)
-completable_in (mode.Body b) us = let r = bodied b.head.name b.head.input b.head.outputs b.functions us in (body_then us, r.0, r.1)
-completable_in (mode.FunctionName b) us =
+completable_in (mode.Outputs h in_outputs.AfterOutput) us = let r = closed h.name h.input h.outputs us in (outputs_then us, r.0, r.1)
+completable_in (mode.Outputs h in_outputs.Brace) us = let r = braced h.name h.input h.outputs us in (Symbol OpenBrace 0 ∷ body_then us, r.0, r.1)
+completable_in (mode.Inside b in_body.Body) us = let r = bodied b.head.name b.head.input b.head.outputs b.functions us in (body_then us, r.0, r.1)
+completable_in (mode.Inside b in_body.FunctionName) us =
     let r = first_params b a_name us in
     (Name a_name ∷ Symbol OpenParen 0 ∷ Symbol CloseParen 0 ∷ assign_then us, r.0, next_function (next_opening r.1))
-completable_in (mode.FunctionOpening b name) us =
+completable_in (mode.Inside b (in_body.FunctionOpening name)) us =
     let r = first_params b name us in (Symbol OpenParen 0 ∷ Symbol CloseParen 0 ∷ assign_then us, r.0, next_opening r.1)
-completable_in (mode.FirstParam b name) us = let r = first_params b name us in (Symbol CloseParen 0 ∷ assign_then us, r.0, r.1)
-completable_in (mode.Param b f) us =
+completable_in (mode.Inside b (in_body.FirstParam name)) us = let r = first_params b name us in (Symbol CloseParen 0 ∷ assign_then us, r.0, r.1)
+completable_in (mode.Inside b (in_body.Param f)) us =
     let r = params_closed b f.name (append f.params a_name) us in
     (Name a_name ∷ Symbol CloseParen 0 ∷ assign_then us, r.0, next_param r.1)
-completable_in (mode.AfterParam b f) us = let r = params_closed b f.name f.params us in (Symbol CloseParen 0 ∷ assign_then us, r.0, r.1)
-completable_in (mode.Assign b f) us = let r = assigned b f.name f.params us in (assign_then us, r.0, r.1)
-completable_in (mode.InFunction b f part) us =
+completable_in (mode.Inside b (in_body.AfterParam f)) us = let r = params_closed b f.name f.params us in (Symbol CloseParen 0 ∷ assign_then us, r.0, r.1)
+completable_in (mode.Inside b (in_body.Assign f)) us = let r = assigned b f.name f.params us in (assign_then us, r.0, r.1)
+completable_in (mode.Inside b (in_body.InFunction f part)) us =
     in_expr (AfterBody b f.name f.params) part (Symbol Semicolon 0 ∷ body_then us) us refl (function_ended b f.name f.params us)
-completable_in (mode.InPart b parts part) us =
+completable_in (mode.Inside b (in_body.InPart parts part)) us =
     in_expr (AfterPart b parts.at parts.so_far) part (Symbol CloseBrace 0 ∷ us) us refl (body_closed b parts.at parts.so_far us)
 
 pub completable : (s : BoxDeclParser) (us : List Terminal) → (w : List Terminal) × (d : Kept Decl) × Completes s w (read d us)

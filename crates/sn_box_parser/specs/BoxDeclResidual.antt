@@ -22,6 +22,8 @@ use Rattle.sn_box_parser.specs.declared.machine.BoxDeclStep.{BoxDeclStep}
 use Rattle.sn_box_parser.specs.declared.machine.BoxDeclStep.TheVariants.{More, Done}
 use Rattle.sn_box_parser.specs.declared.machine.BoxDeclStop.{BoxDeclStop}
 use Rattle.sn_box_parser.specs.declared.machine.BoxDeclStop.TheVariants.{Memory, Refused}
+use Rattle.sn_box_parser.specs.declared.machine.InBody.TheVariants as in_body
+use Rattle.sn_box_parser.specs.declared.machine.InOutputs.TheVariants as in_outputs
 use Rattle.sn_box_parser.specs.declared.machine.Mode.{Mode}
 use Rattle.sn_box_parser.specs.declared.machine.Mode.TheVariants as mode
 use Rattle.sn_box_parser.specs.declared.parts.Opened.{Opened}
@@ -119,19 +121,19 @@ CompletesIn (mode.Opening name) w t = RestOfBox kept name w t.part t.rest
 CompletesIn (mode.Input name) w t = NextTuple (NextArrow name) w t
 CompletesIn (mode.InInput name opening labels) w t = InTuple (NextArrow name) opening labels w t
 CompletesIn (mode.Arrow name input) w t = NextArrow name input w t
-CompletesIn (mode.Output h) w t = NextTuple (WithOutput h.name h.input h.outputs) w t
-CompletesIn (mode.InOutput h opening labels) w t = InTuple (WithOutput h.name h.input h.outputs) opening labels w t
-CompletesIn (mode.AfterOutput h) w t = AfterOutput h.name h.input h.outputs w t
-CompletesIn (mode.Brace h) w t = NextBrace h.name h.input h.outputs w t
-CompletesIn (mode.Body b) w t = NextBody b w t
-CompletesIn (mode.FunctionName b) w t = NextFunction b w t
-CompletesIn (mode.FunctionOpening b name) w t = NextOpening b name w t
-CompletesIn (mode.FirstParam b name) w t = NextParams b name w t
-CompletesIn (mode.Param b f) w t = NextParam b f.name f.params w t
-CompletesIn (mode.AfterParam b f) w t = AfterParam b f.name f.params w t
-CompletesIn (mode.Assign b f) w t = NextAssign b f.name f.params w t
-CompletesIn (mode.InFunction b f body) w t = InExpr (AfterBody b f.name f.params) body w t
-CompletesIn (mode.InPart b sequence part) w t = InExpr (AfterPart b sequence.at sequence.so_far) part w t
+CompletesIn (mode.Outputs h in_outputs.Output) w t = NextTuple (WithOutput h.name h.input h.outputs) w t
+CompletesIn (mode.Outputs h (in_outputs.InOutput opening labels)) w t = InTuple (WithOutput h.name h.input h.outputs) opening labels w t
+CompletesIn (mode.Outputs h in_outputs.AfterOutput) w t = AfterOutput h.name h.input h.outputs w t
+CompletesIn (mode.Outputs h in_outputs.Brace) w t = NextBrace h.name h.input h.outputs w t
+CompletesIn (mode.Inside b in_body.Body) w t = NextBody b w t
+CompletesIn (mode.Inside b in_body.FunctionName) w t = NextFunction b w t
+CompletesIn (mode.Inside b (in_body.FunctionOpening name)) w t = NextOpening b name w t
+CompletesIn (mode.Inside b (in_body.FirstParam name)) w t = NextParams b name w t
+CompletesIn (mode.Inside b (in_body.Param f)) w t = NextParam b f.name f.params w t
+CompletesIn (mode.Inside b (in_body.AfterParam f)) w t = AfterParam b f.name f.params w t
+CompletesIn (mode.Inside b (in_body.Assign f)) w t = NextAssign b f.name f.params w t
+CompletesIn (mode.Inside b (in_body.InFunction f body)) w t = InExpr (AfterBody b f.name f.params) body w t
+CompletesIn (mode.Inside b (in_body.InPart sequence part)) w t = InExpr (AfterPart b sequence.at sequence.so_far) part w t
 
 -- The tokens go on from the state to a box and its rest.
 abbrev pub Completes : BoxDeclParser → List Terminal → Read → Type 0

@@ -2,9 +2,10 @@ ghost use Rattle.std.specs.Prelude.{ℕ};
 ghost use Rattle.sn_ast.specs.declared.terminal.Symbol.TheVariants as some_symbol;
 ghost use Rattle.sn_ast.specs.declared.terminal.Terminal.TheVariants as some_token;
 ghost use Rattle.sn_box_parser.specs.BoxDeclResidual.{AfterPart, StepsFrom, StepsIn};
+ghost use Rattle.sn_box_parser.specs.declared.machine.InBody.TheVariants as in_body;
 ghost use Rattle.sn_box_parser.specs.declared.machine.Mode.TheVariants as some_mode;
 
-use crate::machine::{BoxDeclParser, BoxDeclStep, BoxDeclStop, Mode};
+use crate::machine::{BoxDeclParser, BoxDeclStep, BoxDeclStop, InBody, Mode};
 use crate::parts::{Opened, Sequence};
 use sn_ast::{BExpr, Kept, Keyword, Symbol, Terminal};
 use sn_expr_parser::{BoxParser, BoxStop};
@@ -12,11 +13,14 @@ use std::alloc::Global;
 
 /// Takes the token where a function or the sequence of the body comes next.
 pub fn begin(alloc: Global, opened: Opened, token: Terminal) -> Result<BoxDeclStep, BoxDeclStop>
-    ensures { StepsIn (some_mode.Body opened) token result }
+    ensures { StepsIn (some_mode.Inside opened in_body.Body) token result }
 {
     if let Some(_) = token.keyword_at(Keyword::Fun) {
         return Ok(BoxDeclStep::More(BoxDeclParser {
-            mode: Mode::FunctionName { opened },
+            mode: Mode::Inside {
+                opened,
+                next: InBody::FunctionName,
+            },
         }));
     }
     let sequence = Sequence {
@@ -34,14 +38,13 @@ pub fn in_part(
     part: BoxParser,
     token: Terminal,
 ) -> Result<BoxDeclStep, BoxDeclStop>
-    ensures { StepsIn (some_mode.InPart opened sequence part) token result }
+    ensures { StepsIn (some_mode.Inside opened (in_body.InPart sequence part)) token result }
 {
     match part.step(alloc, token) {
         Ok(part) => Ok(BoxDeclStep::More(BoxDeclParser {
-            mode: Mode::InPart {
+            mode: Mode::Inside {
                 opened,
-                sequence,
-                part,
+                next: InBody::InPart { sequence, part },
             },
         })),
         Err(BoxStop::Memory) => Err(BoxDeclStop::Memory),
@@ -79,10 +82,12 @@ fn next_part(
 {
     let sequence = sequence.with_part(alloc, part)?;
     Ok(BoxDeclStep::More(BoxDeclParser {
-        mode: Mode::InPart {
+        mode: Mode::Inside {
             opened,
-            sequence,
-            part: BoxParser::start(alloc),
+            next: InBody::InPart {
+                sequence,
+                part: BoxParser::start(alloc),
+            },
         },
     }))
 }

@@ -1,9 +1,10 @@
 ghost use Rattle.std.specs.Prelude.{ℕ};
 ghost use Rattle.sn_ast.specs.declared.terminal.Terminal.TheVariants as some_token;
 ghost use Rattle.sn_box_parser.specs.BoxDeclResidual.{AfterBody, StepsFrom, StepsIn};
+ghost use Rattle.sn_box_parser.specs.declared.machine.InBody.TheVariants as in_body;
 ghost use Rattle.sn_box_parser.specs.declared.machine.Mode.TheVariants as some_mode;
 
-use crate::machine::{BoxDeclParser, BoxDeclStep, BoxDeclStop, Mode};
+use crate::machine::{BoxDeclParser, BoxDeclStep, BoxDeclStop, InBody, Mode};
 use crate::parts::{Function, Opened};
 use crate::tokens::{into_name, symbol_at};
 use sn_ast::{BExpr, Ident, Kept, Seq, Symbol, Terminal};
@@ -12,25 +13,31 @@ use std::alloc::Global;
 
 /// Takes the token after `fun`.
 pub fn name(opened: Opened, token: Terminal) -> Result<BoxDeclStep, BoxDeclStop>
-    ensures { StepsIn (some_mode.FunctionName opened) token result }
+    ensures { StepsIn (some_mode.Inside opened in_body.FunctionName) token result }
 {
     let Some(name) = into_name(token) else {
         return Err(BoxDeclStop::Refused);
     };
     Ok(BoxDeclStep::More(BoxDeclParser {
-        mode: Mode::FunctionOpening { opened, name },
+        mode: Mode::Inside {
+            opened,
+            next: InBody::FunctionOpening { name },
+        },
     }))
 }
 
 /// Takes the token after a function's name.
 pub fn opening(opened: Opened, name: Ident, token: Terminal) -> Result<BoxDeclStep, BoxDeclStop>
-    ensures { StepsIn (some_mode.FunctionOpening opened name) token result }
+    ensures { StepsIn (some_mode.Inside opened (in_body.FunctionOpening name)) token result }
 {
     let Some(_) = symbol_at(token, Symbol::OpenParen) else {
         return Err(BoxDeclStop::Refused);
     };
     Ok(BoxDeclStep::More(BoxDeclParser {
-        mode: Mode::FirstParam { opened, name },
+        mode: Mode::Inside {
+            opened,
+            next: InBody::FirstParam { name },
+        },
     }))
 }
 
@@ -41,7 +48,7 @@ pub fn first_param(
     name: Ident,
     token: Terminal,
 ) -> Result<BoxDeclStep, BoxDeclStop>
-    ensures { StepsIn (some_mode.FirstParam opened name) token result }
+    ensures { StepsIn (some_mode.Inside opened (in_body.FirstParam name)) token result }
 {
     let function = Function {
         name,
@@ -49,7 +56,10 @@ pub fn first_param(
     };
     if let Some(_) = token.symbol_at(Symbol::CloseParen) {
         return Ok(BoxDeclStep::More(BoxDeclParser {
-            mode: Mode::Assign { opened, function },
+            mode: Mode::Inside {
+                opened,
+                next: InBody::Assign { function },
+            },
         }));
     }
     param(opened, function, token)
@@ -61,14 +71,17 @@ pub fn param(
     function: Function,
     token: Terminal,
 ) -> Result<BoxDeclStep, BoxDeclStop>
-    ensures { StepsIn (some_mode.Param opened function) token result }
+    ensures { StepsIn (some_mode.Inside opened (in_body.Param function)) token result }
 {
     let Some(param) = into_name(token) else {
         return Err(BoxDeclStop::Refused);
     };
     let function = function.with_param(param)?;
     Ok(BoxDeclStep::More(BoxDeclParser {
-        mode: Mode::AfterParam { opened, function },
+        mode: Mode::Inside {
+            opened,
+            next: InBody::AfterParam { function },
+        },
     }))
 }
 
@@ -78,18 +91,24 @@ pub fn after_param(
     function: Function,
     token: Terminal,
 ) -> Result<BoxDeclStep, BoxDeclStop>
-    ensures { StepsIn (some_mode.AfterParam opened function) token result }
+    ensures { StepsIn (some_mode.Inside opened (in_body.AfterParam function)) token result }
 {
     if let Some(_) = token.symbol_at(Symbol::Comma) {
         return Ok(BoxDeclStep::More(BoxDeclParser {
-            mode: Mode::Param { opened, function },
+            mode: Mode::Inside {
+                opened,
+                next: InBody::Param { function },
+            },
         }));
     }
     let Some(_) = symbol_at(token, Symbol::CloseParen) else {
         return Err(BoxDeclStop::Refused);
     };
     Ok(BoxDeclStep::More(BoxDeclParser {
-        mode: Mode::Assign { opened, function },
+        mode: Mode::Inside {
+            opened,
+            next: InBody::Assign { function },
+        },
     }))
 }
 
@@ -100,16 +119,18 @@ pub fn assign(
     function: Function,
     token: Terminal,
 ) -> Result<BoxDeclStep, BoxDeclStop>
-    ensures { StepsIn (some_mode.Assign opened function) token result }
+    ensures { StepsIn (some_mode.Inside opened (in_body.Assign function)) token result }
 {
     let Some(_) = symbol_at(token, Symbol::Assign) else {
         return Err(BoxDeclStop::Refused);
     };
     Ok(BoxDeclStep::More(BoxDeclParser {
-        mode: Mode::InFunction {
+        mode: Mode::Inside {
             opened,
-            function,
-            body: BoxParser::start(alloc),
+            next: InBody::InFunction {
+                function,
+                body: BoxParser::start(alloc),
+            },
         },
     }))
 }
@@ -122,14 +143,13 @@ pub fn in_function(
     body: BoxParser,
     token: Terminal,
 ) -> Result<BoxDeclStep, BoxDeclStop>
-    ensures { StepsIn (some_mode.InFunction opened function body) token result }
+    ensures { StepsIn (some_mode.Inside opened (in_body.InFunction function body)) token result }
 {
     match body.step(alloc, token) {
         Ok(body) => Ok(BoxDeclStep::More(BoxDeclParser {
-            mode: Mode::InFunction {
+            mode: Mode::Inside {
                 opened,
-                function,
-                body,
+                next: InBody::InFunction { function, body },
             },
         })),
         Err(BoxStop::Memory) => Err(BoxDeclStop::Memory),
@@ -152,6 +172,9 @@ fn after_body(
     }
     let opened = opened.with_function(function.with_body(body))?;
     Ok(BoxDeclStep::More(BoxDeclParser {
-        mode: Mode::Body { opened },
+        mode: Mode::Inside {
+            opened,
+            next: InBody::Body,
+        },
     }))
 }

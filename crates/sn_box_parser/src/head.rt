@@ -1,7 +1,8 @@
 ghost use Rattle.sn_box_parser.specs.BoxDeclResidual.{StepsIn};
+ghost use Rattle.sn_box_parser.specs.declared.machine.InOutputs.TheVariants as in_outputs;
 ghost use Rattle.sn_box_parser.specs.declared.machine.Mode.TheVariants as some_mode;
 
-use crate::machine::{BoxDeclParser, BoxDeclStep, BoxDeclStop, Mode};
+use crate::machine::{BoxDeclParser, BoxDeclStep, BoxDeclStop, InBody, InOutputs, Mode};
 use crate::parts::{Head, Opened};
 use crate::tokens::symbol_at;
 use sn_ast::measure::no_row;
@@ -81,28 +82,31 @@ pub fn arrow(
         return Err(BoxDeclStop::Refused);
     };
     Ok(BoxDeclStep::More(BoxDeclParser {
-        mode: Mode::Output {
+        mode: Mode::Outputs {
             head: Head {
                 name,
                 input,
                 outputs: Seq::new(alloc),
             },
+            next: InOutputs::Output,
         },
     }))
 }
 
 /// Takes the token where an output comes next.
 pub fn output(alloc: Global, head: Head, token: Terminal) -> Result<BoxDeclStep, BoxDeclStop>
-    ensures { StepsIn (some_mode.Output head) token result }
+    ensures { StepsIn (some_mode.Outputs head in_outputs.Output) token result }
 {
     let Some(opening) = symbol_at(token, Symbol::OpenParen) else {
         return Err(BoxDeclStop::Refused);
     };
     Ok(BoxDeclStep::More(BoxDeclParser {
-        mode: Mode::InOutput {
+        mode: Mode::Outputs {
             head,
-            opening,
-            labels: LabelParser::start(alloc, Bracket::Paren),
+            next: InOutputs::InOutput {
+                opening,
+                labels: LabelParser::start(alloc, Bracket::Paren),
+            },
         },
     }))
 }
@@ -114,14 +118,13 @@ pub fn in_output(
     labels: LabelParser,
     token: Terminal,
 ) -> Result<BoxDeclStep, BoxDeclStop>
-    ensures { StepsIn (some_mode.InOutput head opening labels) token result }
+    ensures { StepsIn (some_mode.Outputs head (in_outputs.InOutput opening labels)) token result }
 {
     match labels.step(token) {
         Ok(LabelStep::More(labels)) => Ok(BoxDeclStep::More(BoxDeclParser {
-            mode: Mode::InOutput {
+            mode: Mode::Outputs {
                 head,
-                opening,
-                labels,
+                next: InOutputs::InOutput { opening, labels },
             },
         })),
         Ok(LabelStep::Done(labels)) => {
@@ -130,7 +133,10 @@ pub fn in_output(
                 at: opening,
             })?;
             Ok(BoxDeclStep::More(BoxDeclParser {
-                mode: Mode::AfterOutput { head },
+                mode: Mode::Outputs {
+                    head,
+                    next: InOutputs::AfterOutput,
+                },
             }))
         }
         Err(LabelStop::Memory) => Err(BoxDeclStop::Memory),
@@ -140,34 +146,41 @@ pub fn in_output(
 
 /// Takes the token after an output.
 pub fn after_output(head: Head, token: Terminal) -> Result<BoxDeclStep, BoxDeclStop>
-    ensures { StepsIn (some_mode.AfterOutput head) token result }
+    ensures { StepsIn (some_mode.Outputs head in_outputs.AfterOutput) token result }
 {
     if let Some(_) = token.symbol_at(Symbol::Bar) {
         return Ok(BoxDeclStep::More(BoxDeclParser {
-            mode: Mode::Output { head },
+            mode: Mode::Outputs {
+                head,
+                next: InOutputs::Output,
+            },
         }));
     }
     let Some(_) = symbol_at(token, Symbol::CloseParen) else {
         return Err(BoxDeclStop::Refused);
     };
     Ok(BoxDeclStep::More(BoxDeclParser {
-        mode: Mode::Brace { head },
+        mode: Mode::Outputs {
+            head,
+            next: InOutputs::Brace,
+        },
     }))
 }
 
 /// Takes the token where the body comes next.
 pub fn brace(alloc: Global, head: Head, token: Terminal) -> Result<BoxDeclStep, BoxDeclStop>
-    ensures { StepsIn (some_mode.Brace head) token result }
+    ensures { StepsIn (some_mode.Outputs head in_outputs.Brace) token result }
 {
     let Some(_) = symbol_at(token, Symbol::OpenBrace) else {
         return Err(BoxDeclStop::Refused);
     };
     Ok(BoxDeclStep::More(BoxDeclParser {
-        mode: Mode::Body {
+        mode: Mode::Inside {
             opened: Opened {
                 head,
                 functions: no_row(alloc),
             },
+            next: InBody::Body,
         },
     }))
 }

@@ -3,7 +3,8 @@ ghost use Rattle.sn_ast.specs.Declarations.{RestOfBox};
 ghost use Rattle.sn_ast.specs.Kept.{Kept as SomeKept, kept};
 ghost use Rattle.sn_ast.specs.declared.declaration.Decl.{Decl as SomeDecl};
 ghost use Rattle.sn_ast.specs.declared.terminal.Terminal.{Terminal as SomeTerminal};
-ghost use Rattle.sn_box_parser.specs.BoxDeclResidual.{Completes, Read, Steps, read};
+ghost use Rattle.sn_box_parser.specs.BoxDeclResidual.{Completes, Read, Steps, StepsIn, read};
+ghost use Rattle.sn_box_parser.specs.declared.machine.Mode.TheVariants as some_mode;
 
 use crate::parts::{Function, Head, Opened, Sequence};
 use crate::{body, function, head};
@@ -61,67 +62,50 @@ pub enum Mode {
         name: Ident,
         input: Tuple,
     },
+    /// What stands in the outputs.
+    Outputs {
+        head: Head,
+        next: InOutputs,
+    },
+    /// What stands in the body.
+    Inside {
+        opened: Opened,
+        next: InBody,
+    },
+}
+
+/// What comes next in the outputs.
+#[derive(Drop)]
+pub enum InOutputs {
     /// An output.
-    Output {
-        head: Head,
-    },
-    InOutput {
-        head: Head,
-        opening: u32,
-        labels: LabelParser,
-    },
+    Output,
+    InOutput { opening: u32, labels: LabelParser },
     /// What may stand after an output.
-    AfterOutput {
-        head: Head,
-    },
+    AfterOutput,
     /// The `{` that opens the body.
-    Brace {
-        head: Head,
-    },
+    Brace,
+}
+
+/// What comes next in the body.
+#[derive(Drop)]
+pub enum InBody {
     /// A function, or the sequence of the body.
-    Body {
-        opened: Opened,
-    },
+    Body,
     /// A function's name.
-    FunctionName {
-        opened: Opened,
-    },
+    FunctionName,
     /// The `(` after a function's name.
-    FunctionOpening {
-        opened: Opened,
-        name: Ident,
-    },
+    FunctionOpening { name: Ident },
     /// A function's first parameter, or the `)` after none.
-    FirstParam {
-        opened: Opened,
-        name: Ident,
-    },
+    FirstParam { name: Ident },
     /// A function's parameter.
-    Param {
-        opened: Opened,
-        function: Function,
-    },
+    Param { function: Function },
     /// What may stand after a parameter.
-    AfterParam {
-        opened: Opened,
-        function: Function,
-    },
+    AfterParam { function: Function },
     /// The `=` before a function's body.
-    Assign {
-        opened: Opened,
-        function: Function,
-    },
-    InFunction {
-        opened: Opened,
-        function: Function,
-        body: BoxParser,
-    },
+    Assign { function: Function },
+    InFunction { function: Function, body: BoxParser },
     /// A part of the body's sequence.
-    InPart {
-        opened: Opened,
-        sequence: Sequence,
-        part: BoxParser,
-    },
+    InPart { sequence: Sequence, part: BoxParser },
 }
 
 /// A box that is being read.
@@ -133,6 +117,50 @@ pub struct BoxDeclParser {
 impl Drop for BoxDeclParser {
     fn drop(self) {
         let BoxDeclParser { mode: _mode } = self;
+    }
+}
+
+impl InOutputs {
+    /// Takes the next token.
+    fn step(self, alloc: Global, head: Head, token: Terminal) -> Result<BoxDeclStep, BoxDeclStop>
+        ensures { StepsIn (some_mode.Outputs head self) token result }
+    {
+        match self {
+            InOutputs::Output => head::output(alloc, head, token),
+            InOutputs::InOutput { opening, labels } => {
+                head::in_output(head, opening, labels, token)
+            }
+            InOutputs::AfterOutput => head::after_output(head, token),
+            InOutputs::Brace => head::brace(alloc, head, token),
+        }
+    }
+}
+
+impl InBody {
+    /// Takes the next token.
+    fn step(
+        self,
+        alloc: Global,
+        opened: Opened,
+        token: Terminal,
+    ) -> Result<BoxDeclStep, BoxDeclStop>
+        ensures { StepsIn (some_mode.Inside opened self) token result }
+    {
+        match self {
+            InBody::Body => body::begin(alloc, opened, token),
+            InBody::FunctionName => function::name(opened, token),
+            InBody::FunctionOpening { name } => function::opening(opened, name, token),
+            InBody::FirstParam { name } => function::first_param(alloc, opened, name, token),
+            InBody::Param { function } => function::param(opened, function, token),
+            InBody::AfterParam { function } => function::after_param(opened, function, token),
+            InBody::Assign { function } => function::assign(alloc, opened, function, token),
+            InBody::InFunction { function, body } => {
+                function::in_function(alloc, opened, function, body, token)
+            }
+            InBody::InPart { sequence, part } => {
+                body::in_part(alloc, opened, sequence, part, token)
+            }
+        }
     }
 }
 
@@ -161,31 +189,8 @@ impl BoxDeclParser {
                 labels,
             } => head::in_input(name, opening, labels, token),
             Mode::Arrow { name, input } => head::arrow(alloc, name, input, token),
-            Mode::Output { head } => head::output(alloc, head, token),
-            Mode::InOutput {
-                head,
-                opening,
-                labels,
-            } => head::in_output(head, opening, labels, token),
-            Mode::AfterOutput { head } => head::after_output(head, token),
-            Mode::Brace { head } => head::brace(alloc, head, token),
-            Mode::Body { opened } => body::begin(alloc, opened, token),
-            Mode::FunctionName { opened } => function::name(opened, token),
-            Mode::FunctionOpening { opened, name } => function::opening(opened, name, token),
-            Mode::FirstParam { opened, name } => function::first_param(alloc, opened, name, token),
-            Mode::Param { opened, function } => function::param(opened, function, token),
-            Mode::AfterParam { opened, function } => function::after_param(opened, function, token),
-            Mode::Assign { opened, function } => function::assign(alloc, opened, function, token),
-            Mode::InFunction {
-                opened,
-                function,
-                body,
-            } => function::in_function(alloc, opened, function, body, token),
-            Mode::InPart {
-                opened,
-                sequence,
-                part,
-            } => body::in_part(alloc, opened, sequence, part, token),
+            Mode::Outputs { head, next } => next.step(alloc, head, token),
+            Mode::Inside { opened, next } => next.step(alloc, opened, token),
         }
     }
 }

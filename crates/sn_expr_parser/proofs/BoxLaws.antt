@@ -23,7 +23,8 @@ use Rattle.sn_expr_parser.specs.declared.boxes.Frame.TheVariants.{Parens, Argume
 use Rattle.sn_expr_parser.specs.declared.boxes.LastPart.TheVariants.{Body, Else}
 use Rattle.sn_expr_parser.specs.declared.boxes.MiddlePart.TheVariants.{Bound, Test, Then}
 use Rattle.sn_expr_parser.specs.declared.boxes.Mode.{Mode}
-use Rattle.sn_expr_parser.specs.declared.boxes.Mode.TheVariants.{Begin, LetName, LetAssign, Want, AfterName, AfterOut, Opening, FirstArgument, FirstStep, Have}
+use Rattle.sn_expr_parser.specs.declared.boxes.Mode.TheVariants.{Begin, LetName, LetAssign, AtOperand}
+use Rattle.sn_expr_parser.specs.declared.boxes.Awaited.TheVariants.{Want, AfterName, AfterOut, Opening, FirstArgument, FirstStep, Have}
 use Rattle.sn_expr_parser.specs.declared.level.Level.{Level}
 use Rattle.sn_expr_parser.proofs.BoxSteps.{finished_to}
 
@@ -44,14 +45,14 @@ no_end_in : (fs : List Frame) (m : Mode) (t : Read) → CompletesIn fs m [] t �
 no_end_in fs Begin t (next_expr x u) = expr_no_end x
 no_end_in fs (LetName at) t y = elim y [ ]
 no_end_in fs (LetAssign at name) t y = elim y [ ]
-no_end_in fs (Want l) t (next q d) = elim q [ ]
-no_end_in fs (AfterName l name) t (plain_name d) = down_no_end d
-no_end_in fs (AfterName l name) t (called_name y) = elim y [ ]
-no_end_in fs (AfterOut l at) t y = elim y [ ]
-no_end_in fs (Opening l h) t y = elim y [ ]
-no_end_in fs (FirstArgument l h) t (next_arguments (arguments x m) d) = expr_no_end x
-no_end_in fs (FirstStep l) t (next_sequence q d) = elim q [ ]
-no_end_in fs (Have l p) t d = down_no_end d
+no_end_in fs (AtOperand l Want) t (next q d) = elim q [ ]
+no_end_in fs (AtOperand l (AfterName name)) t (plain_name d) = down_no_end d
+no_end_in fs (AtOperand l (AfterName name)) t (called_name y) = elim y [ ]
+no_end_in fs (AtOperand l (AfterOut at)) t y = elim y [ ]
+no_end_in fs (AtOperand l (Opening h)) t y = elim y [ ]
+no_end_in fs (AtOperand l (FirstArgument h)) t (next_arguments (arguments x m) d) = expr_no_end x
+no_end_in fs (AtOperand l FirstStep) t (next_sequence q d) = elim q [ ]
+no_end_in fs (AtOperand l (Have p)) t d = down_no_end d
 
 -- the end of the tokens ends no expression
 pub no_end : (s : BoxParser) (t : Read) → Completes s [] t → ⊥
@@ -108,18 +109,18 @@ completable_in fs (LetName at) us k =
     (Name some_name ∷ Symbol Assign 0 ∷ r.0, r.1, next_name (next_assign r.2))
 completable_in fs (LetAssign at name) us k =
     let r = completes_expr (Middle (Bound at name) ∷ fs) us k in (Symbol Assign 0 ∷ r.0, r.1, next_assign r.2)
-completable_in fs (Want l) us k = let r = completes_down fs l zero us k in (Number (pos 0) 0 ∷ r.0, r.1, next number r.2)
-completable_in fs (AfterName l name) us k =
+completable_in fs (AtOperand l Want) us k = let r = completes_down fs l zero us k in (Number (pos 0) 0 ∷ r.0, r.1, next number r.2)
+completable_in fs (AtOperand l (AfterName name)) us k =
     let r = completes_down fs l (kept.leaf (record { at = name.at; form = box_form.Name name })) us k in (r.0, r.1, plain_name r.2)
-completable_in fs (AfterOut l at) us k =
+completable_in fs (AtOperand l (AfterOut at)) us k =
     let r = completes_arguments fs l (Variant at 0) us k in
     (Number (pos 0) 0 ∷ Symbol OpenParen 0 ∷ r.0, r.1, next_number (next_opening r.2))
-completable_in fs (Opening l h) us k = let r = completes_arguments fs l h us k in (Symbol OpenParen 0 ∷ r.0, r.1, next_opening r.2)
-completable_in fs (FirstArgument l h) us k = completes_arguments fs l h us k
-completable_in fs (FirstStep l) us k =
+completable_in fs (AtOperand l (Opening h)) us k = let r = completes_arguments fs l h us k in (Symbol OpenParen 0 ∷ r.0, r.1, next_opening r.2)
+completable_in fs (AtOperand l (FirstArgument h)) us k = completes_arguments fs l h us k
+completable_in fs (AtOperand l FirstStep) us k =
     let r = completes_down fs l (kept.parens zero) us k in
     (Number (pos 0) 0 ∷ Symbol CloseParen 0 ∷ r.0, r.1, next_sequence (sequence (zero_read (Symbol CloseParen 0 ∷ r.0)) last_step) r.2)
-completable_in fs (Have l p) us k = completes_down fs l p us k
+completable_in fs (AtOperand l (Have p)) us k = completes_down fs l p us k
 
 -- each state can go on to an expression, whatever may follow it
 pub completable : (s : BoxParser) (us : List Terminal) → ends us → (w : List Terminal) × (e : Kept BExpr) × Completes s w (read e us)

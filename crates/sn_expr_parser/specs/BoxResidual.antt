@@ -31,7 +31,8 @@ use Rattle.sn_expr_parser.specs.declared.boxes.LastPart.TheVariants.{Body, Else}
 use Rattle.sn_expr_parser.specs.declared.boxes.MiddlePart.{MiddlePart}
 use Rattle.sn_expr_parser.specs.declared.boxes.MiddlePart.TheVariants.{Bound, Test, Then}
 use Rattle.sn_expr_parser.specs.declared.boxes.Mode.{Mode}
-use Rattle.sn_expr_parser.specs.declared.boxes.Mode.TheVariants.{Begin, LetName, LetAssign, Want, AfterName, AfterOut, Opening, FirstArgument, FirstStep, Have}
+use Rattle.sn_expr_parser.specs.declared.boxes.Mode.TheVariants.{Begin, LetName, LetAssign, AtOperand}
+use Rattle.sn_expr_parser.specs.declared.boxes.Awaited.TheVariants.{Want, AfterName, AfterOut, Opening, FirstArgument, FirstStep, Have}
 
 -- an expression at the front, and what follows it
 pub record Read : Type 0 where
@@ -152,13 +153,13 @@ abbrev pub CompletesIn : List Frame → Mode → List Terminal → Read → Type
 CompletesIn fs Begin w t = NextExpr fs w t
 CompletesIn fs (LetName at) w t = NextName fs at w t
 CompletesIn fs (LetAssign at name) w t = NextAssign fs at name w t
-CompletesIn fs (Want l) w t = Next fs l w t
-CompletesIn fs (AfterName l name) w t = Named fs l name w t
-CompletesIn fs (AfterOut l at) w t = NextNumber fs l at w t
-CompletesIn fs (Opening l h) w t = NextOpening fs l h w t
-CompletesIn fs (FirstArgument l h) w t = NextArguments fs l h w t
-CompletesIn fs (FirstStep l) w t = NextSequence fs l w t
-CompletesIn fs (Have l p) w t = Down fs l p w t
+CompletesIn fs (AtOperand l Want) w t = Next fs l w t
+CompletesIn fs (AtOperand l (AfterName name)) w t = Named fs l name w t
+CompletesIn fs (AtOperand l (AfterOut at)) w t = NextNumber fs l at w t
+CompletesIn fs (AtOperand l (Opening h)) w t = NextOpening fs l h w t
+CompletesIn fs (AtOperand l (FirstArgument h)) w t = NextArguments fs l h w t
+CompletesIn fs (AtOperand l FirstStep) w t = NextSequence fs l w t
+CompletesIn fs (AtOperand l (Have p)) w t = Down fs l p w t
 
 -- The tokens go on from the state to what is read and its rest.
 abbrev pub Completes : BoxParser → List Terminal → Read → Type 0

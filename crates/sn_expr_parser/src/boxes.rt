@@ -12,7 +12,8 @@ ghost use Rattle.sn_expr_parser.specs.Levels.{fresh};
 ghost use Rattle.sn_expr_parser.specs.declared.boxes.Frame.TheVariants.{Parens, Arguments, Middle, Last};
 ghost use Rattle.sn_expr_parser.specs.declared.boxes.LastPart.{LastPart as SomeLast};
 ghost use Rattle.sn_expr_parser.specs.declared.boxes.MiddlePart.TheVariants.{Bound, Test, Then};
-ghost use Rattle.sn_expr_parser.specs.declared.boxes.Mode.TheVariants.{Begin, LetName, LetAssign, Want, AfterName, AfterOut, Opening, FirstArgument, FirstStep, Have};
+ghost use Rattle.sn_expr_parser.specs.declared.boxes.Mode.TheVariants.{Begin, LetName, LetAssign, AtOperand};
+ghost use Rattle.sn_expr_parser.specs.declared.boxes.Awaited.TheVariants.{Want, AfterName, AfterOut, Opening, FirstArgument, FirstStep, Have};
 
 use crate::box_node::{Head, binding, conditional, next_step, sequence};
 use crate::level::Level;
@@ -146,39 +147,30 @@ enum Mode {
         at: u32,
         name: Ident,
     },
-    /// An operand.
-    Want {
+    /// What stands at an operand of the level.
+    AtOperand {
         level: Level<BExpr>,
+        awaited: Awaited,
     },
+}
+
+/// What is awaited at an operand.
+#[derive(Drop)]
+enum Awaited {
+    /// The operand.
+    Want,
     /// A parenthesis that makes the name a call, or what may follow an operand.
-    AfterName {
-        level: Level<BExpr>,
-        name: Ident,
-    },
+    AfterName { name: Ident },
     /// The number of an output variant.
-    AfterOut {
-        level: Level<BExpr>,
-        at: u32,
-    },
+    AfterOut { at: u32 },
     /// The parenthesis that opens arguments.
-    Opening {
-        level: Level<BExpr>,
-        head: Head,
-    },
+    Opening { head: Head },
     /// An argument, or the bracket that closes none.
-    FirstArgument {
-        level: Level<BExpr>,
-        head: Head,
-    },
+    FirstArgument { head: Head },
     /// The first token of a sequence in parentheses.
-    FirstStep {
-        level: Level<BExpr>,
-    },
-    /// What may follow an operand.
-    Have {
-        level: Level<BExpr>,
-        part: Kept<BExpr>,
-    },
+    FirstStep,
+    /// What may follow the operand.
+    Have { part: Kept<BExpr> },
 }
 
 /// A parser of an expression in a box, which is given one token at a time.
@@ -334,12 +326,15 @@ fn within(frames: Stack<Frame>, frame: Frame) -> Result<BoxParser, Memory>
 
 /// After an operand without parts.
 fn after_leaf(frames: Stack<Frame>, level: Level<BExpr>, at: u32, form: BForm) -> BoxParser
-    ensures { result ≡ record { frames = frames; mode = Have level (kept.leaf (record { at = at; form = form })) } }
+    ensures { result ≡ record { frames = frames; mode = AtOperand level (Have (kept.leaf (record { at = at; form = form }))) } }
 {
     let part = leaf(BExpr { at, form });
     BoxParser {
         frames,
-        mode: Mode::Have { level, part },
+        mode: Mode::AtOperand {
+            level,
+            awaited: Awaited::Have { part },
+        },
     }
 }
 
@@ -403,7 +398,7 @@ fn operand(
     level: Level<BExpr>,
     token: Terminal,
 ) -> Result<BoxParser, BoxStop>
-    ensures { StepsIn frames (Want level) token result }
+    ensures { StepsIn frames (AtOperand level Want) token result }
 {
     match token {
         Terminal::Number { value, at } => Ok(after_leaf(frames, level, at, BForm::Number(value))),
@@ -411,7 +406,10 @@ fn operand(
         Terminal::Tag(name) => Ok(after_leaf(frames, level, name.at, BForm::Tag(name))),
         Terminal::Name(name) => Ok(BoxParser {
             frames,
-            mode: Mode::AfterName { level, name },
+            mode: Mode::AtOperand {
+                level,
+                awaited: Awaited::AfterName { name },
+            },
         }),
         Terminal::Keyword { keyword, at } => word(frames, level, keyword, at),
         Terminal::Symbol { symbol, at } => opening(frames, level, symbol, at),
@@ -425,14 +423,17 @@ fn word(
     keyword: Keyword,
     at: u32,
 ) -> Result<BoxParser, BoxStop>
-    ensures { StepsIn frames (Want level) (AKeyword keyword at) result }
+    ensures { StepsIn frames (AtOperand level Want) (AKeyword keyword at) result }
 {
     let Keyword::Out = keyword else {
         return Err(BoxStop::Refused);
     };
     Ok(BoxParser {
         frames,
-        mode: Mode::AfterOut { level, at },
+        mode: Mode::AtOperand {
+            level,
+            awaited: Awaited::AfterOut { at },
+        },
     })
 }
 
@@ -443,25 +444,33 @@ fn opening(
     symbol: Symbol,
     at: u32,
 ) -> Result<BoxParser, BoxStop>
-    ensures { StepsIn frames (Want level) (ASymbol symbol at) result }
+    ensures { StepsIn frames (AtOperand level Want) (ASymbol symbol at) result }
 {
     if let Some(sign) = symbol.sign() {
         let level = level.with_next_sign(sign, at)?;
         return Ok(BoxParser {
             frames,
-            mode: Mode::Want { level },
+            mode: Mode::AtOperand {
+                level,
+                awaited: Awaited::Want,
+            },
         });
     }
     match symbol {
         Symbol::OpenParen => Ok(BoxParser {
             frames,
-            mode: Mode::FirstStep { level },
+            mode: Mode::AtOperand {
+                level,
+                awaited: Awaited::FirstStep,
+            },
         }),
         Symbol::OpenBracket => Ok(BoxParser {
             frames,
-            mode: Mode::FirstArgument {
+            mode: Mode::AtOperand {
                 level,
-                head: Head::Elements { at },
+                awaited: Awaited::FirstArgument {
+                    head: Head::Elements { at },
+                },
             },
         }),
         _ => Err(BoxStop::Refused),
@@ -476,14 +485,16 @@ fn after_name(
     name: Ident,
     token: Terminal,
 ) -> Result<BoxParser, BoxStop>
-    ensures { StepsIn frames (AfterName level name) token result }
+    ensures { StepsIn frames (AtOperand level (AfterName name)) token result }
 {
     if is_open_paren(&token) {
         return Ok(BoxParser {
             frames,
-            mode: Mode::FirstArgument {
+            mode: Mode::AtOperand {
                 level,
-                head: Head::Function(name),
+                awaited: Awaited::FirstArgument {
+                    head: Head::Function(name),
+                },
             },
         });
     }
@@ -501,7 +512,7 @@ fn after_out(
     at: u32,
     token: Terminal,
 ) -> Result<BoxParser, BoxStop>
-    ensures { StepsIn frames (AfterOut level at) token result }
+    ensures { StepsIn frames (AtOperand level (AfterOut at)) token result }
 {
     let Terminal::Number { value, .. } = token else {
         return Err(BoxStop::Refused);
@@ -509,9 +520,11 @@ fn after_out(
     let number = value.unsigned_abs();
     Ok(BoxParser {
         frames,
-        mode: Mode::Opening {
+        mode: Mode::AtOperand {
             level,
-            head: Head::Variant { at, number },
+            awaited: Awaited::Opening {
+                head: Head::Variant { at, number },
+            },
         },
     })
 }
@@ -523,12 +536,15 @@ fn opened(
     head: Head,
     token: Terminal,
 ) -> Result<BoxParser, BoxStop>
-    ensures { StepsIn frames (Opening level head) token result }
+    ensures { StepsIn frames (AtOperand level (Opening head)) token result }
 {
     if is_open_paren(&token) {
         return Ok(BoxParser {
             frames,
-            mode: Mode::FirstArgument { level, head },
+            mode: Mode::AtOperand {
+                level,
+                awaited: Awaited::FirstArgument { head },
+            },
         });
     }
     Err(BoxStop::Refused)
@@ -554,14 +570,17 @@ fn first_argument(
     head: Head,
     token: Terminal,
 ) -> Result<BoxParser, BoxStop>
-    ensures { StepsIn frames (FirstArgument level head) token result }
+    ensures { StepsIn frames (AtOperand level (FirstArgument head)) token result }
 {
     let row = no_row(alloc);
     if closes(&head, &token) {
         let part = head.with_row(row);
         return Ok(BoxParser {
             frames,
-            mode: Mode::Have { level, part },
+            mode: Mode::AtOperand {
+                level,
+                awaited: Awaited::Have { part },
+            },
         });
     }
     let mut frames = frames;
@@ -585,7 +604,7 @@ fn first_step(
     level: Level<BExpr>,
     token: Terminal,
 ) -> Result<BoxParser, BoxStop>
-    ensures { StepsIn frames (FirstStep level) token result }
+    ensures { StepsIn frames (AtOperand level FirstStep) token result }
 {
     let mut frames = frames;
     frames.push(Frame::Parens {
@@ -604,7 +623,7 @@ fn go_on(
     part: Kept<BExpr>,
     token: Terminal,
 ) -> Result<BoxParser, BoxStop>
-    ensures { StepsIn frames (Have level part) token result }
+    ensures { StepsIn frames (AtOperand level (Have part)) token result }
 {
     match token {
         Terminal::Symbol { symbol, at } => symbol_after(alloc, frames, level, part, symbol, at),
@@ -624,7 +643,7 @@ fn symbol_after(
     symbol: Symbol,
     at: u32,
 ) -> Result<BoxParser, BoxStop>
-    ensures { StepsIn frames (Have level part) (ASymbol symbol at) result }
+    ensures { StepsIn frames (AtOperand level (Have part)) (ASymbol symbol at) result }
 {
     match symbol.infix() {
         Some(between) => operator(alloc, frames, level, part, between, at),
@@ -644,14 +663,17 @@ fn operator(
     between: Infix,
     at: u32,
 ) -> Result<BoxParser, BoxStop>
-    ensures { (symbol : SomeSymbol) → infix_of symbol ≡ Some between → StepsIn frames (Have level part) (ASymbol symbol at) result }
+    ensures { (symbol : SomeSymbol) → infix_of symbol ≡ Some between → StepsIn frames (AtOperand level (Have part)) (ASymbol symbol at) result }
 {
     let Some(level) = level.after(alloc, between, at, part)? else {
         return Err(BoxStop::Refused);
     };
     Ok(BoxParser {
         frames,
-        mode: Mode::Want { level },
+        mode: Mode::AtOperand {
+            level,
+            awaited: Awaited::Want,
+        },
     })
 }
 
@@ -748,7 +770,10 @@ fn in_parens(
             let part = parens(sequence(at, so_far, part)?);
             Ok(BoxParser {
                 frames,
-                mode: Mode::Have { level, part },
+                mode: Mode::AtOperand {
+                    level,
+                    awaited: Awaited::Have { part },
+                },
             })
         }
         Symbol::Semicolon => {
@@ -777,7 +802,10 @@ fn in_arguments(
         let part = head.with_row(row);
         return Ok(BoxParser {
             frames,
-            mode: Mode::Have { level, part },
+            mode: Mode::AtOperand {
+                level,
+                awaited: Awaited::Have { part },
+            },
         });
     }
     let Symbol::Comma = symbol else {
@@ -798,6 +826,29 @@ fn in_middle(
         return Err(BoxStop::Refused);
     };
     Ok(within(frames, frame)?)
+}
+
+impl Awaited {
+    /// Takes the next token.
+    fn step(
+        self,
+        alloc: Global,
+        frames: Stack<Frame>,
+        level: Level<BExpr>,
+        token: Terminal,
+    ) -> Result<BoxParser, BoxStop>
+        ensures { StepsIn frames (AtOperand level self) token result }
+    {
+        match self {
+            Awaited::Want => operand(alloc, frames, level, token),
+            Awaited::AfterName { name } => after_name(alloc, frames, level, name, token),
+            Awaited::AfterOut { at } => after_out(frames, level, at, token),
+            Awaited::Opening { head } => opened(frames, level, head, token),
+            Awaited::FirstArgument { head } => first_argument(alloc, frames, level, head, token),
+            Awaited::FirstStep => first_step(alloc, frames, level, token),
+            Awaited::Have { part } => go_on(alloc, frames, level, part, token),
+        }
+    }
 }
 
 impl BoxParser {
@@ -822,15 +873,7 @@ impl BoxParser {
             Mode::Begin => begin(alloc, frames, token),
             Mode::LetName { at } => let_name(frames, at, token),
             Mode::LetAssign { at, name } => let_assign(frames, at, name, token),
-            Mode::Want { level } => operand(alloc, frames, level, token),
-            Mode::AfterName { level, name } => after_name(alloc, frames, level, name, token),
-            Mode::AfterOut { level, at } => after_out(frames, level, at, token),
-            Mode::Opening { level, head } => opened(frames, level, head, token),
-            Mode::FirstArgument { level, head } => {
-                first_argument(alloc, frames, level, head, token)
-            }
-            Mode::FirstStep { level } => first_step(alloc, frames, level, token),
-            Mode::Have { level, part } => go_on(alloc, frames, level, part, token),
+            Mode::AtOperand { level, awaited } => awaited.step(alloc, frames, level, token),
         }
     }
 }

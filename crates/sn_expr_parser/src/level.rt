@@ -1,5 +1,5 @@
 //! What stands before an operand, in either expression language.
-ghost use Rattle.std.specs.Prelude.{◌≡◌, IfOk, Some};
+ghost use Rattle.std.specs.Prelude.{◌≡◌, IfOk, Ok, Some};
 ghost use Rattle.sn_ast.specs.Kept.{kept, pair};
 ghost use Rattle.sn_ast.specs.Operators.{Operations, with_sign, with_operator, with_and, with_or};
 ghost use Rattle.sn_expr_parser.specs.Levels.{fresh, signed, operated, conjoined, disjoined, sum_of, or_in, with_next_sign, after_product, after_sum, after_comparison, after_and, after_or, after};
@@ -27,14 +27,17 @@ pub trait Expression: Sized + Drop {
         ensures { result ≡ operations.or at left right };
 }
 
+/// A left side that waits for its right one, on the heap since a node will hold it so.
+pub type Left<E> = Kept<Boxed<E>>;
+
 /// What waits for its right side, with its operator and the operator's place.
-pub type Waiting<E> = Option<(Kept<E>, Operator, u32)>;
+pub type Waiting<E> = Option<(Left<E>, Operator, u32)>;
 
 /// What stands before an operand: a finished left side for each kind of operator, from the loosest to the tightest,
 /// and the signs, the last one first.
 pub struct Level<E> {
-    pub or: Option<(Kept<E>, u32)>,
-    pub and: Option<(Kept<E>, u32)>,
+    pub or: Option<(Left<E>, u32)>,
+    pub and: Option<(Left<E>, u32)>,
     pub comparison: Waiting<E>,
     pub sum: Waiting<E>,
     pub product: Waiting<E>,
@@ -86,6 +89,14 @@ fn with_signs<E: Expression>(
     Ok(part)
 }
 
+/// What was completed, as it waits for its right side. Takes the answer as it came, so that its caller, which has a level to give
+/// up, has one exit.
+fn on_heap<E: Drop>(alloc: Global, part: Result<Kept<E>, Memory>) -> Result<Left<E>, Memory>
+    ensures { IfOk result (λ r. part ≡ Ok r) }
+{
+    boxed(alloc, part?)
+}
+
 /// Two parts side by side, each on the heap.
 pub fn both_boxed<E: Drop>(
     alloc: Global,
@@ -124,7 +135,8 @@ fn operated<E: Expression>(
     let Some((left, operator, at)) = left else {
         return Ok(right);
     };
-    let Some(both) = both_boxed(alloc, left, right)? else {
+    let right = boxed(alloc, right)?;
+    let Some(both) = join(left, right) else {
         return Ok(None);
     };
     let ((left, right), measure) = both.into_parts();
@@ -133,7 +145,7 @@ fn operated<E: Expression>(
 
 fn conjoined<E: Expression>(
     alloc: Global,
-    left: Option<(Kept<E>, u32)>,
+    left: Option<(Left<E>, u32)>,
     right: Kept<E>,
 ) -> Result<Kept<E>, Memory>
     ensures { IfOk result (λ r. r ≡ conjoined E.operations left right) }
@@ -141,7 +153,8 @@ fn conjoined<E: Expression>(
     let Some((left, at)) = left else {
         return Ok(right);
     };
-    let Some(both) = both_boxed(alloc, left, right)? else {
+    let right = boxed(alloc, right)?;
+    let Some(both) = join(left, right) else {
         return Ok(None);
     };
     let ((left, right), measure) = both.into_parts();
@@ -150,7 +163,7 @@ fn conjoined<E: Expression>(
 
 fn disjoined<E: Expression>(
     alloc: Global,
-    left: Option<(Kept<E>, u32)>,
+    left: Option<(Left<E>, u32)>,
     right: Kept<E>,
 ) -> Result<Kept<E>, Memory>
     ensures { IfOk result (λ r. r ≡ disjoined E.operations left right) }
@@ -158,7 +171,8 @@ fn disjoined<E: Expression>(
     let Some((left, at)) = left else {
         return Ok(right);
     };
-    let Some(both) = both_boxed(alloc, left, right)? else {
+    let right = boxed(alloc, right)?;
+    let Some(both) = join(left, right) else {
         return Ok(None);
     };
     let ((left, right), measure) = both.into_parts();
@@ -226,7 +240,7 @@ impl<E: Expression> Level<E> {
             product,
             signs,
         } = self;
-        let part = product_of(alloc, product, signs, part)?;
+        let part = on_heap(alloc, product_of(alloc, product, signs, part))?;
         Ok(Some(Level {
             or,
             and,
@@ -254,7 +268,7 @@ impl<E: Expression> Level<E> {
             product,
             signs,
         } = self;
-        let part = sum_of(alloc, sum, product, signs, part)?;
+        let part = on_heap(alloc, sum_of(alloc, sum, product, signs, part))?;
         Ok(Some(Level {
             or,
             and,
@@ -285,7 +299,7 @@ impl<E: Expression> Level<E> {
             product,
             signs,
         } = self;
-        let part = sum_of(alloc, sum, product, signs, part)?;
+        let part = on_heap(alloc, sum_of(alloc, sum, product, signs, part))?;
         Ok(Some(Level {
             or,
             and,
@@ -307,7 +321,10 @@ impl<E: Expression> Level<E> {
             product,
             signs,
         } = self;
-        let part = conjunction_of(alloc, and, comparison, sum, product, signs, part)?;
+        let part = on_heap(
+            alloc,
+            conjunction_of(alloc, and, comparison, sum, product, signs, part),
+        )?;
         Ok(Some(Level {
             or,
             and: Some((part, at)),
@@ -321,7 +338,7 @@ impl<E: Expression> Level<E> {
     fn after_or(self, alloc: Global, at: u32, part: Kept<E>) -> Result<Option<Level<E>>, Memory>
         ensures { IfOk result (λ l. l ≡ Some (after_or E.operations self at part)) }
     {
-        let part = self.finished(alloc, part)?;
+        let part = on_heap(alloc, self.finished(alloc, part))?;
         Ok(Some(Level {
             or: Some((part, at)),
             and: None,
@@ -379,7 +396,7 @@ fn product_of<E: Expression>(
 /// The conjunction that the operand `part` completes.
 fn conjunction_of<E: Expression>(
     alloc: Global,
-    and: Option<(Kept<E>, u32)>,
+    and: Option<(Left<E>, u32)>,
     comparison: Waiting<E>,
     sum: Waiting<E>,
     product: Waiting<E>,

@@ -262,7 +262,7 @@ impl NetParser {
             Mode::InGuard { star, exit, guard } => {
                 post::in_guard(alloc, around, star, exit, guard, token)
             }
-            Mode::Index { split } => post::index(alloc, around, split, token),
+            Mode::Index { split } => post::index(around, split, token),
         }
     }
 }

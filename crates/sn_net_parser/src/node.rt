@@ -5,7 +5,7 @@ ghost use Rattle.sn_ast.specs.Rows.{append};
 ghost use Rattle.sn_net_parser.specs.Levels.{choice_node, identity_node, name_node, serial_node};
 
 use sn_ast::measure::{boxed, join, leaf, raise};
-use sn_ast::{Ident, Kept, NetExpr, NetForm, Seq, TExpr, Variant};
+use sn_ast::{Boxed, Ident, Kept, NetExpr, NetForm, Seq, TExpr, Variant};
 use sn_list::Memory;
 use std::alloc::Global;
 
@@ -48,11 +48,11 @@ pub fn choice(det: bool, at: u32, row: Kept<Seq<NetExpr>>) -> Kept<NetExpr>
     })))
 }
 
-/// A star or a split whose operator was read, and the network before it.
+/// A star or a split whose operator was read, and the network before it, on the heap as a node holds it.
 pub struct Repeated {
     pub det: bool,
     pub at: u32,
-    pub body: Kept<NetExpr>,
+    pub body: Kept<Boxed<NetExpr>>,
 }
 
 /// Written out, so that whoever gives it up calls this, and is not proved over each part of it.
@@ -67,56 +67,53 @@ impl Drop for Repeated {
 }
 
 impl Repeated {
-    pub fn star(self, alloc: Global, exit: Variant) -> Result<Kept<NetExpr>, Memory>
-        ensures { IfOk result (λ r. r ≡ with_star kept self.det self.at self.body exit) }
+    pub fn new(
+        alloc: Global,
+        det: bool,
+        at: u32,
+        body: Kept<NetExpr>,
+    ) -> Result<Repeated, Memory>
+        ensures { IfOk result (λ r. r ≡ record { det = det; at = at; body = body }) }
+    {
+        let body = boxed(alloc, body)?;
+        Ok(Repeated { det, at, body })
+    }
+
+    pub fn star(self, exit: Variant) -> Kept<NetExpr>
+        ensures { result ≡ with_star kept self.det self.at self.body exit }
     {
         let Repeated { det, at, body } = self;
-        let Some(body) = boxed(alloc, body)? else {
-            return Ok(None);
-        };
-        let (body, measure) = body.into_parts();
+        let (body, measure) = body?.into_parts();
         let form = NetForm::Star {
             det,
             body,
             exit,
             guard: None,
         };
-        Ok(raise(Some(measure.with(NetExpr { at, form }))))
+        raise(Some(measure.with(NetExpr { at, form })))
     }
 
-    pub fn guarded_star(
-        self,
-        alloc: Global,
-        exit: Variant,
-        guard: Kept<TExpr>,
-    ) -> Result<Kept<NetExpr>, Memory>
-        ensures { IfOk result (λ r. r ≡ with_guarded_star kept self.det self.at self.body exit guard) }
+    pub fn guarded_star(self, exit: Variant, guard: Kept<TExpr>) -> Kept<NetExpr>
+        ensures { result ≡ with_guarded_star kept self.det self.at self.body exit guard }
     {
         let Repeated { det, at, body } = self;
-        let body = boxed(alloc, body)?;
-        let Some(both) = join(body, guard) else {
-            return Ok(None);
-        };
-        let ((body, guard), measure) = both.into_parts();
+        let ((body, guard), measure) = join(body, guard)?.into_parts();
         let form = NetForm::Star {
             det,
             body,
             exit,
             guard: Some(guard),
         };
-        Ok(raise(Some(measure.with(NetExpr { at, form }))))
+        raise(Some(measure.with(NetExpr { at, form })))
     }
 
-    pub fn split(self, alloc: Global, tag: Ident) -> Result<Kept<NetExpr>, Memory>
-        ensures { IfOk result (λ r. r ≡ with_split kept self.det self.at self.body tag) }
+    pub fn split(self, tag: Ident) -> Kept<NetExpr>
+        ensures { result ≡ with_split kept self.det self.at self.body tag }
     {
         let Repeated { det, at, body } = self;
-        let Some(body) = boxed(alloc, body)? else {
-            return Ok(None);
-        };
-        let (body, measure) = body.into_parts();
+        let (body, measure) = body?.into_parts();
         let form = NetForm::Split { det, body, tag };
-        Ok(raise(Some(measure.with(NetExpr { at, form }))))
+        raise(Some(measure.with(NetExpr { at, form })))
     }
 }
 

@@ -26,26 +26,20 @@ pub fn go_on(
     };
     match symbol.link() {
         Some(Link::Branch { det }) => around.branch(alloc, part, symbol, det, at),
-        Some(Link::Star { det }) => Ok(NetParser {
-            around,
-            mode: Mode::Exit {
-                star: Repeated {
-                    det,
-                    at,
-                    body: part,
-                },
-            },
-        }),
-        Some(Link::Split { det }) => Ok(NetParser {
-            around,
-            mode: Mode::Index {
-                split: Repeated {
-                    det,
-                    at,
-                    body: part,
-                },
-            },
-        }),
+        Some(Link::Star { det }) => {
+            let star = Repeated::new(alloc, det, at, part)?;
+            Ok(NetParser {
+                around,
+                mode: Mode::Exit { star },
+            })
+        }
+        Some(Link::Split { det }) => {
+            let split = Repeated::new(alloc, det, at, part)?;
+            Ok(NetParser {
+                around,
+                mode: Mode::Index { split },
+            })
+        }
         None => unlinked(alloc, around, part, symbol, at),
     }
 }
@@ -141,7 +135,7 @@ pub fn after_exit(
             mode: Mode::Guard { star, exit },
         });
     }
-    let part = star.star(alloc, exit)?;
+    let part = star.star(exit);
     go_on(alloc, around, part, token)
 }
 
@@ -192,13 +186,12 @@ pub fn in_guard(
                 symbol,
                 ..
             },
-        ) => guarded(alloc, around, star, exit, guard, symbol),
+        ) => guarded(around, star, exit, guard, symbol),
     }
 }
 
 /// Takes the symbol after a guard, which must close it.
 fn guarded(
-    alloc: Global,
     around: Around,
     star: Repeated,
     exit: Variant,
@@ -210,7 +203,7 @@ fn guarded(
     if symbol != Symbol::CloseParen {
         return Err(NetStop::Refused);
     }
-    let part = star.guarded_star(alloc, exit, guard)?;
+    let part = star.guarded_star(exit, guard);
     Ok(NetParser {
         around,
         mode: Mode::Have { part },
@@ -219,7 +212,6 @@ fn guarded(
 
 /// Takes the token where the tag of a split comes next.
 pub fn index(
-    alloc: Global,
     around: Around,
     split: Repeated,
     token: Terminal,
@@ -229,7 +221,7 @@ pub fn index(
     let Terminal::Tag(tag) = token else {
         return Err(NetStop::Refused);
     };
-    let part = split.split(alloc, tag)?;
+    let part = split.split(tag);
     Ok(NetParser {
         around,
         mode: Mode::Have { part },

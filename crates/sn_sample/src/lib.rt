@@ -5,8 +5,6 @@ mod numbers;
 mod records;
 mod source;
 mod tally;
-#[cfg(test)]
-mod tests;
 
 pub use records::sample_records;
 pub use source::sample_source;

@@ -1,9 +1,11 @@
-//! The tests of the top calls and of the words that they are given. They stand apart from those of the other libraries, which need
+//! The tests of the top calls, of the words that they are given and of samples. They stand apart from those of the other libraries, which need
 //! not be proved again where the top calls change.
 #![tactic(auto)]
 
 #[cfg(test)]
 mod holding;
+#[cfg(test)]
+mod sample;
 #[cfg(test)]
 mod served;
 #[cfg(test)]

@@ -7,4 +7,4 @@ pub returns-in-Some : goal.returns-in-Some
 returns-in-Some c = λ w t. rw c.in-Some.ensures (guard_if_from, guard_if_to)
 
 pub returns : goal.returns
-returns c = steps_through c.args.around (mode.AfterExit c.args.star c.args.exit) (mode.Have c.in_ok-part.part) _ _ (λ w t. rw c.in_ok-part.ensures (unguarded_from c.in_default.ensures, unguarded_to)) c.go_on.ensures
+returns c = steps_through c.args.around (mode.AfterExit c.args.star c.args.exit) (mode.Have c.star-part.result) _ _ (λ w t. rw c.star-part.ensures (unguarded_from c.in_default.ensures, unguarded_to)) c.go_on.ensures

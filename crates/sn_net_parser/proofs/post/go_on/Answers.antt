@@ -5,12 +5,12 @@ use Rattle.sn_net_parser.proofs.post.go_on.Goals as goal
 pub returns-in_default : goal.returns-in_default
 returns-in_default c = λ w t. no_have _ c.in_default.not-Symbol
 
-pub returns-in-Some-Star : goal.returns-in-Some-Star
-returns-in-Some-Star c = λ w t.
+pub returns-in_ok-star-in-Some-Star : goal.returns-in_ok-star-in-Some-Star
+returns-in_ok-star-in-Some-Star c = λ w t.
     let i = sym c.link.ensures ∙ (c.in-Some-Star.is ∙ ap Some c.in-Some-Star.field-0-is) in
-    rw c.in-Symbol.is (star_from i, star_to i)
+    rw (c.in-Symbol.is, c.in_ok-star-in-Some-Star.ensures) (star_from i, star_to i)
 
-pub returns-in-Some-Split : goal.returns-in-Some-Split
-returns-in-Some-Split c = λ w t.
+pub returns-in_ok-split-in-Some-Split : goal.returns-in_ok-split-in-Some-Split
+returns-in_ok-split-in-Some-Split c = λ w t.
     let i = sym c.link.ensures ∙ (c.in-Some-Split.is ∙ ap Some c.in-Some-Split.field-0-is) in
-    rw c.in-Symbol.is (split_from i, split_to i)
+    rw (c.in-Symbol.is, c.in_ok-split-in-Some-Split.ensures) (split_from i, split_to i)

@@ -1,9 +1,7 @@
-use crate::records::sample_records;
-use crate::source::sample_source;
-use crate::tally::Tally;
 use sn_list::Seq;
 use sn_names::Names;
 use sn_record::{Item, Items, Kind, Label, Record, Value};
+use sn_sample::{Tally, sample_records, sample_source};
 use std::alloc::Global;
 use std::test::Fail;
 

@@ -1,4 +1,4 @@
-use crate::{Decision, DetFork, FreeFork};
+use sn_dispatch::{Decision, DetFork, FreeFork};
 use sn_net::Key;
 use std::test::Fail;
 
