@@ -67,12 +67,7 @@ impl Drop for Repeated {
 }
 
 impl Repeated {
-    pub fn new(
-        alloc: Global,
-        det: bool,
-        at: u32,
-        body: Kept<NetExpr>,
-    ) -> Result<Repeated, Memory>
+    pub fn new(alloc: Global, det: bool, at: u32, body: Kept<NetExpr>) -> Result<Repeated, Memory>
         ensures { IfOk result (λ r. r ≡ record { det = det; at = at; body = body }) }
     {
         let body = boxed(alloc, body)?;

@@ -211,11 +211,7 @@ fn guarded(
 }
 
 /// Takes the token where the tag of a split comes next.
-pub fn index(
-    around: Around,
-    split: Repeated,
-    token: Terminal,
-) -> Result<NetParser, NetStop>
+pub fn index(around: Around, split: Repeated, token: Terminal) -> Result<NetParser, NetStop>
     ensures { StepsIn around (some_mode.Index split) token result }
 {
     let Terminal::Tag(tag) = token else {
