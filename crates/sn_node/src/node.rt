@@ -38,7 +38,6 @@ pub enum State {
 }
 
 /// What a node is, which never changes.
-#[derive(Drop)]
 pub struct Made {
     pub run: Snapshot<Run>,
     pub steps: Trail,
@@ -49,9 +48,21 @@ pub struct Made {
     pub goes: Target,
 }
 
+/// Written out, so that a function that gives it up calls this, and is not proved over what is in it.
+impl Drop for Made {
+    fn drop(self) {
+        let Made {
+            run: _run,
+            steps: _steps,
+            path: _path,
+            left: _,
+            goes: _,
+        } = self;
+    }
+}
+
 /// A node of a graph. What a finished call gave is what the box that the node is answers in the run. A free dispatcher has each child
 /// listed of which something may be merged.
-#[derive(Drop)]
 pub struct Node {
     pub made: Made,
     pub waiting: Queue,
@@ -59,6 +70,19 @@ pub struct Node {
     pub children: Children,
     pub ghost answered: { AreAnswered made.run.value made.path waiting.entries.items } by { answered_once made.run.value made.path waiting.entries.items },
     pub ghost woken: { AreWoken state (map child_of children.list.items) } by { woken_once state (map child_of children.list.items) },
+}
+
+/// Written out, so that a function that gives a node up calls this, and is not proved over all that a node keeps.
+impl Drop for Node {
+    fn drop(self) {
+        let Node {
+            made: _made,
+            waiting: _waiting,
+            state: _state,
+            children: _children,
+            ..
+        } = self;
+    }
 }
 
 impl Node {

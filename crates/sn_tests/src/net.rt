@@ -1,13 +1,10 @@
 ghost use Rattle.std.specs.Prelude.{[], IsTrue};
 ghost use Rattle.std.specs.List.{list_all};
-ghost use Rattle.sn_net.specs.declared.net.Net.TheViews.{out-Net};
 ghost use Rattle.sn_net.specs.Face.{is_numbered};
-ghost use Rattle.sn_net.specs.Routable.{IsDispatcher};
 
-use crate::text::records;
 use sn_list::{Boxed, Seq};
-use sn_net::{Faced, Filter, Key, Merge, Net, Part, TagExpr, Template, all_det, face, route};
-use sn_record::{Fault, FaultKind, Item, Kind, Label, LabelSet};
+use sn_net::{Filter, Merge, Net, Part, TagExpr, Template, all_det, face};
+use sn_record::{Kind, Label, LabelSet};
 use sn_stack::append;
 use std::alloc::Global;
 use std::process::Abort;
@@ -87,8 +84,7 @@ fn sinks(rt: &impl Abort, alloc: Global, labels: &[Label]) -> Seq<Net>
 
 /// A choice of a sink for each label, in a split, with no faces yet.
 fn split_of(rt: &impl Abort, alloc: Global, labels: &[Label]) -> Net
-    ensures numbered { IsTrue (is_numbered [] result) }
-    ensures routes { IsDispatcher (out-Net result) }
+    ensures { IsTrue (is_numbered [] result) }
 {
     let choice = Net::Choice {
         place: 0,
@@ -117,51 +113,6 @@ fn a_face_ascends_without_repeats(rt: HostRuntime) {
     let net = split_of(&rt, rt.alloc(), &[T, A, T]);
     let sets = face(rt.alloc(), &net, &Seq::new(rt.alloc())).expect(&rt, "memory");
     assert!(rt; is_face_of_both(sets.as_slice()));
-}
-
-/// A choice of a sink for each label, beside its face.
-fn choice_of(rt: &impl Abort, alloc: Global, labels: &[Label]) -> Faced {
-    let mut branches = Seq::new(alloc);
-    for label in labels {
-        let branch = Faced::filter(alloc, sink(rt, alloc, *label)).expect(rt, "memory");
-        append(&mut branches, branch).expect(rt, "memory");
-    }
-    Faced::choice(alloc, 0, Merge::Free, branches).expect(rt, "memory")
-}
-
-#[test]
-fn a_net_is_made_beside_its_face(rt: HostRuntime) {
-    let choice = choice_of(&rt, rt.alloc(), &[T, A, T]);
-    let split = Faced::split(rt.alloc(), 0, Merge::Free, choice, 1).expect(&rt, "memory");
-    assert!(rt; is_face_of_both(split.face.as_slice()));
-}
-
-/// The key of an item in a split.
-fn key_of(rt: &impl Abort, alloc: Global, item: &Item) -> Key {
-    route(&split_of(rt, alloc, &[]), item)
-}
-
-/// The key of the text's last record in a split.
-fn key_of_last(rt: &impl Abort, alloc: Global, text: &str) -> Key {
-    let mut records = records(rt, alloc, text).into_vec();
-    let record = records.pop().expect(rt, "a record");
-    key_of(rt, alloc, &Item::Rec(record))
-}
-
-#[test]
-fn a_split_routes_by_its_tag(rt: HostRuntime) {
-    for (text, wanted) in [("{a=0}\n{<t>=7}", Key::Value(7)), ("{}", Key::Stuck)] {
-        assert!(rt; key_of_last(&rt, rt.alloc(), text) == wanted, "{text}");
-    }
-}
-
-#[test]
-fn a_split_lets_faults_by(rt: HostRuntime) {
-    let fault = Fault {
-        kind: FaultKind::Overflow,
-        place: 3,
-    };
-    assert!(rt; key_of(&rt, rt.alloc(), &Item::Fault(fault)) == Key::Bypass);
 }
 
 fn is_in_order(rt: &impl Abort, alloc: Global) -> bool {

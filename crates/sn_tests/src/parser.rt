@@ -1,14 +1,6 @@
 use crate::text::program;
-use sn_ast::{Decl, ItemSource, NetForm, Program, TypePart};
-use sn_parser::ParseFault;
+use sn_ast::{Decl, ItemSource, NetForm, TypePart};
 use std::alloc::Global;
-use std::process::Abort;
-
-/// How many declarations stand in the outermost scope of the source, or its refusal.
-fn count_of(alloc: Global, source: &str) -> Result<usize, ParseFault> {
-    let Program { decls } = program(alloc, source)?;
-    Ok(decls.len())
-}
 
 /// The place of the network, the body or the first part of the type that the source's first declaration has.
 fn place_in(decl: &Decl) -> Option<u32> {
@@ -46,63 +38,6 @@ fn value_place_in(decl: &Decl) -> Option<u32> {
 fn value_place_of(alloc: Global, source: &str) -> Option<u32> {
     let program = program(alloc, source).ok()?;
     value_place_in(program.decls.as_slice().get(0)?)
-}
-
-#[test]
-fn programs_are_accepted(rt: HostRuntime) {
-    for (source, count) in [
-        ("", 0),
-        ("// none", 0),
-        (
-            "type t = {a,<b>} | u; typesig s = {} -> t; typesig r = s;",
-            3,
-        ),
-        ("net n (s) { type t = {}; net m connect f; } connect m;", 1),
-        (
-            "net n connect [] .. [{a} -> {b=a,<t>=<t>+1};{}] .. f .. [|{a},{<b>}|];",
-            1,
-        ),
-        (
-            "net n connect (a || b || (c | d)) ** {x} if (<x> > 0) * {} !! <t> ! <u>;",
-            1,
-        ),
-        (
-            "net n connect [{<t>} -> {<t>=!<t> || -1 * (2 - <t>) == 3 && 1 ? 2 : <t> ? 4 : 5}];",
-            1,
-        ),
-        (
-            "box f ((a,<b>) -> (c) | ()) { fun g(x,y) = x; fun h() = [1,\"t\"]; out 1(a); g(-1,[]) }",
-            1,
-        ),
-        (
-            "box f (() -> ()) { let x = (1; 2) in if !x then <t> else x % 2 < 3 && 1 || 0 }",
-            1,
-        ),
-    ] {
-        assert!(rt; count_of(rt.alloc(), source) == Ok(count), "{source}");
-    }
-}
-
-#[test]
-fn other_sources_are_refused(rt: HostRuntime) {
-    for (source, place) in [
-        ("net main ({a} -> {b}) connect [{a} -> {b=a}]", 44),
-        ("net main ({a} -> {a}) connect [] || [] | [];", 39),
-        ("net main ({a} -> {a}) connect [] | [] .. [] || [];", 44),
-        ("net n connect (((((", 19),
-        ("net n { connect f;", 8),
-        ("net n } connect f;", 6),
-        ("type t = {a} {b};", 13),
-        ("type t = {a,};", 12),
-        ("typesig s = {a};", 15),
-        ("connect f;", 0),
-        ("box f ((a) -> (b)) { }", 21),
-        ("box f ((a) -> (b)) { 1 < 2 < 3 }", 27),
-        ("net n connect f; }", 17),
-    ] {
-        let refusal = Err(ParseFault::Unexpected(place));
-        assert!(rt; count_of(rt.alloc(), source) == refusal, "{source}");
-    }
 }
 
 #[test]
@@ -156,53 +91,5 @@ fn places_are_those_of_the_values(rt: HostRuntime) {
             value_place_of(rt.alloc(), source) == Some(place),
             "{source}"
         );
-    }
-}
-
-/// Adds the piece so many times.
-fn repeat(rt: &impl Abort, source: &mut String, piece: &str, times: usize) {
-    for _ in 0..times {
-        source.push_str(piece).expect(rt, "memory");
-    }
-}
-
-/// Networks in so many parentheses.
-fn in_parentheses(rt: &impl Abort, alloc: Global, depth: usize, end: &str) -> String {
-    let mut source = String::new(alloc);
-    repeat(rt, &mut source, "net main ({a} -> {a}) connect ", 1);
-    repeat(rt, &mut source, "(", depth);
-    repeat(rt, &mut source, "[]", 1);
-    repeat(rt, &mut source, ")", depth);
-    repeat(rt, &mut source, end, 1);
-    source
-}
-
-/// A filter with so many signs.
-fn signs(rt: &impl Abort, alloc: Global, depth: usize) -> String {
-    let front = "net main ({<a>} -> {<a>}) connect [{<a>} -> {<a>=";
-    let mut source = String::new(alloc);
-    repeat(rt, &mut source, front, 1);
-    repeat(rt, &mut source, "-", depth);
-    repeat(rt, &mut source, "<a>}];", 1);
-    source
-}
-
-#[test]
-fn limits_of_parentheses_are_exact(rt: HostRuntime) {
-    for (depth, end, wanted) in [
-        (128, ";", Ok(1)),
-        (129, ";", Err(ParseFault::TooDeep(4))),
-        (129, "", Err(ParseFault::Unexpected(290))),
-    ] {
-        let source = in_parentheses(&rt, rt.alloc(), depth, end);
-        assert!(rt; count_of(rt.alloc(), &source) == wanted, "{depth}{end}");
-    }
-}
-
-#[test]
-fn limits_of_signs_are_exact(rt: HostRuntime) {
-    for (depth, wanted) in [(63, Ok(1)), (64, Err(ParseFault::TooDeep(4)))] {
-        let source = signs(&rt, rt.alloc(), depth);
-        assert!(rt; count_of(rt.alloc(), &source) == wanted, "{depth}");
     }
 }
