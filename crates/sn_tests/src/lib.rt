@@ -1,4 +1,4 @@
-//! The tests of the libraries below the top calls, a module for each, of what the cases do not show: those run the program from outside.
+//! The tests of the libraries below the top calls, of what the cases do not show: those run the program from outside.
 //!
 //! They stand here since a crate with tests is proved once with them and once without: here nothing but the tests is proved.
 #![tactic(auto)]
@@ -8,7 +8,11 @@ mod files;
 #[cfg(test)]
 mod input;
 #[cfg(test)]
+mod jobs;
+#[cfg(test)]
 mod list;
+#[cfg(test)]
+mod load;
 #[cfg(test)]
 mod names;
 #[cfg(test)]
@@ -18,7 +22,11 @@ mod parser;
 #[cfg(test)]
 mod record;
 #[cfg(test)]
+mod refusal;
+#[cfg(test)]
 mod stack;
+#[cfg(test)]
+mod streams;
 #[cfg(test)]
 mod text;
 #[cfg(test)]

@@ -1,4 +1,4 @@
-use Rattle.sn_queue_tests.proofs.load.load.Goals as goal
+use Rattle.sn_tests.proofs.load.load.Goals as goal
 
 pub new-run-requires-clause-typed : goal.new-run-requires-clause-typed
 new-run-requires-clause-typed c =

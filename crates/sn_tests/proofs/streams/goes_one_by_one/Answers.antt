@@ -1,6 +1,6 @@
 use Rattle.std.proofs.Common.{◌∙◌, ap}
 use Rattle.sn_net_histories.specs.Places.{history_at}
-use Rattle.sn_queue_tests.proofs.streams.goes_one_by_one.Goals as goal
+use Rattle.sn_tests.proofs.streams.goes_one_by_one.Goals as goal
 
 pub send-requires-3-clause-history : goal.send-requires-3-clause-history
 send-requires-3-clause-history g c =
