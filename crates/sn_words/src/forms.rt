@@ -6,6 +6,7 @@ ghost use Rattle.sn_words.specs.Clap.{bare, leaf_of, program, told_option, told_
 
 use crate::numbers::{DEPTH, FUEL, QUEUE, WORKERS};
 use clap::Arg;
+use sn_list::{Boxed, Memory};
 use std::alloc::{AllocError, Global};
 
 /// The names of positional words.
@@ -72,28 +73,30 @@ fn bare_form<'a>(alloc: Global) -> clap::Command<'a>
         .subcommand_required(true)
 }
 
-/// The program with one more command. Nothing but the program is alive where a command is asked for, since each form of
-/// `clap` that is given up is proved part by part.
+/// The program with one more command. Nothing but the program is alive where a command is asked for, and that on the heap, since each form
+/// of `clap` that is given up or handed on is proved part by part.
 fn with_command<'a>(
     alloc: Global,
-    program: clap::Command<'a>,
+    program: Boxed<clap::Command<'a>>,
     name: &'a str,
     words: &[&'a str],
     options: &[&'a str],
-) -> Result<clap::Command<'a>, AllocError>
+) -> Result<Boxed<clap::Command<'a>>, Memory>
     ensures { IfOk result (λ form. app_of form ≡ with_subcommand (app_of program.entry) (leaf_of name.entry.now (map (λ word. word.now) words.now) (map (λ option. option.now) options.now)).top) }
 {
     let command = command_form(alloc, name, words, options)?;
-    program.subcommand(command)
+    let program = program.into_inner().subcommand(command)?;
+    Boxed::new(alloc, program)
 }
 
 /// The program's commands, as `clap` is told of them.
-pub(crate) fn program_form<'a>(alloc: Global) -> Result<clap::Command<'a>, AllocError>
+pub(crate) fn program_form<'a>(alloc: Global) -> Result<Boxed<clap::Command<'a>>, Memory>
     ensures { IfOk result (λ form. app_of form ≡ program) }
 {
+    let form = Boxed::new(alloc, bare_form(alloc))?;
     let form = with_command(
         alloc,
-        bare_form(alloc),
+        form,
         "run",
         &[SOURCE, INPUT],
         &[WORKERS.name, FUEL.name, DEPTH.name, QUEUE.name],

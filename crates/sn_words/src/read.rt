@@ -207,7 +207,7 @@ pub fn read_words(alloc: Global, words: &[String]) -> Result<Command, WordsFault
     ensures in_range { IfOk result IsInRange }
 {
     let program = program_form(alloc)?;
-    let matches = match program.try_get_matches_from(words) {
+    let matches = match program.into_inner().try_get_matches_from(words) {
         Ok(matches) => matches,
         Err(error) => return Err(fault_from(&error)),
     };

@@ -1,6 +1,6 @@
 use Rattle.std.proofs.Common.{◌∙◌, ap}
 use Rattle.std.proofs.lemmas.Result.{IfOk-weaker}
-use Rattle.clap.specs.Simple.{App, with_subcommand}
+use Rattle.clap.specs.Simple.{App, with_subcommand, app_of}
 use Rattle.sn_words.specs.Clap.{form_app}
 use Rattle.sn_words.specs.Words.{Form, run_form, once_form, check_form, print_form, sample_form}
 use Rattle.sn_words.proofs.forms.program_form.Goals as goal
@@ -11,8 +11,8 @@ plus form app = with_subcommand app (form_app form).top
 
 pub returns : goal.returns
 returns c =
-    let with_run = c.in_ok-form.ensures ∙ ap (plus run_form) c.bare_form.ensures in
-    let with_once = c.in_ok-form-2.ensures ∙ ap (plus once_form) with_run in
-    let with_check = c.in_ok-form-3.ensures ∙ ap (plus check_form) with_once in
-    let with_print = c.in_ok-form-4.ensures ∙ ap (plus print_form) with_check in
+    let with_run = c.in_ok-form-2.ensures ∙ ap (λ f. plus run_form (app_of f)) c.in_ok-form.ensures ∙ ap (plus run_form) c.bare_form.ensures in
+    let with_once = c.in_ok-form-3.ensures ∙ ap (plus once_form) with_run in
+    let with_check = c.in_ok-form-4.ensures ∙ ap (plus check_form) with_once in
+    let with_print = c.in_ok-form-5.ensures ∙ ap (plus print_form) with_check in
     IfOk-weaker c.with_command-5.result _ _ (λ form h. h ∙ ap (plus sample_form) with_print) c.with_command-5.ensures
