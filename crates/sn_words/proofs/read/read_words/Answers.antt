@@ -13,17 +13,17 @@ use Rattle.sn_words.proofs.read.read_words.Goals as goal
 pub returns-in-Err-clause-usage : goal.returns-in-Err-clause-usage
 returns-in-Err-clause-usage c =
     let words = map string_bytes c.args.words.now in
-    let is : app_of c.in_ok-program.program ≡ program = c.in_ok-program.ensures in
-    let kinds : HasKind (fault_of (app_of c.in_ok-program.program) words) c.in-Err.error = c.in-Err.ensures.kinds (ap is_simple_and_free is ∙ program_simple) in
+    let is : app_of c.into_inner.result ≡ program = ap app_of c.into_inner.ensures ∙ c.in_ok-program.ensures in
+    let kinds : HasKind (fault_of (app_of c.into_inner.result) words) c.in-Err.error = c.in-Err.ensures.kinds (ap is_simple_and_free is ∙ program_simple) in
     λ h. none_is words c.in-Err.error (are_texts c.args.words.now) (c.fault_from.ensures (fault_of_err c.fault_from.result _ h))
     (subst (λ app. HasKind (fault_of app words) c.in-Err.error) is kinds)
 
 pub returns-clause-ok : goal.returns-clause-ok
 returns-clause-ok c =
     let words = map string_bytes c.args.words.now in
-    let is : app_of c.in_ok-program.program ≡ program = c.in_ok-program.ensures in
-    let fine : fault_of (app_of c.in_ok-program.program) words ≡ [] = c.in-Ok.ensures.kinds (ap is_simple_and_free is ∙ program_simple) in
-    let found : subcommand_rows_of c.in-Ok.matches ≡ subcommand_of (app_of c.in_ok-program.program) words = (c.in-Ok.ensures.matches (ap is_simple is ∙ simple)).1 in
+    let is : app_of c.into_inner.result ≡ program = ap app_of c.into_inner.ensures ∙ c.in_ok-program.ensures in
+    let fine : fault_of (app_of c.into_inner.result) words ≡ [] = c.in-Ok.ensures.kinds (ap is_simple_and_free is ∙ program_simple) in
+    let found : subcommand_rows_of c.in-Ok.matches ≡ subcommand_of (app_of c.into_inner.result) words = (c.in-Ok.ensures.matches (ap is_simple is ∙ simple)).1 in
     let same : asked_in (subcommand_rows_of c.in-Ok.matches) ≡ command_of words = found_is words c.in-Ok.matches (are_texts c.args.words.now)
     (sym (ap (λ app. fault_of app words) is) ∙ fine) (found ∙ ap (λ app. subcommand_of app words) is) in
     IfOk-weaker c.make_found.result _ _ (λ command h. sym same ∙ h) c.make_found.ensures.ok
@@ -31,9 +31,9 @@ returns-clause-ok c =
 pub returns-clause-usage : goal.returns-clause-usage
 returns-clause-usage c =
     let words = map string_bytes c.args.words.now in
-    let is : app_of c.in_ok-program.program ≡ program = c.in_ok-program.ensures in
-    let fine : fault_of (app_of c.in_ok-program.program) words ≡ [] = c.in-Ok.ensures.kinds (ap is_simple_and_free is ∙ program_simple) in
-    let found : subcommand_rows_of c.in-Ok.matches ≡ subcommand_of (app_of c.in_ok-program.program) words = (c.in-Ok.ensures.matches (ap is_simple is ∙ simple)).1 in
+    let is : app_of c.into_inner.result ≡ program = ap app_of c.into_inner.ensures ∙ c.in_ok-program.ensures in
+    let fine : fault_of (app_of c.into_inner.result) words ≡ [] = c.in-Ok.ensures.kinds (ap is_simple_and_free is ∙ program_simple) in
+    let found : subcommand_rows_of c.in-Ok.matches ≡ subcommand_of (app_of c.into_inner.result) words = (c.in-Ok.ensures.matches (ap is_simple is ∙ simple)).1 in
     let same : asked_in (subcommand_rows_of c.in-Ok.matches) ≡ command_of words = found_is words c.in-Ok.matches (are_texts c.args.words.now)
     (sym (ap (λ app. fault_of app words) is) ∙ fine) (found ∙ ap (λ app. subcommand_of app words) is) in
     λ h. sym same ∙ c.make_found.ensures.usage h
