@@ -1,7 +1,7 @@
 -- The parts of a network that fits its boxes, and their plans.
 use Rattle.std.proofs.Common.{◌≡◌, ℕ, ◌<◌, ◌≤◌, List, [], ◌∷◌, map, length, get_or, sym, ap, subst, ◌∙◌}
 use Rattle.std.specs.List.{All}
-use Rattle.std.proofs.lemmas.List.Elements.{All-head, All-tail, All-get_or}
+use Rattle.std.proofs.lemmas.List.Elements.{All-head, All-tail, All-get_or, All-from_get_or}
 use Rattle.sn_record.specs.LabelSet.{Labels}
 use Rattle.sn_net.specs.declared.expr.BoxProgram.{BoxProgram}
 use Rattle.sn_net.specs.declared.net.Merge.{Merge}
@@ -46,9 +46,9 @@ module _ (boxes : List BoxProgram) where
       let sound = level_sound boxes (Net-F.Choice place merge branches faces) (subst (IsWellFormed boxes) (is ∙ sym (form.rolls-Choice place merge branches faces)) formed) in
       subst (λ (ns : List Net). length ns ≤ most_branches) (sym same) sound.few)
 
-  pub branch_fits : (net : Net) (place : ℕ) (merge : Merge) (branches nets : List Net) (faces : List (List Labels)) (i : ℕ) (b : Net) → net ≡ form.Choice place merge branches faces → nets ≡ branches
-      → i < length nets → b ≡ get_or nets i b → FitsBoxes boxes net → FitsBoxes boxes b
-  branch_fits net place merge branches nets faces i b is same within read fits =
-      ∥∥₁_map fits (λ formed.
+  pub branches_fit : (net : Net) (place : ℕ) (merge : Merge) (branches nets : List Net) (faces : List (List Labels)) → net ≡ form.Choice place merge branches faces → nets ≡ branches
+      → FitsBoxes boxes net → All (FitsBoxes boxes) nets
+  branches_fit net place merge branches nets faces is same fits =
+      All-from_get_or (FitsBoxes boxes) nets net (λ i within. ∥∥₁_map fits (λ formed.
       let parts = parts_formed boxes (Net-F.Choice place merge branches faces) (subst (IsWellFormed boxes) (is ∙ sym (form.rolls-Choice place merge branches faces)) formed) in
-      subst (IsWellFormed boxes) (sym read) (All-get_or (IsWellFormed boxes) nets i b within (subst (λ (ns : List Net). All (IsWellFormed boxes) ns) (sym same) parts)))
+      All-get_or (IsWellFormed boxes) nets i net within (subst (λ (ns : List Net). All (IsWellFormed boxes) ns) (sym same) parts)))

@@ -14,7 +14,6 @@ pub(crate) struct Place {
 }
 
 /// What a run has come to: its nodes, by their numbers, and what waits at each.
-#[derive(Drop)]
 pub(crate) struct Arena {
     pub(crate) run: Snapshot<Run>,
     pub(crate) nodes: Vec<Node>,
@@ -33,4 +32,22 @@ pub(crate) struct Arena {
     pub(crate) places: IndexMap<u64, Place>,
     /// The nodes at which something may happen.
     pub(crate) agenda: Agenda,
+}
+
+/// Written out, so that a function that gives it up calls this, and is not proved over each list in it.
+impl Drop for Arena {
+    fn drop(self) {
+        let Arena {
+            run: _run,
+            nodes: _nodes,
+            applied: _,
+            calls: _,
+            taken: _,
+            ended: _,
+            ready: _ready,
+            out: _out,
+            places: _places,
+            agenda: _agenda,
+        } = self;
+    }
 }

@@ -1,11 +1,12 @@
 //! The nodes that a part of a network is made of.
 ghost use Rattle.std.specs.Prelude.{◌≡◌, ◌+◌, ◌++◌, ◌∷◌, ◌≤◌, [], IfOk, OnOk, length, map, ℕ};
+ghost use Rattle.std.specs.List.{All};
 ghost use Rattle.sn_net.specs.WellFormed.{FitsBoxes, most_branches};
 ghost use Rattle.sn_model.specs.Run.{boxes_of, depth_of};
 ghost use Rattle.sn_net.specs.Cell.{new_cell};
 ghost use Rattle.sn_net.specs.declared.net.Merge.{Merge as Kind};
 ghost use Rattle.sn_view.specs.View as view;
-ghost use Rattle.sn_view.specs.Parts.{branch_children, dispatcher, new_node, own_child, plan};
+ghost use Rattle.sn_view.specs.Parts.{branch_children, choice_plan, dispatcher, new_node, own_child, plan, serial_plan};
 ghost use Rattle.sn_node.specs.Seen.{node_of, target_of};
 ghost use Rattle.sn_model.specs.declared.run.Run.{Run};
 ghost use Rattle.sn_graph.specs.Grown.{IsForkWith, IsOfRun, Puts, next_of};
@@ -105,6 +106,40 @@ pub(crate) fn with_part(alloc: Global, path: &[u32], part: u32) -> Result<Seq<u3
     let mut longer = Seq::from_slice(alloc, path)?;
     append(&mut longer, part)?;
     Ok(longer)
+}
+
+/// Where a part of a network stands: the steps to it, and the numbers of the parts on the way there.
+pub(crate) struct Spot {
+    pub(crate) steps: Trail,
+    pub(crate) path: Seq<u32>,
+}
+
+/// Written out, so that a function that gives it up calls this, and is not proved over what is in it.
+impl Drop for Spot {
+    fn drop(self) {
+        let Spot {
+            steps: _steps,
+            path: _path,
+        } = self;
+    }
+}
+
+impl Spot {
+    /// One step further, at the part of this number.
+    pub(crate) fn below(
+        alloc: Global,
+        steps: &Trail,
+        path: &[u32],
+        step: Step,
+        part: u32,
+    ) -> Result<Spot, Memory>
+        ensures steps { IfOk result (λ spot. spot.steps ≡ steps.now ++ step ∷ []) }
+        ensures path { IfOk result (λ spot. spot.path ≡ path.now ++ part ∷ []) }
+    {
+        let steps = with_step(alloc, steps, step)?;
+        let path = with_part(alloc, path, part)?;
+        Ok(Spot { steps, path })
+    }
 }
 
 /// What a new node is.
@@ -211,7 +246,58 @@ pub(crate) fn push_fork(
     grown.push(node)
 }
 
+/// Two networks in series: what the left one gives goes to the first node of the right one.
+#[cycle(growing)]
+fn grow_series(
+    alloc: Global,
+    run: &Run,
+    grown: &mut NewNodes,
+    left: &Net,
+    right: &Net,
+    steps: &Trail,
+    path: &[u32],
+    goes: Target,
+) -> Result<(), Memory>
+    requires left { FitsBoxes (boxes_of run.now) left.now }
+    requires right { FitsBoxes (boxes_of run.now) right.now }
+    ensures { OnOk result (Puts run.now ((serial_plan (plan (depth_of run.now) left.now) (plan (depth_of run.now) right.now)).nodes steps.now path.now (target_of goes) (next_of grown.old)) grown.old grown.new) }
+{
+    let at = sum(grown.next()?, width(run.depth(), left)?)?;
+    let first = Spot::below(alloc, steps, path, Step::Left, 0)?;
+    let to_right = Target::Node(at);
+    grow(alloc, run, grown, left, &first.steps, first.path.as_slice(), to_right)?;
+    let second = Spot::below(alloc, steps, path, Step::Right, 1)?;
+    grow(alloc, run, grown, right, &second.steps, second.path.as_slice(), goes)
+}
+
+/// A choice: its dispatcher, and then its branches, each of which gives to a child of that.
+#[cycle(growing)]
+fn grow_choice(
+    alloc: Global,
+    run: &Run,
+    grown: &mut NewNodes,
+    merge: Merge,
+    branches: &[Net],
+    steps: &Trail,
+    path: &[u32],
+    goes: Target,
+) -> Result<(), Memory>
+    requires few { length branches.now ≤ most_branches }
+    requires fit { All (FitsBoxes (boxes_of run.now)) branches.now }
+    ensures { OnOk result (Puts run.now ((choice_plan merge (map (plan (depth_of run.now)) branches.now)).nodes steps.now path.now (target_of goes) (next_of grown.old)) grown.old grown.new) }
+{
+    let node = grown.next()?;
+    push_fork(alloc, run, grown, merge, 0, branches, steps, path, goes)?;
+    for (i, branch) in branches.iter().enumerate() {
+        let spot = Spot::below(alloc, steps, path, Step::Branch(i as u32), i as u32)?;
+        let child = Target::Child { node, child: i + 1 };
+        grow(alloc, run, grown, branch, &spot.steps, spot.path.as_slice(), child)?;
+    }
+    Ok(())
+}
+
 /// Puts the nodes of a part of a run's network behind the others. What it gives goes there.
+#[cycle(growing)]
 pub(crate) fn grow(
     alloc: Global,
     run: &Run,
@@ -225,86 +311,26 @@ pub(crate) fn grow(
     ensures { OnOk result (Puts run.now ((plan (depth_of run.now) net.now).nodes steps.now path.now (target_of goes) (next_of grown.old)) grown.old grown.new) }
 {
     match net {
-        Net::Box { .. } => push_alone(alloc, run, grown, steps, path, goes),
-        Net::Filter(_) => push_alone(alloc, run, grown, steps, path, goes),
-        Net::Sync { patterns, .. } => push_cell(
-            alloc,
-            run,
-            grown,
-            patterns.as_slice(),
-            steps,
-            path,
-            goes,
-        ),
+        Net::Box { .. } | Net::Filter(_) => push_alone(alloc, run, grown, steps, path, goes),
+        Net::Sync { patterns, .. } => {
+            push_cell(alloc, run, grown, patterns.as_slice(), steps, path, goes)
+        }
         Net::Serial { left, right } => {
-            let at = sum(grown.next()?, width(run.depth(), left.get())?)?;
-            let first = with_step(alloc, steps, Step::Left)?;
-            let first_path = with_part(alloc, path, 0)?;
-            grow(
-                alloc,
-                run,
-                grown,
-                left.get(),
-                &first,
-                first_path.as_slice(),
-                Target::Node(at),
-            )?;
-            let second = with_step(alloc, steps, Step::Right)?;
-            let second_path = with_part(alloc, path, 1)?;
-            grow(
-                alloc,
-                run,
-                grown,
-                right.get(),
-                &second,
-                second_path.as_slice(),
-                goes,
-            )
+            grow_series(alloc, run, grown, left.get(), right.get(), steps, path, goes)
         }
         Net::Choice {
             merge,
             branches,
             ..
         } => {
-            let node = grown.next()?;
-            push_fork(
-                alloc,
-                run,
-                grown,
-                *merge,
-                0,
-                branches.as_slice(),
-                steps,
-                path,
-                goes,
-            )?;
-            for (i, branch) in branches.as_slice().iter().enumerate() {
-                let below = with_step(alloc, steps, Step::Branch(i as u32))?;
-                let below_path = with_part(alloc, path, i as u32)?;
-                let child = Target::Child { node, child: i + 1 };
-                grow(
-                    alloc,
-                    run,
-                    grown,
-                    branch,
-                    &below,
-                    below_path.as_slice(),
-                    child,
-                )?;
-            }
-            Ok(())
+            let branches = branches.as_slice();
+            grow_choice(alloc, run, grown, *merge, branches, steps, path, goes)
         }
-        Net::Star { merge, .. } => push_fork(
-            alloc,
-            run,
-            grown,
-            *merge,
-            run.depth(),
-            &[],
-            steps,
-            path,
-            goes,
-        ),
-        Net::Split { merge, .. } => push_fork(alloc, run, grown, *merge, 0, &[], steps, path, goes),
+        Net::Star { merge, .. } => {
+            push_fork(alloc, run, grown, *merge, run.depth(), &[], steps, path, goes)
+        }
+        Net::Split { merge, .. } => {
+            push_fork(alloc, run, grown, *merge, 0, &[], steps, path, goes)
+        }
     }
 }

@@ -80,7 +80,6 @@ impl Drop for Node {
             waiting: _waiting,
             state: _state,
             children: _children,
-            ..
         } = self;
     }
 }
