@@ -2,10 +2,11 @@
 ghost use Rattle.std.specs.Prelude.{◌≡◌, ◌∷◌, [], ◌&&◌};
 ghost use Rattle.std.specs.List.{list_any};
 ghost use Rattle.sn_types.specs.RecordType.{has_subset, is_same, is_subset};
-ghost use Rattle.sn_flow.specs.Visits.{Added};
+ghost use Rattle.sn_flow.specs.Visits.{Added, FoundAdded};
 
 use crate::indexed::Indexed;
 use crate::stop::Stop;
+use sn_list::Seq;
 use sn_record::LabelSet;
 use std::alloc::Global;
 
@@ -55,4 +56,16 @@ pub fn add_all(alloc: Global, sets: &mut Indexed<LabelSet>, more: &[LabelSet]) -
         add(alloc, sets, variant)?;
     }
     Ok(())
+}
+
+/// Adds what was found, as `add_all` does, or passes on why there is nothing.
+pub fn add_found(
+    alloc: Global,
+    sets: &mut Indexed<LabelSet>,
+    found: Result<Seq<LabelSet>, Stop>,
+) -> Result<(), Stop>
+    ensures { FoundAdded sets.old found sets.new result }
+{
+    let more = found?;
+    add_all(alloc, sets, more.as_slice())
 }
