@@ -81,17 +81,26 @@ pub fn add_row(
     Ok(())
 }
 
-/// The i-th table, and the others.
-pub fn take_part(alloc: Global, parts: Seq<Table>, i: usize) -> (Table, Seq<Table>)
-    ensures part { result.0 ≡ part_at parts i }
-    ensures others { SameElsewhere i parts result.1 }
+/// The i-th table, or `nothing` where there is none.
+pub fn part_of<'a>(parts: &'a [Table], i: usize, nothing: &'a Table) -> &'a Table
+    requires { nothing.now ≡ no_table }
+    ensures { result.now ≡ part_at parts.now i }
 {
-    let mut parts = parts.into_vec();
-    if i < parts.len() {
-        let part = mem::replace(&mut parts[i], no_table(alloc));
-        return (part, Seq::from_vec(parts));
+    match parts.get(i) {
+        Some(part) => part,
+        None => nothing,
     }
-    (no_table(alloc), Seq::from_vec(parts))
+}
+
+/// Takes the i-th of the tables out.
+fn taken(alloc: Global, parts: &mut Vec<Table>, i: usize) -> Table
+    ensures part { result ≡ part_at parts.old.items i }
+    ensures others { SameElsewhere i parts.old.items parts.new.items }
+{
+    if i >= parts.len() {
+        return no_table(alloc);
+    }
+    mem::replace(&mut parts[i], no_table(alloc))
 }
 
 /// The tables, with tables of nothing behind them up to the i-th.
@@ -129,9 +138,9 @@ pub fn take_out(alloc: Global, parts: &mut Seq<Table>, i: usize) -> Table
     ensures part { result ≡ part_at parts.old i }
     ensures others { SameElsewhere i parts.old parts.new }
 {
-    let all = mem::replace(parts, Seq::new(alloc));
-    let (part, others) = take_part(alloc, all, i);
-    *parts = others;
+    let mut all = mem::replace(parts, Seq::new(alloc)).into_vec();
+    let part = taken(alloc, &mut all, i);
+    *parts = Seq::from_vec(all);
     part
 }
 
