@@ -48,7 +48,14 @@ fn declared(alloc: Global, claim: &Claim, rows: &Indexed<Row>) -> Result<(), Flo
 {
     let output = claim.output.as_slice();
     let mut best = None;
-    bad_spot(alloc, claim.place, output, rows, claim.input.as_slice(), &mut best)?;
+    bad_spot(
+        alloc,
+        claim.place,
+        output,
+        rows,
+        claim.input.as_slice(),
+        &mut best,
+    )?;
     match best {
         Some(spot) => Err(FlowFault::BadOutput(spot.place, spot.variant)),
         None => Ok(()),
@@ -72,12 +79,7 @@ fn flow_in(
 }
 
 /// Whether a table lets the claim be accepted.
-fn accepted(
-    alloc: Global,
-    claim: &Claim,
-    boxes: &Boxes,
-    table: &Table,
-) -> Result<(), FlowFault>
+fn accepted(alloc: Global, claim: &Claim, boxes: &Boxes, table: &Table) -> Result<(), FlowFault>
     requires { FitsBoxes boxes.now claim.now.net }
     ensures { IsWhole (outline boxes.now claim.now.net) claim.now.input table.now → Checked boxes.now claim.now result }
 {

@@ -143,7 +143,16 @@ fn visit_star(
     add(alloc, &mut members, variant)?;
     let mut i = 0;
     while i < members.len() {
-        visit_member(alloc, body, boxes, parts, exit, guard.is_some(), &mut members, i)?;
+        visit_member(
+            alloc,
+            body,
+            boxes,
+            parts,
+            exit,
+            guard.is_some(),
+            &mut members,
+            i,
+        )?;
         i += 1;
     }
     with_exit(alloc, members.as_slice(), exit)
