@@ -6,7 +6,7 @@ ghost use Rattle.sn_typing.specs.Outline.{template_variant};
 ghost use Rattle.sn_flow.specs.Visits.{ComponentFlows};
 
 use crate::indexed::Indexed;
-use crate::sets::{add, has_subset};
+use crate::sets::{add_union, has_subset};
 use crate::stop::Stop;
 use sn_list::{Memory, Seq};
 use sn_net::{BoxProgram, Filter, Template, variant_of};
@@ -31,8 +31,7 @@ fn component_flow(
     let rest = variant.minus(named)?;
     let mut flow = Indexed::new(alloc);
     for output in outputs {
-        let whole = output.union(&rest)?;
-        add(alloc, &mut flow, &whole)?;
+        add_union(alloc, &mut flow, output, &rest)?;
     }
     Ok(flow.into_seq())
 }

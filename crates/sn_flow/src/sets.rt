@@ -1,6 +1,7 @@
 //! Sets of variants, as lists in which none stands twice.
 ghost use Rattle.std.specs.Prelude.{◌≡◌, ◌∷◌, [], ◌&&◌};
 ghost use Rattle.std.specs.List.{list_any};
+ghost use Rattle.sn_record.specs.LabelSet.{union};
 ghost use Rattle.sn_types.specs.RecordType.{has_subset, is_same, is_subset};
 ghost use Rattle.sn_flow.specs.Visits.{Added, FoundAdded};
 
@@ -46,6 +47,19 @@ pub fn add(alloc: Global, sets: &mut Indexed<LabelSet>, variant: &LabelSet) -> R
     let copy = variant.copy()?;
     sets.push(alloc, copy)?;
     Ok(())
+}
+
+/// Adds the union of two variants, unless it is there.
+pub fn add_union(
+    alloc: Global,
+    sets: &mut Indexed<LabelSet>,
+    variant: &LabelSet,
+    more: &LabelSet,
+) -> Result<(), Stop>
+    ensures { Added sets.old (union variant.now more.now ∷ []) sets.new result }
+{
+    let whole = variant.union(more)?;
+    add(alloc, sets, &whole)
 }
 
 /// Adds a copy of each variant that is not there.

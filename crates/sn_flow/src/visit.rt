@@ -11,7 +11,7 @@ ghost use Rattle.sn_flow.specs.Visits.{FormVisited, PartVisited, PartVisitedAll,
 use crate::chosen::{chosen, has_face};
 use crate::flows::{box_flow, cell_flow, filter_flow};
 use crate::indexed::Indexed;
-use crate::sets::{MOST_VARIANTS, add, add_found, is_subset};
+use crate::sets::{MOST_VARIANTS, add, add_found, add_union, is_subset};
 use crate::stop::Stop;
 use crate::table::{Table, add_row, has_row, put_back, take_out};
 use sn_list::Seq;
@@ -259,8 +259,7 @@ fn with_exit(alloc: Global, members: &[LabelSet], exit: &LabelSet) -> Result<Seq
 {
     let mut flow = Indexed::new(alloc);
     for member in members {
-        let whole = member.union(exit)?;
-        add(alloc, &mut flow, &whole)?;
+        add_union(alloc, &mut flow, member, exit)?;
     }
     Ok(flow.into_seq())
 }
