@@ -59,6 +59,13 @@ pub fn keep(kept: &mut Kept, now: Kept)
     drop(replace(kept, now));
 }
 
+/// Keeps what a cell holds.
+pub fn keep_cell(kept: &mut Kept, holding: Holding)
+    ensures { held kept.new ≡ keeping.At holding }
+{
+    drop(replace(kept, Kept::Cell(holding)));
+}
+
 /// What a cell with the patterns holds.
 pub fn into_holding(kept: Kept, alloc: Global, patterns: &[LabelSet]) -> Result<Holding, Memory>
     ensures { IfOk result (λ holding. holding ≡ state_or (new_cell patterns.now) (held kept)) }
