@@ -1,7 +1,7 @@
 -- What the functions that visit give, whatever those that they call answered.
-use Rattle.std.proofs.Common.{◌≡◌, ℕ, ◌+◌, ◌<◌, ◌≤◌, Bool, false, true, IsTrue, List, [], ◌∷◌, ◌++◌, length, get_or, take, refl, sym, ap, ◌∙◌, subst}
+use Rattle.std.proofs.Common.{◌≡◌, ℕ, ◌+◌, ◌<◌, Bool, false, IsTrue, List, length, get_or, refl, sym, ap, ◌∙◌, subst}
 use Rattle.std.specs.Prelude.{Ok, Err, Some, Result, slice_get, not, ◌&&◌}
-use Rattle.std.specs.List.{Contains, list_any}
+use Rattle.std.specs.List.{list_any}
 use Rattle.sn_record.specs.LabelSet.{Labels, contains}
 use Rattle.sn_types.specs.RecordType.{is_same, is_subset}
 use Rattle.sn_typing.specs.Outline.{Outline, Choice, Component, Series, Split, Star}
@@ -15,7 +15,7 @@ use Rattle.sn_flow.specs.declared.table.Table.{Table}
 use Rattle.sn_flow.specs.declared.table.Table.TheViews.{out-roll-Table, roll-Table}
 use Rattle.sn_flow.specs.Chosen.{sent_of}
 use Rattle.sn_flow.specs.Tables.{part_at, parts_of, rows_of}
-use Rattle.sn_flow.specs.Visits.{AllVisited, Closed, Closes, ComponentFlows, FormVisited, FoundAdded, PartVisited, PartVisitedAll, PutBack, Refuted, RowAdded, SameElsewhere, Turned, Visited, Visits, WithExit, after, beside, flow_in, row_of}
+use Rattle.sn_flow.specs.Visits.{AllVisited, Closed, Closes, ComponentFlows, FormVisited, FoundAdded, PartVisited, PartVisitedAll, PutBack, Refuted, RowAdded, SameElsewhere, Turned, Visited, Visits, WithExit, after, beside, flow_in}
 use Rattle.sn_flow.proofs.Goings.{Gone, going_goes, going_overflows, going_stops}
 use Rattle.sn_flow.proofs.Visiting.{Along, along_goes, along_overflows, along_stops, close_goes, close_overflows, close_stops, component_form, component_form_stops, exit_stops, series_form, series_left_stops, series_right_stops, split_form, split_stops, star_form, star_stops, visit_done}
 

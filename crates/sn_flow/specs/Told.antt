@@ -1,6 +1,5 @@
 -- What a table says of a network, as the answers that it leads to.
 use Rattle.std.specs.Prelude.{◌≡◌, ℕ, List, None, Some, Result, Ok, Err}
-use Rattle.sn_record.specs.LabelSet.{Labels}
 use Rattle.sn_net.specs.declared.net.Claim.{Claim}
 use Rattle.sn_typing.specs.Outline.{Outline}
 use Rattle.sn_flow.specs.declared.fault.FlowFault.{FlowFault}

@@ -136,12 +136,7 @@ pub fn of_parts(alloc: Global, first: Kept, second: Kept) -> Result<Kept, Memory
 }
 
 /// Keeps what both parts of a series keep.
-pub fn keep_parts(
-    kept: &mut Kept,
-    alloc: Global,
-    first: Taken,
-    second: Taken,
-) -> Result<(), Memory>
+pub fn keep_parts(kept: &mut Kept, alloc: Global, first: Taken, second: Taken) -> Result<(), Memory>
     ensures left { OnOk result (left_of (held kept.new) ≡ held first.state) }
     ensures right { OnOk result (right_of (held kept.new) ≡ held second.state) }
 {

@@ -266,15 +266,7 @@ fn pass_star(
         let before = out.begin(walk.alloc);
         pass(walk, body, &mut own.state, Flowing::Rec(taken), out)?;
         let made = out.end(before);
-        settle(
-            &mut levels,
-            &mut waiting,
-            level,
-            level + 1,
-            own,
-            made,
-            out,
-        )?;
+        settle(&mut levels, &mut waiting, level, level + 1, own, made, out)?;
     }
     keep(kept, Kept::Levels(levels));
     Ok(())

@@ -42,12 +42,7 @@ pub fn put_at(states: &mut Vec<Kept>, i: usize, state: Kept) -> Result<(), Memor
 }
 
 /// Keeps what the branches of a choice keep, with a state for one of them.
-pub fn keep_branch(
-    kept: &mut Kept,
-    branches: Vec<Kept>,
-    i: usize,
-    own: Taken,
-) -> Result<(), Memory>
+pub fn keep_branch(kept: &mut Kept, branches: Vec<Kept>, i: usize, own: Taken) -> Result<(), Memory>
     ensures put { OnOk result (child_of (held kept.new) (Branch i) ≡ held own.state) }
     ensures others { OnOk result ((j : ℕ) → j ≢ i → child_of (held kept.new) (Branch j) ≡ kept_at (map held branches.items) j) }
 {

@@ -1,17 +1,15 @@
-use Rattle.std.proofs.Common.{◌≡◌, ◌+◌, ◌<◌, ◌≤◌, ◌-◌, Bool, max, ◌∷◌, [], List, map, refl, sym, ap, ◌∙◌, subst, rules, arith}
+use Rattle.std.proofs.Common.{◌<◌, ◌≤◌, ◌-◌, Bool, max, ◌∷◌, [], List, map, refl, sym, ap, ◌∙◌, subst, rules, arith}
 use Rattle.std.proofs.Math.Nat.{max-le, le-max_left, le-max_right}
 use Rattle.std.proofs.lemmas.List.Elements.{All-get_or}
 use Rattle.std.proofs.lemmas.Result.{err_from_is_err_and}
-use Rattle.std.specs.Prelude.{Ok, Err, Some, Result}
+use Rattle.std.specs.Prelude.{Ok, Err, Some}
 use Rattle.std.specs.FinMap.{empty}
 use Rattle.sn_record.specs.LabelSet.{Labels}
 use Rattle.sn_net.specs.declared.net.Net.TheViews.{the_lemmas}
 use Rattle.sn_net.specs.Face.{variant_of}
 use Rattle.sn_net.specs.WellFormed.{FitsBoxes}
 use Rattle.sn_net.proofs.net.Net.TheLaws.{the_size}
-use Rattle.sn_typing.specs.Outline.{Choice, Outline, Series, Split, Star, branch_of, is_guarded, outline, template_variant}
-use Rattle.sn_flow.specs.declared.stop.Stop.{Stop}
-use Rattle.sn_flow.specs.declared.table.Table.{Table}
+use Rattle.sn_typing.specs.Outline.{Choice, Outline, Split, Star, branch_of, is_guarded, outline, template_variant}
 use Rattle.sn_flow.specs.Chosen.{chosen_of}
 use Rattle.sn_flow.specs.Tables.{part_at, rows_of}
 use Rattle.sn_flow.specs.Visits.{Closes, ComponentFlows, FormVisited, PartVisitedAll, Turned, beside}

@@ -15,7 +15,7 @@ use Rattle.sn_pass.specs.Levels.{entries}
 use Rattle.sn_pass.specs.Output.{given}
 use Rattle.sn_pass.specs.States.{at_value, held}
 use Rattle.sn_pass.proofs.Arms.{always_ok, both_ok, child_passes, choice_goes_to, choice_none, choice_some, chosen_here, goes_through, is_series, passes_all_at, serial_arm, split_none, split_some, star_arm, whole_range}
-use Rattle.sn_pass.proofs.States.{held-Branches, held-Levels, replica_held}
+use Rattle.sn_pass.proofs.States.{held-Levels}
 use Rattle.sn_pass.proofs.StarLoop.{IsSoFar, at_levels, enters_turned, leaves_turned, so_far_begins, so_far_ends, so_far_enters, so_far_leaves, top_within, turned_falls}
 use Rattle.std.proofs.lemmas.Int.{to_z-of_z}
 use Rattle.std.proofs.lemmas.Result.{on_ok_weaker}
