@@ -129,7 +129,7 @@ pub fn put_part(
 {
     let all = padded(alloc, parts, i)?;
     let mut all = all.into_vec();
-    all[i] = part;
+    drop(mem::replace(&mut all[i], part));
     Ok(Seq::from_vec(all))
 }
 
