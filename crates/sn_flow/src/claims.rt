@@ -7,7 +7,6 @@ ghost use Rattle.sn_flow.specs.Verdicts.{Checked, FlowFound};
 ghost use Rattle.sn_flow.specs.Told.{Declared, Routed, fault_of};
 
 use crate::fault::FlowFault;
-use crate::flows::one_set;
 use crate::indexed::Indexed;
 use crate::spots::{bad_spot, unrouted_spot};
 use crate::stop::Stop;
@@ -17,6 +16,7 @@ use sn_list::Seq;
 use sn_net::{Boxes, Claim, Net, ascending};
 use sn_record::LabelSet;
 use std::alloc::Global;
+use std::slice::from_ref;
 
 /// Why there is no table.
 fn stopped(place: u32, stop: Stop) -> FlowFault
@@ -97,8 +97,7 @@ pub fn flow(
     requires { FitsBoxes boxes.now net.now }
     ensures { FlowFound (outline boxes.now net.now) variant.now result }
 {
-    let input = one_set(alloc, variant)?;
-    match visit_each(alloc, net, boxes, input.as_slice()) {
+    match visit_each(alloc, net, boxes, from_ref(variant)) {
         Err(stop) => Err(stopped(0, stop)),
         Ok(table) => flow_in(alloc, net, boxes, &table, variant),
     }
