@@ -1,6 +1,7 @@
 -- The soonest spot, row by row and part by part.
-use Rattle.std.proofs.Common.{◌≡◌, ℕ, zero, suc, ◌+◌, ◌<◌, Bool, true, false, List, ◌∷◌, ◌++◌, length, get_or, drop, Option, sym, ap, ◌∙◌, subst, arith}
-use Rattle.std.specs.Prelude.{if◌then◌else◌, Result, Ok, Err, IfOk}
+use Rattle.std.proofs.Common.{◌≡◌, ℕ, zero, suc, ◌+◌, ◌<◌, Bool, true, false, List, ◌∷◌, ◌++◌, length, get_or, drop, Option, Some, None, sym, ap, ◌∙◌, subst, arith}
+use Rattle.std.specs.Prelude.{if◌then◌else◌, Result, Ok, Err, OnOk}
+use Rattle.std.specs.Ordering.{is_lt}
 use Rattle.std.proofs.lemmas.List.{drop_more}
 use Rattle.sn_record.specs.LabelSet.{Labels}
 use Rattle.sn_typing.specs.Outline.{Outline, Component, Series, Choice, Star, Split}
@@ -9,7 +10,7 @@ use Rattle.sn_flow.specs.declared.table.Row.{Row}
 use Rattle.sn_flow.specs.declared.table.Table.{Table}
 use Rattle.sn_flow.specs.Tables.{child, rows_of}
 use Rattle.sn_flow.specs.Visits.{flow_in}
-use Rattle.sn_flow.specs.Spots.{bad_spots, flow_spots, is_routed, joined, least, place_of, row_spots, sooner, spot, spots}
+use Rattle.sn_flow.specs.Spots.{bad_spots, flow_spots, is_routed, joined, least, place_of, row_spots, sooner, spot, spot_cmp, spots}
 use Rattle.sn_flow.proofs.Least.{least_append}
 
 dropped : {X : Type 0} (xs : List X) (i : ℕ) (x : X) → i < length xs → get_or xs i x ≡ x → drop i xs ≡ x ∷ drop (i + 1) xs
@@ -40,9 +41,22 @@ module _ (net : Outline) (rows : List Row) (i : ℕ) (row : Row) (best whole : O
       ap (λ (b : Option Spot). least b (row_spots net (drop (i + 1) rows))) (last_is ∙ ap (λ (q : ℕ). sooner best (spot q row.variant)) p_is)
       ∙ ap (λ (b : Bool). least best (if b then row_spots net (drop (i + 1) rows) else spot (place_of net) row.variant ∷ row_spots net (drop (i + 1) rows))) (sym nay) ∙ tested
 
-pub weaker : {A E : Type 0} (P Q : A → Type 0) (r : Result A E) → ((x : A) → P x → Q x) → IfOk r P → IfOk r Q
-weaker P Q (Ok x) f p = f x p
-weaker P Q (Err e) f p = p
+pub softer : {A E : Type 0} (P Q : Type 0) (r : Result A E) → (P → Q) → OnOk r P → OnOk r Q
+softer P Q (Ok x) f p = f p
+softer P Q (Err e) f p = p
+
+-- the best so far, and one more
+pub better_some : (best : Option Spot) (b s : Spot) (r : Bool) → best ≡ Some b → r ≡ is_lt (spot_cmp s b) → sooner best s ≡ (if r then Some s else best)
+better_some best b s r is test = ap (λ (o : Option Spot). sooner o s) is ∙ ap (λ (t : Bool). if t then Some s else Some b) (sym test) ∙ ap (λ (o : Option Spot). if r then Some s else o) (sym is)
+
+pub better_none : (best : Option Spot) (s : Spot) → best ≡ None → sooner best s ≡ Some s
+better_none best s is = ap (λ (o : Option Spot). sooner o s) is
+
+pub best_stays : (best : Option Spot) (s : Spot) (r : Bool) → sooner best s ≡ (if r then Some s else best) → r ≡ false → best ≡ sooner best s
+best_stays best s r is test = sym (is ∙ ap (λ (t : Bool). if t then Some s else best) test)
+
+pub best_goes : (best last : Option Spot) (s found : Spot) (r : Bool) → sooner best s ≡ (if r then Some s else best) → r ≡ true → found ≡ s → last ≡ Some found → last ≡ sooner best s
+best_goes best last s found r is test same new = new ∙ ap (λ (x : Spot). Some x) same ∙ sym (is ∙ ap (λ (t : Bool). if t then Some s else best) test)
 
 module _ (net : Outline) (t : Table) (best own : Option Spot) (rows : List Row) (rows_is : rows ≡ rows_of t) (start : own ≡ least best (row_spots net rows)) where
   begun : own ≡ least best (row_spots net (rows_of t))

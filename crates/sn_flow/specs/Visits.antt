@@ -1,5 +1,5 @@
 -- What a visit of a part with a variant makes of its table, and when it stops.
-use Rattle.std.specs.Prelude.{◌≡◌, ◌↔◌, ◌⊎◌, ℕ, Bool, ◌≤◌, List, [], ◌∷◌, ◌++◌, length, map, take, if◌then◌else◌, Result, Ok, Err}
+use Rattle.std.specs.Prelude.{◌≡◌, ◌↔◌, ◌⊎◌, ℕ, ◌+◌, Bool, ◌≤◌, List, [], ◌∷◌, ◌++◌, length, map, take, if◌then◌else◌, Result, Ok, Err}
 use Rattle.std.specs.List.{Contains}
 use Rattle.sn_record.specs.LabelSet.{Labels, union}
 use Rattle.sn_typing.specs.Outline.{Outline, Component, Star}
@@ -30,6 +30,16 @@ Visited net v before (Ok t) = Visits net v before t
 Visited net v before (Err TooMany) = Refuted net v before
 Visited net v before (Err Memory) = Unit {0}
 
+-- what was changed, beside why no more was done
+abbrev pub after : {X : Type 0} → X → Result (Unit {0}) Stop → Result X Stop
+after x (Ok done) = Ok x
+after x (Err stop) = Err stop
+
+-- what was changed, beside what was answered
+abbrev pub beside : {X Y : Type 0} → X → Result Y Stop → Result (X × Y) Stop
+beside x (Ok y) = Ok (x, y)
+beside x (Err stop) = Err stop
+
 -- the same for each variant of a list
 pub record VisitsAll (net : Outline) (vs : List Labels) (before t : Table) : Type 0 where
   pub holds : Holds net before → Holds net t
@@ -57,6 +67,12 @@ abbrev pub Added : List Labels → List Labels → List Labels → Result (Unit 
 Added before more after (Ok done) = Adds before more after
 Added before more after (Err TooMany) = Overflows before more
 Added before more after (Err Memory) = Unit {0}
+
+-- the same of what was found, if anything was
+abbrev pub FoundAdded : List Labels → Result (List Labels) Stop → List Labels → Result (Unit {0}) Stop → Type 0
+FoundAdded before (Ok more) after_it done = Added before more after_it done
+FoundAdded before (Err stop) after_it (Ok done) = ⊥
+FoundAdded before (Err stop) after_it (Err again) = again ≡ stop
 
 -- it stops where the network that the part stands in is not bounded, if each of the variants reaches the part
 abbrev pub RefutedAll : Outline → List Labels → Table → Type 0
@@ -125,6 +141,29 @@ flow_in (row ∷ rows) v = if is_same row.variant v then row.flow else flow_in r
 abbrev pub SameElsewhere : ℕ → List Table → List Table → Type 0
 SameElsewhere i before parts = (j : ℕ) → (j ≡ i → ⊥) → part_at parts j ≡ part_at before j
 
+-- the rows with one of the variant behind them
+abbrev pub RowAdded : List Row → Labels → List Labels → List Row → Result (Unit {0}) Stop → Type 0
+RowAdded before v flow rows (Ok done) = rows ≡ before ++ row_of v flow ∷ []
+RowAdded before v flow rows (Err TooMany) = ⊥
+RowAdded before v flow rows (Err Memory) = Unit {0}
+
+-- the i-th of the parts was put back after a visit, and its flow for the variant was read
+abbrev pub PutBack : List Table → ℕ → Table → Labels → Result (Unit {0}) Stop → List Table → Result (List Labels) Stop → Type 0
+PutBack before i part v visited parts (Ok flow) = (visited ≡ Ok tt) × (part_at parts i ≡ part) × SameElsewhere i before parts × (flow ≡ flow_in (rows_of part) v)
+PutBack before i part v visited parts (Err TooMany) = visited ≡ Err TooMany
+PutBack before i part v visited parts (Err Memory) = Unit {0}
+
+-- a visit of the i-th of some parts with the variant, and what is read of its flow
+abbrev pub PartVisited : Outline → ℕ → Labels → List Table → List Table → Result (List Labels) Stop → Type 0
+PartVisited net i v before parts (Ok flow) = Visits net v (part_at before i) (part_at parts i) × SameElsewhere i before parts × (flow ≡ flow_in (rows_of (part_at parts i)) v)
+PartVisited net i v before parts (Err TooMany) = Refuted net v (part_at before i)
+PartVisited net i v before parts (Err Memory) = Unit {0}
+
+-- the same with all variants of a list
+abbrev pub PartVisitedAll : Outline → ℕ → List Labels → List Table → List Table → Result (List Labels) Stop → Type 0
+PartVisitedAll net i vs before parts (Ok flow) = AllVisited net vs (part_at before i) (Ok (part_at parts i, flow)) × SameElsewhere i before parts
+PartVisitedAll net i vs before parts (Err stop) = AllVisited net vs (part_at before i) (Err stop)
+
 -- what a component that takes some variants, names some labels and has some outputs answers to a variant
 abbrev pub ComponentFlows : List Labels → Labels → List Labels → Labels → Result (List Labels) Stop → Type 0
 ComponentFlows takes named outputs v (Ok flow) = (place : ℕ) → IsFlow (Component place takes named outputs) v flow
@@ -142,6 +181,13 @@ abbrev pub Closed : Labels → Bool → Outline → Labels → Table → Result 
 Closed exit guarded body v before (Ok done) = Closes exit guarded body v before done.0 done.1
 Closed exit guarded body v before (Err TooMany) = (whole : Table) → child whole 0 ≡ before → Refuted (Star exit guarded body) v whole
 Closed exit guarded body v before (Err Memory) = Unit {0}
+
+-- a visit with the i-th member of a star's set that is being closed
+abbrev pub Turned : Labels → Bool → Outline → Labels → Table → ℕ → List Table → List Labels → List Table → List Labels → Result (Unit {0}) Stop → Type 0
+Turned exit guarded body v before i parts members parts' members' (Ok done) =
+    Closing exit guarded body v before (part_at parts 0) members i → Closing exit guarded body v before (part_at parts' 0) members' (i + 1)
+Turned exit guarded body v before i parts members parts' members' (Err stop) =
+    Closing exit guarded body v before (part_at parts 0) members i → Closed exit guarded body v before (Err stop)
 
 -- the members with the exit, each once
 abbrev pub WithExit : List Labels → Labels → Result (List Labels) Stop → Type 0

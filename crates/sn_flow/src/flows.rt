@@ -6,13 +6,14 @@ ghost use Rattle.sn_typing.specs.Outline.{template_variant};
 ghost use Rattle.sn_flow.specs.Visits.{ComponentFlows};
 
 use crate::indexed::Indexed;
-use crate::sets::{add, has_subset};
+use crate::sets::{add_union, has_subset};
 use crate::stop::Stop;
 use sn_list::{Memory, Seq};
 use sn_net::{BoxProgram, Filter, Template, variant_of};
 use sn_record::{Label, LabelSet};
 use sn_stack::append;
 use std::alloc::Global;
+use std::slice::from_ref;
 
 /// What a component answers to a variant: each output with what of the variant is not named, if one of those that it takes is a
 /// subset.
@@ -31,8 +32,7 @@ fn component_flow(
     let rest = variant.minus(named)?;
     let mut flow = Indexed::new(alloc);
     for output in outputs {
-        let whole = output.union(&rest)?;
-        add(alloc, &mut flow, &whole)?;
+        add_union(alloc, &mut flow, output, &rest)?;
     }
     Ok(flow.into_seq())
 }
@@ -72,16 +72,6 @@ fn template_sets(alloc: Global, templates: &[Template]) -> Result<Seq<LabelSet>,
     Ok(sets)
 }
 
-/// A list of the one set.
-pub fn one_set(alloc: Global, set: &LabelSet) -> Result<Seq<LabelSet>, Memory>
-    ensures { IfOk result (λ sets. sets ≡ set.now ∷ []) }
-{
-    let mut sets = Seq::new(alloc);
-    let copy = set.copy()?;
-    append(&mut sets, copy)?;
-    Ok(sets)
-}
-
 /// What a box answers.
 pub fn box_flow(
     alloc: Global,
@@ -91,9 +81,8 @@ pub fn box_flow(
     ensures { ComponentFlows (variant_of program.now.input ∷ []) (variant_of program.now.input) (map variant_of program.now.outputs) variant.now result }
 {
     let named = variant_of(alloc, program.input.as_slice())?;
-    let takes = one_set(alloc, &named)?;
     let outputs = sets_of(alloc, program.outputs.as_slice())?;
-    component_flow(alloc, takes.as_slice(), &named, outputs.as_slice(), variant)
+    component_flow(alloc, from_ref(&named), &named, outputs.as_slice(), variant)
 }
 
 /// What a filter answers.
@@ -104,11 +93,10 @@ pub fn filter_flow(
 ) -> Result<Seq<LabelSet>, Stop>
     ensures { ComponentFlows (filter.now.pattern ∷ []) filter.now.pattern (map template_variant filter.now.templates) variant.now result }
 {
-    let takes = one_set(alloc, &filter.pattern)?;
     let outputs = template_sets(alloc, filter.templates.as_slice())?;
     component_flow(
         alloc,
-        takes.as_slice(),
+        from_ref(&filter.pattern),
         &filter.pattern,
         outputs.as_slice(),
         variant,
@@ -124,6 +112,5 @@ pub fn cell_flow(
     ensures { ComponentFlows patterns.now empty (empty ∷ []) variant.now result }
 {
     let named = LabelSet::new(alloc);
-    let outputs = one_set(alloc, &named)?;
-    component_flow(alloc, patterns, &named, outputs.as_slice(), variant)
+    component_flow(alloc, patterns, &named, from_ref(&named), variant)
 }

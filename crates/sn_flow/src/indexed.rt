@@ -30,11 +30,20 @@ impl OfVariant for LabelSet {
 }
 
 /// A list in which no two are of one variant, seen as the list.
-#[derive(Drop)]
 pub struct Indexed<T: OfVariant> {
     list: Vec<T>,
     /// The place of each variant, by its labels.
     places: BTreeMap<Vec<Label>, usize>,
+}
+
+/// Written out, so that a function that gives a list up calls this, and is not proved over its parts.
+impl<T: OfVariant + Drop> Drop for Indexed<T> {
+    fn drop(self) {
+        let Indexed {
+            list: _list,
+            places: _places,
+        } = self;
+    }
 }
 
 impl<T: OfVariant> Model for Indexed<T> {
@@ -96,7 +105,10 @@ impl<T: OfVariant + Drop> Indexed<T> {
     pub fn into_seq(self) -> Seq<T>
         ensures { result ≡ self }
     {
-        let Indexed { list, .. } = self;
+        let Indexed {
+            list,
+            places: _places,
+        } = self;
         Seq::from_vec(list)
     }
 

@@ -1,11 +1,13 @@
 //! Sets of variants, as lists in which none stands twice.
 ghost use Rattle.std.specs.Prelude.{◌≡◌, ◌∷◌, [], ◌&&◌};
 ghost use Rattle.std.specs.List.{list_any};
+ghost use Rattle.sn_record.specs.LabelSet.{union};
 ghost use Rattle.sn_types.specs.RecordType.{has_subset, is_same, is_subset};
-ghost use Rattle.sn_flow.specs.Visits.{Added};
+ghost use Rattle.sn_flow.specs.Visits.{Added, FoundAdded};
 
 use crate::indexed::Indexed;
 use crate::stop::Stop;
+use sn_list::Seq;
 use sn_record::LabelSet;
 use std::alloc::Global;
 
@@ -47,6 +49,19 @@ pub fn add(alloc: Global, sets: &mut Indexed<LabelSet>, variant: &LabelSet) -> R
     Ok(())
 }
 
+/// Adds the union of two variants, unless it is there.
+pub fn add_union(
+    alloc: Global,
+    sets: &mut Indexed<LabelSet>,
+    variant: &LabelSet,
+    more: &LabelSet,
+) -> Result<(), Stop>
+    ensures { Added sets.old (union variant.now more.now ∷ []) sets.new result }
+{
+    let whole = variant.union(more)?;
+    add(alloc, sets, &whole)
+}
+
 /// Adds a copy of each variant that is not there.
 pub fn add_all(alloc: Global, sets: &mut Indexed<LabelSet>, more: &[LabelSet]) -> Result<(), Stop>
     ensures { Added sets.old more.now sets.new result }
@@ -55,4 +70,16 @@ pub fn add_all(alloc: Global, sets: &mut Indexed<LabelSet>, more: &[LabelSet]) -
         add(alloc, sets, variant)?;
     }
     Ok(())
+}
+
+/// Adds what was found, as `add_all` does, or passes on why there is nothing.
+pub fn add_found(
+    alloc: Global,
+    sets: &mut Indexed<LabelSet>,
+    found: Result<Seq<LabelSet>, Stop>,
+) -> Result<(), Stop>
+    ensures { FoundAdded sets.old found sets.new result }
+{
+    let more = found?;
+    add_all(alloc, sets, more.as_slice())
 }

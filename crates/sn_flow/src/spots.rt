@@ -1,19 +1,21 @@
 //! Spots: where a record finds no route, or leaves as it may not.
-ghost use Rattle.std.specs.Prelude.{◌≡◌, ◌∷◌, List, None, IfOk};
+ghost use Rattle.std.specs.Prelude.{◌≡◌, List, Some, IfOk, OnOk, if◌then◌else◌};
 ghost use Rattle.std.specs.Ordering.{is_lt};
 ghost use Rattle.sn_net.specs.declared.expr.BoxProgram.{BoxProgram};
 ghost use Rattle.sn_net.specs.WellFormed.{FitsBoxes};
 ghost use Rattle.sn_typing.specs.Outline.{outline};
+ghost use Rattle.sn_flow.specs.Tables.{no_table};
 ghost use Rattle.sn_flow.specs.Spots.{bad_spots, flow_spots, is_routed, least, place_of, row_spots, sooner, spot, spot_cmp, spots};
 
 use crate::chosen::has_face;
 use crate::indexed::Indexed;
 use crate::sets::{has_subset, is_subset};
-use crate::table::{Row, Table, flow_of, take_part};
+use crate::table::{Row, Table, flow_of, part_of};
 use sn_list::Memory;
 use sn_net::{Boxes, Net, compare, variant_of};
 use sn_record::{Kind, Label, LabelSet};
 use std::alloc::Global;
+use std::mem::replace;
 
 /// A place, and the variant that is refused there.
 #[derive(Drop)]
@@ -32,28 +34,26 @@ fn is_sooner(place: u32, variant: &LabelSet, other: &Spot) -> bool
         .is_lt()
 }
 
-/// The sooner of both.
-fn sooner(
-    alloc: Global,
-    best: Option<Spot>,
-    place: u32,
-    variant: &LabelSet,
-) -> Result<Option<Spot>, Memory>
-    ensures { IfOk result (λ found. found ≡ sooner best (spot place variant.now)) }
+/// Whether the variant at the place comes before the best, if there is one.
+fn is_better(place: u32, variant: &LabelSet, best: &Option<Spot>) -> bool
+    ensures { sooner best.now (spot place variant.now) ≡ (if result then Some (spot place variant.now) else best.now) }
 {
     match best {
-        Some(other) => {
-            if !is_sooner(place, variant, &other) {
-                return Ok(Some(other));
-            }
-            let variant = variant.copy()?;
-            Ok(Some(Spot { place, variant }))
-        }
-        None => {
-            let variant = variant.copy()?;
-            Ok(Some(Spot { place, variant }))
-        }
+        Some(other) => is_sooner(place, variant, other),
+        None => true,
     }
+}
+
+/// Keeps the sooner of both.
+fn keep_sooner(best: &mut Option<Spot>, place: u32, variant: &LabelSet) -> Result<(), Memory>
+    ensures { OnOk result (best.new ≡ sooner best.old (spot place variant.now)) }
+{
+    if !is_better(place, variant, best) {
+        return Ok(());
+    }
+    let variant = variant.copy()?;
+    drop(replace(best, Some(Spot { place, variant })));
+    Ok(())
 }
 
 /// The place of the network's own form.
@@ -93,102 +93,96 @@ fn is_routed(alloc: Global, net: &Net, boxes: &Boxes, variant: &LabelSet) -> Res
     }
 }
 
-/// The soonest of `best` and the rows without a route.
+/// Keeps the soonest of `best` and the rows without a route.
 fn row_spot(
     alloc: Global,
     net: &Net,
     boxes: &Boxes,
     rows: &[Row],
-    best: Option<Spot>,
-) -> Result<Option<Spot>, Memory>
+    best: &mut Option<Spot>,
+) -> Result<(), Memory>
     requires { FitsBoxes boxes.now net.now }
-    ensures { IfOk result (λ found. found ≡ least best (row_spots (outline boxes.now net.now) rows.now)) }
+    ensures { OnOk result (best.new ≡ least best.old (row_spots (outline boxes.now net.now) rows.now)) }
 {
-    let mut best = best;
     for row in rows {
-        if !is_routed(alloc, net, boxes, &row.variant)? {
-            best = sooner(alloc, best, place_of(net), &row.variant)?;
+        if is_routed(alloc, net, boxes, &row.variant)? {
+            continue;
         }
+        keep_sooner(best, place_of(net), &row.variant)?;
     }
-    Ok(best)
+    Ok(())
 }
 
-/// The soonest of `best` and the rows without a route, of the network and of all its parts.
+/// Keeps the soonest of `best` and the rows without a route, of the network and of all its parts. `nothing` is the table of a part
+/// that nothing reached.
 pub fn unrouted_spot(
     alloc: Global,
     net: &Net,
     boxes: &Boxes,
-    table: Table,
-    best: Option<Spot>,
-) -> Result<Option<Spot>, Memory>
-    requires { FitsBoxes boxes.now net.now }
-    ensures { IfOk result (λ found. found ≡ least best (spots (outline boxes.now net.now) table)) }
+    table: &Table,
+    nothing: &Table,
+    best: &mut Option<Spot>,
+) -> Result<(), Memory>
+    requires formed { FitsBoxes boxes.now net.now }
+    requires nothing { nothing.now ≡ no_table }
+    ensures { OnOk result (best.new ≡ least best.old (spots (outline boxes.now net.now) table.now)) }
 {
-    let Table { rows, parts } = table;
-    let mut best = row_spot(alloc, net, boxes, rows.as_slice(), best)?;
+    row_spot(alloc, net, boxes, table.rows.as_slice(), best)?;
+    let parts = table.parts.as_slice();
+    let part = part_of(parts, 0, nothing);
     match net {
-        Net::Box { .. } => Ok(best),
-        Net::Filter(_) => Ok(best),
-        Net::Sync { .. } => Ok(best),
+        Net::Box { .. } => Ok(()),
+        Net::Filter(_) => Ok(()),
+        Net::Sync { .. } => Ok(()),
         Net::Serial { left, right } => {
-            let (first, parts) = take_part(alloc, parts, 0);
-            let (second, _) = take_part(alloc, parts, 1);
-            let best = unrouted_spot(alloc, left.get(), boxes, first, best)?;
-            unrouted_spot(alloc, right.get(), boxes, second, best)
+            unrouted_spot(alloc, left.get(), boxes, part, nothing, best)?;
+            let second = part_of(parts, 1, nothing);
+            unrouted_spot(alloc, right.get(), boxes, second, nothing, best)
         }
         Net::Choice { branches, .. } => {
-            let mut parts = parts;
             for i in 0..branches.len() {
-                let (part, others) = take_part(alloc, parts, i);
-                best = unrouted_spot(alloc, branches.at(i), boxes, part, best)?;
-                parts = others;
+                let part = part_of(parts, i, nothing);
+                unrouted_spot(alloc, branches.at(i), boxes, part, nothing, best)?;
             }
-            Ok(best)
+            Ok(())
         }
-        Net::Star { body, .. } => {
-            let (inner, _) = take_part(alloc, parts, 0);
-            unrouted_spot(alloc, body.get(), boxes, inner, best)
-        }
-        Net::Split { body, .. } => {
-            let (inner, _) = take_part(alloc, parts, 0);
-            unrouted_spot(alloc, body.get(), boxes, inner, best)
-        }
+        Net::Star { body, .. } => unrouted_spot(alloc, body.get(), boxes, part, nothing, best),
+        Net::Split { body, .. } => unrouted_spot(alloc, body.get(), boxes, part, nothing, best),
     }
 }
 
-/// The soonest of `best` and the variants of the flow that have no subset in the output.
+/// Keeps the soonest of `best` and the variants of the flow that have no subset in the output.
 fn flow_spot(
-    alloc: Global,
     place: u32,
     output: &[LabelSet],
     flow: &[LabelSet],
-    best: Option<Spot>,
-) -> Result<Option<Spot>, Memory>
-    ensures { IfOk result (λ found. found ≡ least best (flow_spots place output.now flow.now)) }
+    best: &mut Option<Spot>,
+) -> Result<(), Memory>
+    ensures { OnOk result (best.new ≡ least best.old (flow_spots place output.now flow.now)) }
 {
-    let mut best = best;
     for variant in flow {
-        if !has_subset(output, variant) {
-            best = sooner(alloc, best, place, variant)?;
+        if has_subset(output, variant) {
+            continue;
         }
+        keep_sooner(best, place, variant)?;
     }
-    Ok(best)
+    Ok(())
 }
 
-/// The soonest of what flows out for the input and has no subset in the output.
+/// Keeps the soonest of `best` and what flows out for the input and has no subset in the output.
 pub fn bad_spot(
     alloc: Global,
     place: u32,
     output: &[LabelSet],
     rows: &Indexed<Row>,
     input: &[LabelSet],
-) -> Result<Option<Spot>, Memory>
-    ensures { IfOk result (λ found. found ≡ least None (bad_spots place output.now rows.now input.now)) }
+    best: &mut Option<Spot>,
+) -> Result<(), Memory>
+    ensures { OnOk result (best.new ≡ least best.old (bad_spots place output.now rows.now input.now)) }
 {
-    let mut best = None;
     for variant in input {
         let flow = flow_of(alloc, rows, variant)?;
-        best = flow_spot(alloc, place, output, flow.as_slice(), best)?;
+        flow_spot(place, output, flow.as_slice(), best)?;
     }
-    Ok(best)
+    Ok(())
 }

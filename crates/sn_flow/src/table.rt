@@ -1,10 +1,11 @@
-ghost use Rattle.std.specs.Prelude.{◌≡◌, ◌++◌, ◌∷◌, [], ◌<◌, ℕ, false, IfOk, length};
+ghost use Rattle.std.specs.Prelude.{◌≡◌, ◌<◌, ℕ, false, IfOk, length};
 ghost use Rattle.std.specs.List.{list_any};
 ghost use Rattle.sn_types.specs.RecordType.{is_same};
-ghost use Rattle.sn_flow.specs.Tables.{no_table, part_at, parts_of, rows_of};
-ghost use Rattle.sn_flow.specs.Visits.{SameElsewhere, flow_in, row_of};
+ghost use Rattle.sn_flow.specs.Tables.{no_table, part_at};
+ghost use Rattle.sn_flow.specs.Visits.{PutBack, RowAdded, SameElsewhere, flow_in};
 
 use crate::indexed::{Indexed, OfVariant};
+use crate::stop::Stop;
 use sn_list::{Memory, Seq};
 use sn_net::copy_sets;
 use sn_record::LabelSet;
@@ -65,35 +66,41 @@ pub fn flow_of(
     }
 }
 
-/// The table with a row more, of a new variant, and with these tables of its parts.
-pub fn with_row(
+/// Adds a row of a new variant.
+pub fn add_row(
     alloc: Global,
-    rows: Indexed<Row>,
-    parts: Seq<Table>,
+    rows: &mut Indexed<Row>,
     variant: &LabelSet,
     flow: Seq<LabelSet>,
-) -> Result<Table, Memory>
-    requires { list_any (λ row. is_same row.variant variant.now) rows ≡ false }
-    ensures rows { IfOk result (λ t. rows_of t ≡ rows ++ row_of variant.now flow ∷ []) }
-    ensures parts { IfOk result (λ t. parts_of t ≡ parts) }
+) -> Result<(), Stop>
+    requires { list_any (λ row. is_same row.variant variant.now) rows.old ≡ false }
+    ensures { RowAdded rows.old variant.now flow rows.new result }
 {
     let variant = variant.copy()?;
-    let mut rows = rows;
     rows.push(alloc, Row { variant, flow })?;
-    Ok(Table { rows, parts })
+    Ok(())
 }
 
-/// The i-th table, and the others.
-pub fn take_part(alloc: Global, parts: Seq<Table>, i: usize) -> (Table, Seq<Table>)
-    ensures part { result.0 ≡ part_at parts i }
-    ensures others { SameElsewhere i parts result.1 }
+/// The i-th table, or `nothing` where there is none.
+pub fn part_of<'a>(parts: &'a [Table], i: usize, nothing: &'a Table) -> &'a Table
+    requires { nothing.now ≡ no_table }
+    ensures { result.now ≡ part_at parts.now i }
 {
-    let mut parts = parts.into_vec();
-    if i < parts.len() {
-        let part = mem::replace(&mut parts[i], no_table(alloc));
-        return (part, Seq::from_vec(parts));
+    match parts.get(i) {
+        Some(part) => part,
+        None => nothing,
     }
-    (no_table(alloc), Seq::from_vec(parts))
+}
+
+/// Takes the i-th of the tables out.
+fn taken(alloc: Global, parts: &mut Vec<Table>, i: usize) -> Table
+    ensures part { result ≡ part_at parts.old.items i }
+    ensures others { SameElsewhere i parts.old.items parts.new.items }
+{
+    if i >= parts.len() {
+        return no_table(alloc);
+    }
+    mem::replace(&mut parts[i], no_table(alloc))
 }
 
 /// The tables, with tables of nothing behind them up to the i-th.
@@ -122,6 +129,36 @@ pub fn put_part(
 {
     let all = padded(alloc, parts, i)?;
     let mut all = all.into_vec();
-    all[i] = part;
+    drop(mem::replace(&mut all[i], part));
     Ok(Seq::from_vec(all))
+}
+
+/// Takes the i-th table out, and leaves the others.
+pub fn take_out(alloc: Global, parts: &mut Seq<Table>, i: usize) -> Table
+    ensures part { result ≡ part_at parts.old i }
+    ensures others { SameElsewhere i parts.old parts.new }
+{
+    let mut all = mem::replace(parts, Seq::new(alloc)).into_vec();
+    let part = taken(alloc, &mut all, i);
+    *parts = Seq::from_vec(all);
+    part
+}
+
+/// Puts the i-th table back after a visit with the variant, and answers a copy of the variant's flow, or why the visit stopped.
+pub fn put_back(
+    alloc: Global,
+    parts: &mut Seq<Table>,
+    i: usize,
+    part: Table,
+    variant: &LabelSet,
+    visited: Result<(), Stop>,
+) -> Result<Seq<LabelSet>, Stop>
+    requires { i < 64 }
+    ensures { PutBack parts.old i part variant.now visited parts.new result }
+{
+    visited?;
+    let flow = flow_of(alloc, &part.rows, variant)?;
+    let others = mem::replace(parts, Seq::new(alloc));
+    *parts = put_part(alloc, others, i, part)?;
+    Ok(flow)
 }

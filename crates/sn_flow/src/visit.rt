@@ -1,72 +1,63 @@
 //! Visits: what is reached from a variant, with each part's table.
-ghost use Rattle.std.specs.Prelude.{◌≡◌, ◌&&◌, ℕ, map, not};
+ghost use Rattle.std.specs.Prelude.{◌≡◌, ◌<◌, ◌&&◌, ℕ, length, map, not};
 ghost use Rattle.std.specs.List.{All};
+ghost use Rattle.sn_record.specs.LabelSet.{Labels};
 ghost use Rattle.sn_types.specs.RecordType.{is_subset};
 ghost use Rattle.sn_net.specs.WellFormed.{IsSoundChoice, FitsBoxes};
 ghost use Rattle.sn_typing.specs.Outline.{Choice, Series, Split, Star, branch_of, is_guarded, outline};
-ghost use Rattle.sn_flow.specs.Visits.{AllVisited, Closed, FormVisited, Visited, WithExit};
+ghost use Rattle.sn_flow.specs.declared.table.Table.{Table as SomeTable};
+ghost use Rattle.sn_flow.specs.Visits.{FormVisited, PartVisited, PartVisitedAll, Turned, Visited, WithExit, after, beside};
 
 use crate::chosen::{chosen, has_face};
 use crate::flows::{box_flow, cell_flow, filter_flow};
 use crate::indexed::Indexed;
-use crate::sets::{MOST_VARIANTS, add, add_all, is_subset};
+use crate::sets::{MOST_VARIANTS, add, add_found, add_union, is_subset};
 use crate::stop::Stop;
-use crate::table::{Table, flow_of, has_row, put_part, take_part, with_row};
+use crate::table::{Table, add_row, has_row, put_back, take_out};
 use sn_list::Seq;
 use sn_net::{Boxes, Net, TagExpr};
 use sn_record::{Kind, Label, LabelSet};
 use std::alloc::Global;
 
-/// The table after a visit of the network with the variant.
+/// Visits the network with the variant: its table has a row for the variant then.
 #[cycle(visits)]
 pub fn visit(
     alloc: Global,
     net: &Net,
     boxes: &Boxes,
-    table: Table,
+    table: &mut Table,
     variant: &LabelSet,
-) -> Result<Table, Stop>
+) -> Result<(), Stop>
     requires { FitsBoxes boxes.now net.now }
-    ensures { Visited (outline boxes.now net.now) variant.now table result }
+    ensures { Visited (outline boxes.now net.now) variant.now table.old (after table.new result) }
 {
     let known = has_row(alloc, &table.rows, variant)?;
     if known {
-        return Ok(table);
+        return Ok(());
     }
     if table.rows.len() >= MOST_VARIANTS {
         return Err(Stop::TooMany);
     }
-    let Table { rows, parts } = table;
-    let (parts, flow) = visit_form(alloc, net, boxes, parts, variant)?;
-    let whole = with_row(alloc, rows, parts, variant, flow)?;
-    Ok(whole)
+    let flow = visit_form(alloc, net, boxes, &mut table.parts, variant)?;
+    add_row(alloc, &mut table.rows, variant, flow)
 }
 
-/// The tables of the parts after a visit of the network with the variant, and what flows out.
+/// Visits the parts of the network as its form has it, and answers what flows out for the variant.
 #[cycle(visits)]
 fn visit_form(
     alloc: Global,
     net: &Net,
     boxes: &Boxes,
-    parts: Seq<Table>,
+    parts: &mut Seq<Table>,
     variant: &LabelSet,
-) -> Result<(Seq<Table>, Seq<LabelSet>), Stop>
+) -> Result<Seq<LabelSet>, Stop>
     requires { FitsBoxes boxes.now net.now }
-    ensures { FormVisited (outline boxes.now net.now) variant.now parts result }
+    ensures { FormVisited (outline boxes.now net.now) variant.now parts.old (beside parts.new result) }
 {
     match net {
-        Net::Box { number, .. } => {
-            let flow = box_flow(alloc, boxes.at(*number as usize), variant)?;
-            Ok((parts, flow))
-        }
-        Net::Filter(filter) => {
-            let flow = filter_flow(alloc, filter, variant)?;
-            Ok((parts, flow))
-        }
-        Net::Sync { patterns, .. } => {
-            let flow = cell_flow(alloc, patterns.as_slice(), variant)?;
-            Ok((parts, flow))
-        }
+        Net::Box { number, .. } => box_flow(alloc, boxes.at(*number as usize), variant),
+        Net::Filter(filter) => filter_flow(alloc, filter, variant),
+        Net::Sync { patterns, .. } => cell_flow(alloc, patterns.as_slice(), variant),
         Net::Serial { left, right } => {
             visit_series(alloc, left.get(), right.get(), boxes, parts, variant)
         }
@@ -97,21 +88,15 @@ fn visit_series(
     left: &Net,
     right: &Net,
     boxes: &Boxes,
-    parts: Seq<Table>,
+    parts: &mut Seq<Table>,
     variant: &LabelSet,
-) -> Result<(Seq<Table>, Seq<LabelSet>), Stop>
+) -> Result<Seq<LabelSet>, Stop>
     requires left { FitsBoxes boxes.now left.now }
     requires right { FitsBoxes boxes.now right.now }
-    ensures { FormVisited (Series (outline boxes.now left.now) (outline boxes.now right.now)) variant.now parts result }
+    ensures { FormVisited (Series (outline boxes.now left.now) (outline boxes.now right.now)) variant.now parts.old (beside parts.new result) }
 {
-    let (first, parts) = take_part(alloc, parts, 0);
-    let first = visit(alloc, left, boxes, first, variant)?;
-    let middle = flow_of(alloc, &first.rows, variant)?;
-    let parts = put_part(alloc, parts, 0, first)?;
-    let (second, parts) = take_part(alloc, parts, 1);
-    let (second, flow) = visit_all(alloc, right, boxes, second, middle.as_slice())?;
-    let parts = put_part(alloc, parts, 1, second)?;
-    Ok((parts, flow))
+    let middle = visit_part(alloc, left, boxes, parts, 0, variant)?;
+    visit_part_with(alloc, right, boxes, parts, 1, middle.as_slice())
 }
 
 /// The same for a choice of branches with these faces: each branch is visited with what is sent to it.
@@ -121,26 +106,23 @@ fn visit_choice(
     branches: &[Net],
     faces: &[Seq<LabelSet>],
     boxes: &Boxes,
-    parts: Seq<Table>,
+    parts: &mut Seq<Table>,
     variant: &LabelSet,
-) -> Result<(Seq<Table>, Seq<LabelSet>), Stop>
+) -> Result<Seq<LabelSet>, Stop>
     requires formed { All (FitsBoxes boxes.now) branches.now }
     requires sound { IsSoundChoice boxes.now branches.now faces.now }
-    ensures { (place : ℕ) → FormVisited (Choice place faces.now (branch_of (map (outline boxes.now) branches.now))) variant.now parts result }
+    ensures { (place : ℕ) → FormVisited (Choice place faces.now (branch_of (map (outline boxes.now) branches.now))) variant.now parts.old (beside parts.new result) }
 {
     if !has_face(faces, variant) {
-        return Ok((parts, Seq::new(alloc)));
+        return Ok(Seq::new(alloc));
     }
-    let mut parts = parts;
     let mut flow = Indexed::new(alloc);
     for i in 0..branches.len() {
         let sent = chosen(alloc, faces, i, variant, faces[i].as_slice())?;
-        let (part, others) = take_part(alloc, parts, i);
-        let (part, more) = visit_all(alloc, &branches[i], boxes, part, sent.as_slice())?;
-        add_all(alloc, &mut flow, more.as_slice())?;
-        parts = put_part(alloc, others, i, part)?;
+        let found = visit_part_with(alloc, &branches[i], boxes, parts, i, sent.as_slice());
+        add_found(alloc, &mut flow, found)?;
     }
-    Ok((parts, flow.into_seq()))
+    Ok(flow.into_seq())
 }
 
 /// The same for a star: its body is visited with all that comes and stays, and all that comes flows out, with the exit.
@@ -151,17 +133,29 @@ fn visit_star(
     exit: &LabelSet,
     guard: &Option<TagExpr>,
     boxes: &Boxes,
-    parts: Seq<Table>,
+    parts: &mut Seq<Table>,
     variant: &LabelSet,
-) -> Result<(Seq<Table>, Seq<LabelSet>), Stop>
+) -> Result<Seq<LabelSet>, Stop>
     requires { FitsBoxes boxes.now body.now }
-    ensures { FormVisited (Star exit.now (is_guarded guard.now) (outline boxes.now body.now)) variant.now parts result }
+    ensures { FormVisited (Star exit.now (is_guarded guard.now) (outline boxes.now body.now)) variant.now parts.old (beside parts.new result) }
 {
-    let (inner, parts) = take_part(alloc, parts, 0);
-    let (inner, members) = close(alloc, body, boxes, inner, exit, guard.is_some(), variant)?;
-    let flow = with_exit(alloc, members.as_slice(), exit)?;
-    let parts = put_part(alloc, parts, 0, inner)?;
-    Ok((parts, flow))
+    let mut members = Indexed::new(alloc);
+    add(alloc, &mut members, variant)?;
+    let mut i = 0;
+    while i < members.len() {
+        visit_member(
+            alloc,
+            body,
+            boxes,
+            parts,
+            exit,
+            guard.is_some(),
+            &mut members,
+            i,
+        )?;
+        i += 1;
+    }
+    with_exit(alloc, members.as_slice(), exit)
 }
 
 /// The same for a split, which has a route where the variant has its tag.
@@ -171,46 +165,61 @@ fn visit_split(
     body: &Net,
     tag: u32,
     boxes: &Boxes,
-    parts: Seq<Table>,
+    parts: &mut Seq<Table>,
     variant: &LabelSet,
-) -> Result<(Seq<Table>, Seq<LabelSet>), Stop>
+) -> Result<Seq<LabelSet>, Stop>
     requires { FitsBoxes boxes.now body.now }
-    ensures { (place : ℕ) → FormVisited (Split place tag (outline boxes.now body.now)) variant.now parts result }
+    ensures { (place : ℕ) → FormVisited (Split place tag (outline boxes.now body.now)) variant.now parts.old (beside parts.new result) }
 {
     let label = Label {
         kind: Kind::Tag,
         id: tag,
     };
     if !variant.contains(label) {
-        return Ok((parts, Seq::new(alloc)));
+        return Ok(Seq::new(alloc));
     }
-    let (inner, parts) = take_part(alloc, parts, 0);
-    let inner = visit(alloc, body, boxes, inner, variant)?;
-    let flow = flow_of(alloc, &inner.rows, variant)?;
-    let parts = put_part(alloc, parts, 0, inner)?;
-    Ok((parts, flow))
+    visit_part(alloc, body, boxes, parts, 0, variant)
 }
 
-/// The table after visits of the network with each of the variants, and what flows out for them together.
+/// Visits the i-th part with the variant, and answers what flows out of it.
 #[cycle(visits)]
-fn visit_all(
+fn visit_part(
     alloc: Global,
     net: &Net,
     boxes: &Boxes,
-    table: Table,
-    variants: &[LabelSet],
-) -> Result<(Table, Seq<LabelSet>), Stop>
-    requires { FitsBoxes boxes.now net.now }
-    ensures { AllVisited (outline boxes.now net.now) variants.now table result }
+    parts: &mut Seq<Table>,
+    i: usize,
+    variant: &LabelSet,
+) -> Result<Seq<LabelSet>, Stop>
+    requires formed { FitsBoxes boxes.now net.now }
+    requires few { i < 64 }
+    ensures { PartVisited (outline boxes.now net.now) i variant.now parts.old parts.new result }
 {
-    let mut table = table;
+    let mut part = take_out(alloc, parts, i);
+    let visited = visit(alloc, net, boxes, &mut part, variant);
+    put_back(alloc, parts, i, part, variant, visited)
+}
+
+/// Visits the i-th part with each of the variants, and answers what flows out of it for these together.
+#[cycle(visits)]
+fn visit_part_with(
+    alloc: Global,
+    net: &Net,
+    boxes: &Boxes,
+    parts: &mut Seq<Table>,
+    i: usize,
+    variants: &[LabelSet],
+) -> Result<Seq<LabelSet>, Stop>
+    requires formed { FitsBoxes boxes.now net.now }
+    requires few { i < 64 }
+    ensures { PartVisitedAll (outline boxes.now net.now) i variants.now parts.old parts.new result }
+{
     let mut flow = Indexed::new(alloc);
     for variant in variants {
-        table = visit(alloc, net, boxes, table, variant)?;
-        let more = flow_of(alloc, &table.rows, variant)?;
-        add_all(alloc, &mut flow, more.as_slice())?;
+        let found = visit_part(alloc, net, boxes, parts, i, variant);
+        add_found(alloc, &mut flow, found)?;
     }
-    Ok((table, flow.into_seq()))
+    Ok(flow.into_seq())
 }
 
 /// Whether records of the variant surely leave.
@@ -220,35 +229,28 @@ fn leaves(exit: &LabelSet, guarded: bool, variant: &LabelSet) -> bool
     !guarded && is_subset(exit, variant)
 }
 
-/// The table of a star's body after visits with all that comes from the variant and stays, and all that comes.
+/// Visits a star's body, its only part, with the i-th of what comes from the variant, if that stays, and adds what flows out.
 #[cycle(visits)]
-fn close(
+fn visit_member(
     alloc: Global,
-    net: &Net,
+    body: &Net,
     boxes: &Boxes,
-    table: Table,
+    parts: &mut Seq<Table>,
     exit: &LabelSet,
     guarded: bool,
-    variant: &LabelSet,
-) -> Result<(Table, Seq<LabelSet>), Stop>
-    requires { FitsBoxes boxes.now net.now }
-    ensures { Closed exit.now guarded (outline boxes.now net.now) variant.now table result }
+    members: &mut Indexed<LabelSet>,
+    i: usize,
+) -> Result<(), Stop>
+    requires formed { FitsBoxes boxes.now body.now }
+    requires there { i < length members.old }
+    ensures { (v : Labels) (before : SomeTable) → Turned exit.now guarded (outline boxes.now body.now) v before i parts.old members.old parts.new members.new result }
 {
-    let mut table = table;
-    let mut members = Indexed::new(alloc);
-    add(alloc, &mut members, variant)?;
-    for i in 0..MOST_VARIANTS {
-        if i >= members.len() {
-            return Ok((table, members.into_seq()));
-        }
-        let member = members.at(i).copy()?;
-        if !leaves(exit, guarded, &member) {
-            table = visit(alloc, net, boxes, table, &member)?;
-            let more = flow_of(alloc, &table.rows, &member)?;
-            add_all(alloc, &mut members, more.as_slice())?;
-        }
+    let member = members.at(i).copy()?;
+    if leaves(exit, guarded, &member) {
+        return Ok(());
     }
-    Ok((table, members.into_seq()))
+    let found = visit_part(alloc, body, boxes, parts, 0, &member);
+    add_found(alloc, members, found)
 }
 
 /// Each of the variants with the exit.
@@ -257,8 +259,7 @@ fn with_exit(alloc: Global, members: &[LabelSet], exit: &LabelSet) -> Result<Seq
 {
     let mut flow = Indexed::new(alloc);
     for member in members {
-        let whole = member.union(exit)?;
-        add(alloc, &mut flow, &whole)?;
+        add_union(alloc, &mut flow, member, exit)?;
     }
     Ok(flow.into_seq())
 }

@@ -22,7 +22,7 @@ pub fn visit_each(
 {
     let mut table = no_table(alloc);
     for variant in input {
-        table = visit(alloc, net, boxes, table, variant)?;
+        visit(alloc, net, boxes, &mut table, variant)?;
     }
     Ok(table)
 }

@@ -31,6 +31,41 @@ pub enum Kept {
     Replicas(BTreeMap<i64, Kept>),
 }
 
+/// What a part keeps, while it is taken out and an item goes through the part. Its `Drop` is written out, so that a function that gives
+/// it up calls this, and is not proved over each form of it.
+pub struct Taken {
+    pub state: Kept,
+}
+
+impl Taken {
+    pub fn into_inner(self) -> Kept
+        ensures { result ≡ self.state }
+    {
+        let Taken { state } = self;
+        state
+    }
+}
+
+impl Drop for Taken {
+    fn drop(self) {
+        let Taken { state: _state } = self;
+    }
+}
+
+/// Keeps something else.
+pub fn keep(kept: &mut Kept, now: Kept)
+    ensures { kept.new ≡ now }
+{
+    drop(replace(kept, now));
+}
+
+/// Keeps what a cell holds.
+pub fn keep_cell(kept: &mut Kept, holding: Holding)
+    ensures { held kept.new ≡ keeping.At holding }
+{
+    drop(replace(kept, Kept::Cell(holding)));
+}
+
 /// What a cell with the patterns holds.
 pub fn into_holding(kept: Kept, alloc: Global, patterns: &[LabelSet]) -> Result<Holding, Memory>
     ensures { IfOk result (λ holding. holding ≡ state_or (new_cell patterns.now) (held kept)) }
@@ -100,6 +135,16 @@ pub fn of_parts(alloc: Global, first: Kept, second: Kept) -> Result<Kept, Memory
     Ok(Kept::Parts(Box::new(alloc, (first, second))?))
 }
 
+/// Keeps what both parts of a series keep.
+pub fn keep_parts(kept: &mut Kept, alloc: Global, first: Taken, second: Taken) -> Result<(), Memory>
+    ensures left { OnOk result (left_of (held kept.new) ≡ held first.state) }
+    ensures right { OnOk result (right_of (held kept.new) ≡ held second.state) }
+{
+    let parts = of_parts(alloc, first.into_inner(), second.into_inner())?;
+    keep(kept, parts);
+    Ok(())
+}
+
 /// Takes out what the replica for a value keeps.
 pub fn take_replica(replicas: &mut BTreeMap<i64, Kept>, n: i64) -> Kept
     ensures taken { held result ≡ at_value replicas.old n }
@@ -125,4 +170,21 @@ pub fn put_replica(replicas: &mut BTreeMap<i64, Kept>, n: i64, state: Kept) -> R
         Ok(_) => Ok(()),
         Err(_) => Err(Memory),
     }
+}
+
+/// Keeps what the replicas keep, with a state for a value, for which nothing is kept.
+pub fn keep_replica(
+    kept: &mut Kept,
+    replicas: BTreeMap<i64, Kept>,
+    n: i64,
+    own: Taken,
+) -> Result<(), Memory>
+    requires { at_value replicas n ≡ keeping.Fresh }
+    ensures put { OnOk result (child_of (held kept.new) (Value n) ≡ held own.state) }
+    ensures others { OnOk result ((k : ℤ) → int_eq k n ≡ false → child_of (held kept.new) (Value k) ≡ at_value replicas k) }
+{
+    let mut replicas = replicas;
+    put_replica(&mut replicas, n, own.into_inner())?;
+    keep(kept, Kept::Replicas(replicas));
+    Ok(())
 }

@@ -14,7 +14,7 @@ ghost use Rattle.sn_pass.specs.Output.{given};
 ghost use Rattle.sn_pass.specs.States.{held};
 
 use crate::flowing::{Flowing, append_items, append_joined};
-use crate::kept::{Kept, into_holding};
+use crate::kept::{Kept, into_holding, keep_cell};
 use crate::output::Output;
 use crate::walk::Walk;
 use sn_boxrun::call_owned;
@@ -23,6 +23,7 @@ use sn_list::{Memory, Seq};
 use sn_net::Filter;
 use sn_record::{LabelSet, Record};
 use sn_stack::append;
+use sn_sync::Holding;
 use std::alloc::Global;
 use std::mem::replace;
 
@@ -117,7 +118,27 @@ pub fn pass_box(
     }
 }
 
-/// Offers a record to a cell, and appends what comes out, or that the record has no route, where it matches no pattern.
+/// Offers a record to what a cell holds, and appends what comes out, or that the record has no route, where it matches no pattern.
+fn offer(
+    place: u32,
+    patterns: &[LabelSet],
+    holding: &mut Holding,
+    taken: Record,
+    out: &mut Seq<Flowing>,
+) -> Result<(), Memory>
+    ensures gives { OnOk result (map flows out.new ≡ map flows out.old ++ cell_emits place patterns.now holding.old (model.Rec taken)) }
+    ensures keeps { OnOk result (holding.new ≡ cell_next patterns.now holding.old (model.Rec taken)) }
+{
+    if !holding.accepts(patterns, &taken) {
+        return append(out, Flowing::Stuck(place));
+    }
+    let Ok(came) = holding.offer(patterns, taken) else {
+        return Err(Memory);
+    };
+    append_joined(out, came)
+}
+
+/// The same, with what is kept for the cell.
 fn offer_record(
     alloc: Global,
     place: u32,
@@ -132,15 +153,9 @@ fn offer_record(
         ≡ cell_next patterns.now (state_or (new_cell patterns.now) (held kept.old)) (model.Rec taken)) }
 {
     let mut holding = into_holding(replace(kept, Kept::Fresh), alloc, patterns)?;
-    if !holding.accepts(patterns, &taken) {
-        *kept = Kept::Cell(holding);
-        return append(out, Flowing::Stuck(place));
-    }
-    let Ok(came) = holding.offer(patterns, taken) else {
-        return Err(Memory);
-    };
-    *kept = Kept::Cell(holding);
-    append_joined(out, came)
+    let offered = offer(place, patterns, &mut holding, taken, out);
+    keep_cell(kept, holding);
+    offered
 }
 
 /// Appends what a synchrocell gives for an item.

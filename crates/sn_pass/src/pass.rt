@@ -19,13 +19,13 @@ ghost use Rattle.sn_pass.specs.States.{held};
 use crate::dispatch::{choose, split, tap};
 use crate::flowing::Flowing;
 use crate::kept::{
-    Kept, into_branches, into_levels, into_parts, into_replicas, of_parts, put_replica,
-    take_replica,
+    Kept, Taken, into_branches, into_levels, into_parts, into_replicas, keep, keep_parts,
+    keep_replica, take_replica,
 };
 use crate::leaf::{pass_box, pass_cell, pass_filter};
 use crate::output::Output;
-use crate::slots::{put_at, take_at};
-use crate::waiting::{Waiting, wait};
+use crate::slots::{keep_branch, take_at};
+use crate::waiting::{Waiting, settle};
 use crate::walk::Walk;
 use sn_list::{Memory, Seq};
 use sn_net::Net;
@@ -99,13 +99,14 @@ fn pass_series(
     requires inputs { HasInputs walk.now }
     ensures { OnOk result (Passes (tree (setting_of walk.now.run.now) (Serial left.now right.now)) (held kept.old) (held kept.new) (flows item) (given out.old) (given out.new)) }
 {
-    let (mut first, mut second) = into_parts(replace(kept, Kept::Fresh));
+    let (left_state, right_state) = into_parts(replace(kept, Kept::Fresh));
+    let mut first = Taken { state: left_state };
+    let mut second = Taken { state: right_state };
     let before = out.begin(walk.alloc);
-    pass(walk, left, &mut first, item, out)?;
+    pass(walk, left, &mut first.state, item, out)?;
     let between = out.end(before);
-    pass_each(walk, right, &mut second, between, out)?;
-    *kept = of_parts(walk.alloc, first, second)?;
-    Ok(())
+    pass_each(walk, right, &mut second.state, between, out)?;
+    keep_parts(kept, walk.alloc, first, second)
 }
 
 /// An item through a choice: a record goes through the branch that it matches best, and all else passes the branches by.
@@ -194,11 +195,10 @@ fn pass_branch(
     ensures others { OnOk result ((j : ℕ) → j ≢ number → child_of (held kept.new) (Branch j) ≡ child_of (held kept.old) (Branch j)) }
 {
     let mut branches = into_branches(replace(kept, Kept::Fresh), walk.alloc);
-    let mut state = take_at(&mut branches, number as usize);
-    pass(walk, branch, &mut state, Flowing::Rec(taken), out)?;
-    put_at(&mut branches, number as usize, state)?;
-    *kept = Kept::Branches(branches);
-    Ok(())
+    let state = take_at(&mut branches, number as usize);
+    let mut own = Taken { state };
+    pass(walk, branch, &mut own.state, Flowing::Rec(taken), out)?;
+    keep_branch(kept, branches, number as usize, own)
 }
 
 /// A record through the replica for a value, with what is kept for it among the replicas of its split.
@@ -218,11 +218,10 @@ fn pass_replica(
     ensures others { OnOk result ((k : ℤ) → int_eq k value ≡ false → child_of (held kept.new) (Value k) ≡ child_of (held kept.old) (Value k)) }
 {
     let mut replicas = into_replicas(replace(kept, Kept::Fresh), walk.alloc);
-    let mut state = take_replica(&mut replicas, value);
-    pass(walk, body, &mut state, Flowing::Rec(taken), out)?;
-    put_replica(&mut replicas, value, state)?;
-    *kept = Kept::Replicas(replicas);
-    Ok(())
+    let state = take_replica(&mut replicas, value);
+    let mut own = Taken { state };
+    pass(walk, body, &mut own.state, Flowing::Rec(taken), out)?;
+    keep_replica(kept, replicas, value, own)
 }
 
 /// An item through a star: what comes to its levels is worked off from a list, so that calls go no deeper than the body's tree.
@@ -245,9 +244,9 @@ fn pass_star(
         (held kept.old) (held kept.new) (flows item) (given out.old) (given out.new)) }
 {
     let depth = walk.run.depth();
-    let mut levels = into_levels(replace(kept, Kept::Fresh), walk.alloc);
     let mut waiting = Vec::new(walk.alloc);
     waiting.push(Waiting { level: 0, item })?;
+    let mut levels = into_levels(replace(kept, Kept::Fresh), walk.alloc);
     while let Some(next) = waiting.pop() {
         let Waiting { level, item } = next;
         let taken = match tap(
@@ -262,14 +261,13 @@ fn pass_star(
             Some(taken) => taken,
             None => continue,
         };
-        let mut state = take_at(&mut levels, level as usize);
+        let state = take_at(&mut levels, level as usize);
+        let mut own = Taken { state };
         let before = out.begin(walk.alloc);
-        pass(walk, body, &mut state, Flowing::Rec(taken), out)?;
+        pass(walk, body, &mut own.state, Flowing::Rec(taken), out)?;
         let made = out.end(before);
-        put_at(&mut levels, level as usize, state)?;
-        let room = wait(&mut waiting, level + 1, made)?;
-        out.put_by(room)?;
+        settle(&mut levels, &mut waiting, level, level + 1, own, made, out)?;
     }
-    *kept = Kept::Levels(levels);
+    keep(kept, Kept::Levels(levels));
     Ok(())
 }

@@ -1,25 +1,17 @@
-use Rattle.std.proofs.Common.{◌≡◌, List, [], ◌∷◌, sym, ap, ◌∙◌, subst}
+use Rattle.std.proofs.Common.{List, Err, sym, subst}
 use Rattle.sn_record.specs.LabelSet.{Labels}
-use Rattle.sn_net.specs.Face.{ascending}
 use Rattle.sn_typing.specs.Outline.{outline}
-use Rattle.sn_flow.specs.Tables.{rows_of}
-use Rattle.sn_flow.specs.Visits.{flow_in}
-use Rattle.sn_flow.specs.Whole.{IsWhole}
-use Rattle.sn_flow.specs.Verdicts.{IsFlowOf, IsSafe}
-use Rattle.sn_flow.proofs.Deciding.{flow_found, no_route}
+use Rattle.sn_flow.specs.declared.fault.FlowFault.{FlowFault}
+use Rattle.sn_flow.specs.Verdicts.{FlowFound}
+use Rattle.sn_flow.specs.Whole.{EachVisited, IsWhole}
+use Rattle.sn_flow.proofs.Telling.{flow_stopped}
 use Rattle.sn_flow.proofs.claims.flow.Goals as goal
 
-pub returns-in-Some : goal.returns-in-Some
-returns-in-Some c =
-    no_route (outline c.args.boxes.now c.args.net.now) (c.args.variant.now ∷ []) c.in-Ok.table
-    (subst (λ (vs : List Labels). IsWhole (outline c.args.boxes.now c.args.net.now) vs c.in-Ok.table) (c.as_slice.ensures ∙ c.in_ok-input.ensures) c.in-Ok.ensures)
-    c.in-Some.spot (sym c.in_ok-spot-in-Ok.ensures ∙ c.in-Some.is)
+pub returns-in-Err : goal.returns-in-Err
+returns-in-Err c =
+    subst (λ (f : FlowFault). FlowFound (outline c.args.boxes.now c.args.net.now) c.args.variant.now (Err f)) (sym c.stopped.ensures)
+    (flow_stopped (outline c.args.boxes.now c.args.net.now) c.args.variant.now c.in-Err.stop
+    (subst (λ (vs : List Labels). EachVisited (outline c.args.boxes.now c.args.net.now) vs (Err c.in-Err.stop)) c.from_ref.ensures.value c.in-Err.ensures))
 
-pub returns : goal.returns
-returns c =
-    let is : c.ascending.result ≡ ascending (flow_in (rows_of c.in-Ok.table) c.args.variant.now) =
-    c.ascending.ensures ∙ ap ascending c.in_ok-flow-in-Ok.ensures in
-    subst (λ (us : List Labels). IsSafe (outline c.args.boxes.now c.args.net.now) (c.args.variant.now ∷ []) × IsFlowOf (outline c.args.boxes.now c.args.net.now) c.args.variant.now us) (sym is)
-    (flow_found (outline c.args.boxes.now c.args.net.now) c.args.variant.now c.in-Ok.table
-    (subst (λ (vs : List Labels). IsWhole (outline c.args.boxes.now c.args.net.now) vs c.in-Ok.table) (c.as_slice.ensures ∙ c.in_ok-input.ensures) c.in-Ok.ensures)
-    (sym c.in_ok-spot-in-Ok.ensures ∙ c.in-None.is))
+pub returns-in-Ok : goal.returns-in-Ok
+returns-in-Ok c = c.flow_in.ensures (subst (λ (vs : List Labels). IsWhole (outline c.args.boxes.now c.args.net.now) vs c.in-Ok.table) c.from_ref.ensures.value c.in-Ok.ensures)

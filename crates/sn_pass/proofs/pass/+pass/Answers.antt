@@ -15,7 +15,7 @@ use Rattle.sn_pass.specs.Levels.{entries}
 use Rattle.sn_pass.specs.Output.{given}
 use Rattle.sn_pass.specs.States.{at_value, held}
 use Rattle.sn_pass.proofs.Arms.{always_ok, both_ok, child_passes, choice_goes_to, choice_none, choice_some, chosen_here, goes_through, is_series, passes_all_at, serial_arm, split_none, split_some, star_arm, whole_range}
-use Rattle.sn_pass.proofs.States.{held-Branches, held-Levels, replica_held}
+use Rattle.sn_pass.proofs.States.{held-Levels}
 use Rattle.sn_pass.proofs.StarLoop.{IsSoFar, at_levels, enters_turned, leaves_turned, so_far_begins, so_far_ends, so_far_enters, so_far_leaves, top_within, turned_falls}
 use Rattle.std.proofs.lemmas.Int.{to_z-of_z}
 use Rattle.std.proofs.lemmas.Result.{on_ok_weaker}
@@ -35,7 +35,7 @@ use Rattle.sn_pass.specs.declared.kept.Kept.TheVariants as kept
 use Rattle.sn_streams.specs.Keys.{Branch, Value}
 use Rattle.sn_pass.proofs.Passed.{through_none}
 use Rattle.sn_net.proofs.Fits.{box_there, filter_closed}
-use Rattle.sn_model.specs.Run.{boxes_of, setting_of}
+use Rattle.sn_model.specs.Run.{boxes_of, depth_of, setting_of}
 use Rattle.sn_pass.proofs.Parts.{at_choice, at_split, at_star, branch_at_place, branch_stands, branch_there, left_fits, right_fits, split_body_fits, star_body_fits}
 use Rattle.sn_pass.proofs.pass.+pass.Goals as goal
 
@@ -120,15 +120,16 @@ pass_series-pass_each-requires t c = (omega (arith, le-max_right (the_size c.arg
 
 pub pass_series-returns : goal.pass_series-returns
 pass_series-returns t c =
-    serial_arm (setting_of c.args.walk.now.run.now) c.args.left.now c.args.right.now (held c.args.kept.now) (held c.in_ok-kept.field-0)
-    (held c.into_parts-first.result.0) (held c.into_parts-first.result.1) (held c.pass.new.kept) (held c.pass_each.new.kept) (flows c.args.item)
+    both_ok c.keep_parts.result _ _ _
+    (serial_arm (setting_of c.args.walk.now.run.now) c.args.left.now c.args.right.now (held c.args.kept.now) (held c.keep_parts.new.kept)
+    (held c.into_parts-left_state.result.0) (held c.into_parts-left_state.result.1) (held c.pass.new.kept) (held c.pass_each.new.kept) (flows c.args.item)
     (given c.pass.new.out) (given c.args.out.now) (given c.pass_each.new.out) (given c.begin-before.new.self)
-    (c.into_parts-first.ensures.left ∙ ap (λ (k : Kept). left_of (held k)) c.replace.ensures.value)
-    (c.into_parts-first.ensures.right ∙ ap (λ (k : Kept). right_of (held k)) c.replace.ensures.value) (ap (map flows) c.begin-before.ensures.anew)
+    (c.into_parts-left_state.ensures.left ∙ ap (λ (k : Kept). left_of (held k)) c.replace.ensures.value)
+    (c.into_parts-left_state.ensures.right ∙ ap (λ (k : Kept). right_of (held k)) c.replace.ensures.value) (ap (map flows) c.begin-before.ensures.anew)
     c.in_ok-pass.ensures
-    (passes_all_at (tree (setting_of c.args.walk.now.run.now) c.args.right.now) (held c.into_parts-first.result.1) (held c.pass_each.new.kept) _ _ _ _ (given c.pass_each.new.out)
-    (ap (map flows) c.end-between.ensures.since) (ap (map flows) (c.end-between.ensures.back ∙ c.begin-before.ensures.before)) c.in_ok-pass_each.ensures)
-    c.in_ok-kept.ensures.left c.in_ok-kept.ensures.right
+    (passes_all_at (tree (setting_of c.args.walk.now.run.now) c.args.right.now) (held c.into_parts-left_state.result.1) (held c.pass_each.new.kept) _ _ _ _ (given c.pass_each.new.out)
+    (ap (map flows) c.end-between.ensures.since) (ap (map flows) (c.end-between.ensures.back ∙ c.begin-before.ensures.before)) c.in_ok-pass_each.ensures))
+    c.keep_parts.ensures.left c.keep_parts.ensures.right
 
 pub pass_choice-choose-requires : goal.pass_choice-choose-requires
 pass_choice-choose-requires t c =
@@ -214,34 +215,42 @@ pass_each-returns t c =
 
 pub pass_branch-returns-clause-passes : goal.pass_branch-returns-clause-passes
 pass_branch-returns-clause-passes t c =
-    child_passes (tree (setting_of c.args.walk.now.run.now) c.args.branch.now) (held c.take_at-state.result) (child_of (held c.args.kept.now) (Branch c.args.number)) (held c.pass.new.kept)
-    (child_of (held (kept.Branches c.put_at.new.states)) (Branch c.args.number)) (Rec c.args.taken) (given c.args.out.now) (given c.pass.new.out)
+    on_ok_weaker c.keep_branch.result
+    (λ put. child_passes (tree (setting_of c.args.walk.now.run.now) c.args.branch.now) (held c.take_at-state.result) (child_of (held c.args.kept.now) (Branch c.args.number)) (held c.pass.new.kept)
+    (child_of (held c.keep_branch.new.kept) (Branch c.args.number)) (Rec c.args.taken) (given c.args.out.now) (given c.pass.new.out)
     (c.take_at-state.ensures.taken ∙ c.into_branches-branches.ensures c.args.number ∙ ap (λ (k : Kept). child_of (held k) (Branch c.args.number)) c.replace.ensures.value)
-    (held-Branches c.put_at.new.states c.args.number ∙ c.in_ok-put_at.ensures.put) c.in_ok-pass.ensures
+    put c.in_ok-pass.ensures) c.keep_branch.ensures.put
 
 pub pass_branch-returns-clause-others : goal.pass_branch-returns-clause-others
-pass_branch-returns-clause-others t c j apart =
-    held-Branches c.put_at.new.states j ∙ c.in_ok-put_at.ensures.others j apart ∙ c.take_at-state.ensures.others j apart
-    ∙ c.into_branches-branches.ensures j ∙ ap (λ (k : Kept). child_of (held k) (Branch j)) c.replace.ensures.value
+pass_branch-returns-clause-others t c =
+    on_ok_weaker c.keep_branch.result
+    (λ others j apart. others j apart ∙ c.take_at-state.ensures.others j apart ∙ c.into_branches-branches.ensures j ∙ ap (λ (k : Kept). child_of (held k) (Branch j)) c.replace.ensures.value)
+    c.keep_branch.ensures.others
+
+pub pass_replica-keep_replica-requires : goal.pass_replica-keep_replica-requires
+pass_replica-keep_replica-requires t c = c.take_replica-state.ensures.gone
 
 pub pass_replica-returns-clause-passes : goal.pass_replica-returns-clause-passes
 pass_replica-returns-clause-passes t c =
     let fits : FitsSigned w64 c.args.value = search rules in
     let same = to_z-of_z w64 c.args.value fits in
-    child_passes (tree (setting_of c.args.walk.now.run.now) c.args.body.now) (held c.take_replica-state.result) (child_of (held c.args.kept.now) (Value c.args.value)) (held c.pass.new.kept)
-    (child_of (held (kept.Replicas c.put_replica.new.replicas)) (Value c.args.value)) (Rec c.args.taken) (given c.args.out.now) (given c.pass.new.out)
+    on_ok_weaker c.keep_replica.result
+    (λ put. child_passes (tree (setting_of c.args.walk.now.run.now) c.args.body.now) (held c.take_replica-state.result) (child_of (held c.args.kept.now) (Value c.args.value)) (held c.pass.new.kept)
+    (child_of (held c.keep_replica.new.kept) (Value c.args.value)) (Rec c.args.taken) (given c.args.out.now) (given c.pass.new.out)
     (subst (λ z. held c.take_replica-state.result ≡ at_value c.into_replicas-replicas.result z) same c.take_replica-state.ensures.taken
     ∙ c.into_replicas-replicas.ensures c.args.value ∙ ap (λ (k : Kept). child_of (held k) (Value c.args.value)) c.replace.ensures.value)
-    (replica_held c.put_replica.new.replicas c.args.value ∙ subst (λ z. at_value c.put_replica.new.replicas z ≡ held c.pass.new.kept) same c.in_ok-put_replica.ensures.put) c.in_ok-pass.ensures
+    (subst (λ z. child_of (held c.keep_replica.new.kept) (Value z) ≡ held c.pass.new.kept) same put) c.in_ok-pass.ensures)
+    c.keep_replica.ensures.put
 
 pub pass_replica-returns-clause-others : goal.pass_replica-returns-clause-others
-pass_replica-returns-clause-others t c k other =
+pass_replica-returns-clause-others t c =
     let fits : FitsSigned w64 c.args.value = search rules in
     let same = to_z-of_z w64 c.args.value fits in
-    replica_held c.put_replica.new.replicas k
-    ∙ subst (λ z. int_eq k z ≡ false → at_value c.put_replica.new.replicas k ≡ at_value c.take_replica-state.new.replicas k) same (c.in_ok-put_replica.ensures.others k) other
+    on_ok_weaker c.keep_replica.result
+    (λ others k other. subst (λ z. int_eq k z ≡ false → child_of (held c.keep_replica.new.kept) (Value k) ≡ at_value c.take_replica-state.new.replicas k) same (others k) other
     ∙ subst (λ z. int_eq k z ≡ false → at_value c.take_replica-state.new.replicas k ≡ at_value c.into_replicas-replicas.result k) same (c.take_replica-state.ensures.others k) other
-    ∙ c.into_replicas-replicas.ensures k ∙ ap (λ (q : Kept). child_of (held q) (Value k)) c.replace.ensures.value
+    ∙ c.into_replicas-replicas.ensures k ∙ ap (λ (q : Kept). child_of (held q) (Value k)) c.replace.ensures.value)
+    c.keep_replica.ensures.others
 
 pub pass_star-loop-next-init : goal.pass_star-loop-next-init
 pass_star-loop-next-init t c =
@@ -265,8 +274,8 @@ pass_star-loop-next-preserved-in-None t c =
 
 pub pass_star-loop-next-smaller : goal.pass_star-loop-next-smaller
 pass_star-loop-next-smaller t c =
-    turned_falls c.args.place c.args.exit.now c.args.guard.now (tree (setting_of c.args.walk.now.run.now) c.args.body.now) c.depth-depth.result Det c.loop-next.levels.items c.put_at.new.states.items (stack_of c.loop-next.waiting.items) (stack_of c.wait.new.waiting.items) []
-    (enters_turned c.args.place c.args.exit.now c.args.guard.now (tree (setting_of c.args.walk.now.run.now) c.args.body.now) c.depth-depth.result Det c.loop-next.levels.items c.put_at.new.states.items c.loop-next.waiting.items c.pop.new.self.items c.wait.new.waiting.items c.in-Some.next c.in-Some-2.taken (given c.loop-next.out) (map flows c.tap.new.out) c.in-Some.ensures.items
+    turned_falls c.args.place c.args.exit.now c.args.guard.now (tree (setting_of c.args.walk.now.run.now) c.args.body.now) c.depth-depth.result Det c.loop-next.levels.items c.settle.new.levels.items (stack_of c.loop-next.waiting.items) (stack_of c.settle.new.waiting.items) []
+    (enters_turned c.args.place c.args.exit.now c.args.guard.now (tree (setting_of c.args.walk.now.run.now) c.args.body.now) c.depth-depth.result Det c.loop-next.levels.items c.settle.new.levels.items c.loop-next.waiting.items c.pop.new.self.items c.settle.new.waiting.items c.in-Some.next c.in-Some-2.taken (given c.loop-next.out) (map flows c.tap.new.out) c.in-Some.ensures.items
     (top_within c.args.place c.args.exit.now c.args.guard.now (tree (setting_of c.args.walk.now.run.now) c.args.body.now) c.depth-depth.result (at_levels c.into_levels-levels.result.items) (flows c.args.item) (given c.args.out.now) c.loop-next.waiting.items c.pop.new.self.items c.in-Some.next c.in-Some.ensures.items c.loop-next.invariant.within)
     (subst (λ (o : Option Entries). IsTapped c.args.place c.args.exit.now c.args.guard.now (c.depth-depth.result - c.in-Some.next.level) (flows c.in-Some.next.item) (given c.loop-next.out) (map flows c.tap.new.out) o) c.in-Some-2.is c.in_ok-taken.ensures)
     (record {
@@ -277,16 +286,16 @@ pass_star-loop-next-smaller t c =
       taken = c.take_at-state.ensures.taken;
       took = c.take_at-state.ensures.others;
       passed = subst (λ (none : List ModelItem). Passes (tree (setting_of c.args.walk.now.run.now) c.args.body.now) (held c.take_at-state.result) (held c.pass.new.kept) (Rec c.in-Some-2.taken) none (given c.pass.new.out)) (ap (map flows) c.begin-before.ensures.anew) c.in_ok-pass.ensures;
-      put = c.in_ok-put_at.ensures.put;
-      others = c.in_ok-put_at.ensures.others;
-      waits = c.in_ok-room.ensures ∙ ap (λ (made : List Flowing). entries (c.in-Some.next.level + 1) (map flows made) ++ stack_of c.pop.new.self.items) c.end-made.ensures.since;
+      put = c.in_ok-settle.ensures.put;
+      others = c.in_ok-settle.ensures.others;
+      waits = c.in_ok-settle.ensures.waits ∙ ap (λ (made : List Flowing). entries (c.in-Some.next.level + 1) (map flows made) ++ stack_of c.pop.new.self.items) c.end-made.ensures.since;
     }))
 
 pub pass_star-loop-next-preserved : goal.pass_star-loop-next-preserved
 pass_star-loop-next-preserved t c =
-    subst (λ (grown : List ModelItem). IsSoFar c.args.place c.args.exit.now c.args.guard.now (tree (setting_of c.args.walk.now.run.now) c.args.body.now) c.depth-depth.result (at_levels c.into_levels-levels.result.items) (flows c.args.item) (given c.args.out.now) grown c.put_at.new.states.items c.wait.new.waiting.items)
-    (sym (ap (map flows) (c.in_ok-put_by.ensures ∙ c.end-made.ensures.back ∙ c.begin-before.ensures.before)))
-    (so_far_enters c.args.place c.args.exit.now c.args.guard.now (tree (setting_of c.args.walk.now.run.now) c.args.body.now) c.depth-depth.result (at_levels c.into_levels-levels.result.items) (flows c.args.item) (given c.args.out.now) c.loop-next.levels.items c.put_at.new.states.items c.loop-next.waiting.items c.pop.new.self.items c.wait.new.waiting.items c.in-Some.next c.in-Some-2.taken (given c.loop-next.out) (map flows c.tap.new.out) c.in-Some.ensures.items c.loop-next.invariant
+    subst (λ (grown : List ModelItem). IsSoFar c.args.place c.args.exit.now c.args.guard.now (tree (setting_of c.args.walk.now.run.now) c.args.body.now) c.depth-depth.result (at_levels c.into_levels-levels.result.items) (flows c.args.item) (given c.args.out.now) grown c.settle.new.levels.items c.settle.new.waiting.items)
+    (sym (ap (map flows) (c.in_ok-settle.ensures.same ∙ c.end-made.ensures.back ∙ c.begin-before.ensures.before)))
+    (so_far_enters c.args.place c.args.exit.now c.args.guard.now (tree (setting_of c.args.walk.now.run.now) c.args.body.now) c.depth-depth.result (at_levels c.into_levels-levels.result.items) (flows c.args.item) (given c.args.out.now) c.loop-next.levels.items c.settle.new.levels.items c.loop-next.waiting.items c.pop.new.self.items c.settle.new.waiting.items c.in-Some.next c.in-Some-2.taken (given c.loop-next.out) (map flows c.tap.new.out) c.in-Some.ensures.items c.loop-next.invariant
     (subst (λ (o : Option Entries). IsTapped c.args.place c.args.exit.now c.args.guard.now (c.depth-depth.result - c.in-Some.next.level) (flows c.in-Some.next.item) (given c.loop-next.out) (map flows c.tap.new.out) o) c.in-Some-2.is c.in_ok-taken.ensures)
     (record {
       mid = c.take_at-state.new.states.items;
@@ -296,15 +305,16 @@ pass_star-loop-next-preserved t c =
       taken = c.take_at-state.ensures.taken;
       took = c.take_at-state.ensures.others;
       passed = subst (λ (none : List ModelItem). Passes (tree (setting_of c.args.walk.now.run.now) c.args.body.now) (held c.take_at-state.result) (held c.pass.new.kept) (Rec c.in-Some-2.taken) none (given c.pass.new.out)) (ap (map flows) c.begin-before.ensures.anew) c.in_ok-pass.ensures;
-      put = c.in_ok-put_at.ensures.put;
-      others = c.in_ok-put_at.ensures.others;
-      waits = c.in_ok-room.ensures ∙ ap (λ (made : List Flowing). entries (c.in-Some.next.level + 1) (map flows made) ++ stack_of c.pop.new.self.items) c.end-made.ensures.since;
+      put = c.in_ok-settle.ensures.put;
+      others = c.in_ok-settle.ensures.others;
+      waits = c.in_ok-settle.ensures.waits ∙ ap (λ (made : List Flowing). entries (c.in-Some.next.level + 1) (map flows made) ++ stack_of c.pop.new.self.items) c.end-made.ensures.since;
     }))
 
 pub pass_star-returns : goal.pass_star-returns
 pass_star-returns t c =
     let done : c.loop-next.waiting.items ≡ [] = c.in_default.ensures.items ∙ ap (λ (xs : List Waiting). xs ++ []) (c.in_default.ensures.rest ∙ ap (λ n. take (n - 1) c.loop-next.waiting.items) c.in_default.ensures.cases.0) in
-    subst (λ depth. (m : Merge) → Passes (level c.args.place m c.args.exit.now c.args.guard.now (tree (setting_of c.args.walk.now.run.now) c.args.body.now) depth) (held c.args.kept.now) (held (kept.Levels c.loop-next.levels)) (flows c.args.item) (given c.args.out.now) (given c.loop-next.out)) c.depth-depth.ensures.depth
+    subst (λ (k : Kept). (m : Merge) → Passes (level c.args.place m c.args.exit.now c.args.guard.now (tree (setting_of c.args.walk.now.run.now) c.args.body.now) (depth_of c.args.walk.now.run.now)) (held c.args.kept.now) (held k) (flows c.args.item) (given c.args.out.now) (given c.loop-next.out)) (sym c.keep.ensures)
+    (subst (λ depth. (m : Merge) → Passes (level c.args.place m c.args.exit.now c.args.guard.now (tree (setting_of c.args.walk.now.run.now) c.args.body.now) depth) (held c.args.kept.now) (held (kept.Levels c.loop-next.levels)) (flows c.args.item) (given c.args.out.now) (given c.loop-next.out)) c.depth-depth.ensures.depth
     (so_far_ends c.args.place c.args.exit.now c.args.guard.now (tree (setting_of c.args.walk.now.run.now) c.args.body.now) c.depth-depth.result (held c.args.kept.now) (held (kept.Levels c.loop-next.levels)) (map held c.into_levels-levels.result.items) (flows c.args.item) (given c.args.out.now) (given c.loop-next.out) c.loop-next.levels.items c.loop-next.waiting.items
     (subst (λ (k : Kept). LevelsOf (held k) (map held c.into_levels-levels.result.items)) c.replace.ensures.value c.into_levels-levels.ensures)
-    (held-Levels c.loop-next.levels) done c.loop-next.invariant)
+    (held-Levels c.loop-next.levels) done c.loop-next.invariant))
