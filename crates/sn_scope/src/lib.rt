@@ -3,6 +3,7 @@
 
 mod declarations;
 mod filters;
+mod heap;
 mod network;
 mod numbering;
 mod resolution;

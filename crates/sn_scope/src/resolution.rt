@@ -107,7 +107,7 @@ fn claim(
             let (input, output) = types_of(alloc, declarations, pending.signature)?;
             Ok(Some(Claim {
                 place: pending.place,
-                net: faced.into_net(),
+                net: faced.into_inner().into_net(),
                 input,
                 output,
             }))

@@ -5,9 +5,10 @@ use Rattle.sn_net.specs.declared.net.Net.TheVariants as net
 use Rattle.sn_scope.specs.Built.{AreBuilt, IsBuilt, IsMade, node_of, part_of, parts_of, rest_of}
 use Rattle.sn_scope.specs.Trees.{all_some}
 use Rattle.sn_scope.specs.declared.network.Component.TheVariants as component
-use Rattle.sn_scope.proofs.Building.{drop_past, partly_done, partly_unbuilt, right_unbuilt, serial_built, tree_built}
+use Rattle.sn_scope.proofs.Building.{drop_past, left_unbuilt, partly_begun, partly_done, partly_more, partly_unbuilt, tree_built, tree_full, tree_low}
 use Rattle.sn_scope.proofs.Levels.{node-Box, node-Choice, node-Filter, node-Serial, node-Split, node-Star, node-Sync, part-Named, part-past, series-rest}
 use Rattle.sn_scope.proofs.trees.+tree.Goals as goal
+use Rattle.sn_scope.proofs.trees.+tree.Goals.{tree-then-levels-eq0-via-then-levels-eq0, tree-then-levels-eq0-via-else-levels-eq0+then-not-take_room, series_tree-then-levels-eq0-via-then-levels-eq0, series_tree-then-levels-eq0-via-else-levels-eq0+then-not-take_room}
 
 pub node-returns-in-Box : goal.node-returns-in-Box
 node-returns-in-Box t c =
@@ -88,21 +89,17 @@ part-returns-else-number-nets t c =
     let same = part-Named boxes c.args.levels nets c.args.network.now c.in-Named.number c.index-nets-number.result c.in-Named.is within c.index-nets-number.is in
     subst (λ d. IfOk c.tree.result (IsBuilt boxes d c.args.room.now c.tree.new.room)) (sym same) c.tree.ensures
 
-pub series-returns-in_default-2 : goal.series-returns-in_default-2
-series-returns-in_default-2 t c =
+pub series-returns-in_default : goal.series-returns-in_default
+series-returns-in_default t c =
     let boxes = c.args.boxes.now in
     let levels = c.args.levels in
     let nets = c.args.nets.now in
     let parts = c.args.parts.now in
     let two : 2 ≤ length parts = omega (arith, c.if-parts-lt2.false) in
-    let left : IsMade boxes (part_of boxes levels nets c.index-parts-0.result) c.args.room.now c.part.new.room c.in-Some.left =
-    subst (λ b. IsBuilt boxes (part_of boxes levels nets c.index-parts-0.result) c.args.room.now c.part.new.room b) c.in-Some.is c.in_ok-left.ensures in
-    let whole : take (length parts - 1) (drop 1 parts) ≡ drop 1 parts = take_all (length parts - 1) (drop 1 parts) (omega (arith, length-drop 1 parts)) in
-    let unbuilt : IsBuilt boxes (rest_of boxes levels nets (take (length parts - 1) (drop 1 parts))) c.part.new.room c.rest.new.room None = search rules in
-    let right : IsBuilt boxes (rest_of boxes levels nets (drop 1 parts)) c.part.new.room c.rest.new.room None =
-    subst (λ ps. IsBuilt boxes (rest_of boxes levels nets ps) c.part.new.room c.rest.new.room None) whole unbuilt in
-    subst (λ d. IsBuilt boxes d (suc c.args.room.now) c.rest.new.room None) (sym (series-rest boxes levels nets parts c.index-parts-0.result two c.index-parts-0.is))
-    (right_unbuilt boxes _ _ c.args.room.now c.part.new.room c.rest.new.room c.in-Some.left left right)
+    let left : IsBuilt boxes (part_of boxes levels nets c.index-parts-0.result) c.args.room.now c.part.new.room None =
+    subst (λ b. IsBuilt boxes (part_of boxes levels nets c.index-parts-0.result) c.args.room.now c.part.new.room b) c.in_default.is c.in_ok-left.ensures in
+    subst (λ d. IsBuilt boxes d (suc c.args.room.now) c.part.new.room None) (sym (series-rest boxes levels nets parts c.index-parts-0.result two c.index-parts-0.is))
+    (left_unbuilt boxes _ _ c.args.room.now c.part.new.room left)
 
 pub series-returns : goal.series-returns
 series-returns t c =
@@ -113,11 +110,26 @@ series-returns t c =
     let two : 2 ≤ length parts = omega (arith, c.if-parts-lt2.false) in
     let left : IsMade boxes (part_of boxes levels nets c.index-parts-0.result) c.args.room.now c.part.new.room c.in-Some.left = subst (λ b. IsBuilt boxes (part_of boxes levels nets c.index-parts-0.result) c.args.room.now c.part.new.room b) c.in-Some.is c.in_ok-left.ensures in
     let whole : take (length parts - 1) (drop 1 parts) ≡ drop 1 parts = take_all (length parts - 1) (drop 1 parts) (omega (arith, length-drop 1 parts)) in
-    let right : IsMade boxes (rest_of boxes levels nets (drop 1 parts)) c.part.new.room c.rest.new.room c.in-Some-2.right =
-    subst (λ b. IsBuilt boxes (rest_of boxes levels nets (drop 1 parts)) c.part.new.room c.rest.new.room b) c.in-Some-2.is
-    (subst (λ ps. IsBuilt boxes (rest_of boxes levels nets ps) c.part.new.room c.rest.new.room c.in_ok-right.field-0) whole c.in_ok-right.ensures) in
-    subst (λ d. IsMade boxes d (suc c.args.room.now) c.rest.new.room c.in_ok-serial.field-0) (sym (series-rest boxes levels nets parts c.index-parts-0.result two c.index-parts-0.is))
-    (serial_built boxes _ _ c.args.room.now c.part.new.room c.rest.new.room c.in-Some.left c.in-Some-2.right c.in_ok-serial.field-0 left right c.in_ok-serial.ensures.net (c.in_ok-serial.ensures.face boxes left.beside))
+    let right : IfOk c.rest-right.result (IsBuilt boxes (rest_of boxes levels nets (drop 1 parts)) c.part.new.room c.rest-right.new.room) =
+    subst (λ ps. IfOk c.rest-right.result (IsBuilt boxes (rest_of boxes levels nets ps) c.part.new.room c.rest-right.new.room)) whole c.rest-right.ensures in
+    subst (λ d. IfOk c.serial_over.result (IsBuilt boxes d (suc c.args.room.now) c.rest-right.new.room)) (sym (series-rest boxes levels nets parts c.index-parts-0.result two c.index-parts-0.is))
+    (IfOk-weaker c.serial_over.result _ _ (λ built all. all boxes _ _ c.args.room.now c.part.new.room c.rest-right.new.room left right) c.serial_over.ensures)
+
+pub tree-returns-then-levels-eq0 : goal.tree-returns-then-levels-eq0
+tree-returns-then-levels-eq0 t c =
+    let boxes = c.args.boxes.now in
+    elim c.then-levels-eq0.branch [
+      | tree-then-levels-eq0-via-then-levels-eq0 w ↦ tree_low boxes c.args.levels c.args.nets.now c.args.component.now c.args.room.now c.args.room.now w.if-levels-eq0.true
+      | tree-then-levels-eq0-via-else-levels-eq0+then-not-take_room w ↦ tree_full boxes _ c.args.room.now c.args.room.now (w.take_room.ensures.full w.if-not-take_room.true).0
+    ]
+
+pub series_tree-returns-then-levels-eq0 : goal.series_tree-returns-then-levels-eq0
+series_tree-returns-then-levels-eq0 t c =
+    let boxes = c.args.boxes.now in
+    elim c.then-levels-eq0.branch [
+      | series_tree-then-levels-eq0-via-then-levels-eq0 w ↦ tree_low boxes c.args.levels c.args.nets.now (component.Serial c.args.parts.now) c.args.room.now c.args.room.now w.if-levels-eq0.true
+      | series_tree-then-levels-eq0-via-else-levels-eq0+then-not-take_room w ↦ tree_full boxes _ c.args.room.now c.args.room.now (w.take_room.ensures.full w.if-not-take_room.true).0
+    ]
 
 pub tree-returns : goal.tree-returns
 tree-returns t c =
