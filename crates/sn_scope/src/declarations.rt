@@ -132,7 +132,7 @@ impl Declarations {
             Network::Named(number) => Ok(number),
             Network::Made(component) => {
                 let number = self.nets.len();
-                sn_stack::append(&mut self.nets, component)?;
+                sn_stack::append(&mut self.nets, component.into_inner())?;
                 Ok(number)
             }
         }
