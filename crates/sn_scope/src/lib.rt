@@ -4,6 +4,7 @@
 mod declarations;
 mod filters;
 mod heap;
+mod held;
 mod network;
 mod numbering;
 mod resolution;

@@ -204,8 +204,8 @@ fn star_over(
 {
     match body {
         Some(body) => {
-            let guard = copy_guard(alloc, guard)?;
             let exit = exit.copy()?;
+            let guard = copy_guard(alloc, guard)?;
             let faced = Faced::star(alloc, place, merge, body.into_inner(), exit, guard);
             Ok(Some(on_heap(alloc, faced)?))
         }
