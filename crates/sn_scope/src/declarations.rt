@@ -8,7 +8,7 @@ use crate::types::type_at;
 use sn_ast::{BoxDecl, Decl, Ident, NetDecl, NetExpr, Sig, TypePart};
 use sn_box_scope::box_at;
 use sn_label_scope::{Reason, Refusals};
-use sn_list::{Memory, Seq};
+use sn_list::{Boxed, Memory, Seq};
 use sn_names::NameTable;
 use sn_net::Boxes;
 use sn_record::LabelSet;
@@ -124,15 +124,15 @@ impl Declarations {
     }
 
     /// The number of the net: that of the one that its network names, or else its own.
-    fn net(&mut self, network: Network) -> Result<usize, Memory>
+    fn net(&mut self, network: Boxed<Network>) -> Result<usize, Memory>
         ensures declared { OnOk result (self.new ≡ record self.old { nets = with_net network self.old.nets }) }
         ensures number { IfOk result (λ number. number ≡ net_at network self.old.nets) }
     {
-        match network {
+        match network.into_inner() {
             Network::Named(number) => Ok(number),
             Network::Made(component) => {
                 let number = self.nets.len();
-                sn_stack::append(&mut self.nets, component.into_inner())?;
+                sn_stack::append(&mut self.nets, component)?;
                 Ok(number)
             }
         }

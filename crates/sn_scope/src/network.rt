@@ -25,8 +25,7 @@ use std::alloc::Global;
 #[derive(Drop)]
 pub enum Network {
     Named(usize),
-    /// On the heap, so that a part is small, and a component can have one.
-    Made(Boxed<Component>),
+    Made(Component),
 }
 
 /// A component. A place is a byte offset in the source.
@@ -53,14 +52,14 @@ pub enum Component {
     Star {
         place: u32,
         merge: Merge,
-        body: Network,
+        body: Boxed<Network>,
         exit: LabelSet,
         guard: Option<TagExpr>,
     },
     Split {
         place: u32,
         merge: Merge,
-        body: Network,
+        body: Boxed<Network>,
         tag: u32,
     },
 }
@@ -81,15 +80,15 @@ fn is_part(meaning: Option<Meaning>) -> bool
     }
 }
 
-/// The component as a part of its own.
-fn made(alloc: Global, component: Component) -> Result<Network, Memory>
+/// The component as a part of its own, on the heap.
+fn made(alloc: Global, component: Component) -> Result<Boxed<Network>, Memory>
     ensures { IfOk result (λ network. network ≡ Made component) }
 {
-    Ok(Network::Made(Boxed::new(alloc, component)?))
+    Boxed::new(alloc, Network::Made(component))
 }
 
 /// The filter that passes each record on.
-fn identity(alloc: Global, place: u32) -> Result<Network, Memory>
+fn identity(alloc: Global, place: u32) -> Result<Boxed<Network>, Memory>
     ensures { IfOk result (λ network. network ≡ Made (form.Filter (identity_at place))) }
 {
     let filter = identity_at(alloc, place)?;
@@ -102,7 +101,7 @@ fn named_at(
     scopes: &Scopes,
     refusals: &mut Refusals,
     name: &Ident,
-) -> Result<Network, Memory>
+) -> Result<Boxed<Network>, Memory>
     ensures network { IfOk result (λ network. network ≡ named_at (meaning_of scopes.now name.now.text) name.now.at) }
     ensures refused { OnOk result (refusals.new ≡ required (is_part (meaning_of scopes.now name.now.text)) reason.Unknown name.now.at refusals.old) }
 {
@@ -110,7 +109,7 @@ fn named_at(
     let meaning = scopes.find(name.text.as_slice());
     refusals.require(is_part(meaning), Reason::Unknown, place);
     match meaning {
-        Some(Meaning::Net(number)) => Ok(Network::Named(number)),
+        Some(Meaning::Net(number)) => Boxed::new(alloc, Network::Named(number)),
         Some(Meaning::Box(number)) => made(alloc, Component::Box { place, number }),
         Some(Meaning::Type(_) | Meaning::Signature(_)) | None => identity(alloc, place),
     }
@@ -143,7 +142,7 @@ fn filter(
     place: u32,
     pattern: &Variant,
     templates: &[TemplateAt],
-) -> Result<Network, Memory>
+) -> Result<Boxed<Network>, Memory>
     ensures network { IfOk result (λ network. network ≡ Made (form.Filter (filter_at names.now place pattern.now templates.now))) }
     ensures refused { OnOk result (refusals.new ≡ filter_required names.now place pattern.now templates.now refusals.old) }
 {
@@ -158,7 +157,7 @@ fn sync(
     refusals: &mut Refusals,
     place: u32,
     patterns: &[Variant],
-) -> Result<Network, Memory>
+) -> Result<Boxed<Network>, Memory>
     ensures network { IfOk result (λ network. network ≡ Made (form.Sync place (each (variant_at names.now) patterns.now))) }
     ensures refused { OnOk result (refusals.new ≡ fold (variant_required names.now) (required (is_between 2 8 (length patterns.now)) reason.Arity place refusals.old) patterns.now) }
 {
@@ -174,10 +173,10 @@ fn star(
     refusals: &mut Refusals,
     place: u32,
     merge: Merge,
-    body: Network,
+    body: Boxed<Network>,
     exit: &Variant,
     guard: &Option<TExpr>,
-) -> Result<Network, Memory>
+) -> Result<Boxed<Network>, Memory>
     ensures network { IfOk result (λ network. network ≡ Made (form.Star place merge body (variant_at names.now exit.now) (guard_at names.now guard.now))) }
     ensures refused { OnOk result (refusals.new ≡ guard_required names.now (variant_at names.now exit.now) guard.now (variant_required names.now refusals.old exit.now)) }
 {
@@ -204,7 +203,7 @@ pub fn network_at(
     scopes: &Scopes,
     refusals: &mut Refusals,
     network: &NetExpr,
-) -> Result<Network, Memory>
+) -> Result<Boxed<Network>, Memory>
     ensures { IfOk result (λ made. (made ≡ network_at names.now scopes.now network.now) × (refusals.new ≡ network_required names.now scopes.now network.now refusals.old)) }
 {
     let place = network.at;
@@ -270,7 +269,7 @@ fn networks_at(
     let mut made = Seq::new(alloc);
     for network in networks {
         let network = network_at(alloc, names, scopes, refusals, network)?;
-        sn_stack::append(&mut made, network)?;
+        sn_stack::append(&mut made, network.into_inner())?;
     }
     Ok(made)
 }

@@ -113,7 +113,7 @@ fn node(
             exit,
             guard,
         } => {
-            let body = part(alloc, boxes, nets, body, levels, room)?;
+            let body = part(alloc, boxes, nets, body.get(), levels, room)?;
             star_over(alloc, *place, *merge, body, exit, guard)
         }
         Component::Split {
@@ -122,7 +122,7 @@ fn node(
             body,
             tag,
         } => {
-            let body = part(alloc, boxes, nets, body, levels, room)?;
+            let body = part(alloc, boxes, nets, body.get(), levels, room)?;
             split_over(alloc, *place, *merge, body, *tag)
         }
     }
@@ -300,7 +300,7 @@ fn part(
             }
             tree(alloc, boxes, nets, &nets[*number], levels, room)
         }
-        Network::Made(component) => tree(alloc, boxes, nets, component.get(), levels, room),
+        Network::Made(component) => tree(alloc, boxes, nets, component, levels, room),
     }
 }
 

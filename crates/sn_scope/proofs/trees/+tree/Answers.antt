@@ -3,7 +3,7 @@ use Rattle.std.proofs.lemmas.List.{drop_more, length-drop, take_all}
 use Rattle.std.proofs.lemmas.Result.{IfOk-weaker}
 use Rattle.sn_net.specs.declared.net.Net.TheVariants as net
 use Rattle.sn_scope.specs.Built.{AreBuilt, IsBuilt, IsMade, node_of, part_of, parts_of, rest_of, series_of}
-use Rattle.sn_scope.specs.Trees.{all_some, tree}
+use Rattle.sn_scope.specs.Trees.{all_some}
 use Rattle.sn_scope.specs.declared.network.Component.TheVariants as component
 use Rattle.sn_scope.proofs.Building.{IsPartly, drop_past, left_unbuilt, partly_begun, partly_done, partly_more, partly_unbuilt, tree_built, tree_full, tree_low}
 use Rattle.sn_scope.proofs.Levels.{node-Box, node-Choice, node-Filter, node-Serial, node-Split, node-Star, node-Sync, part-Made, part-Named, part-past, rest-more, rest-one, series-rest}
@@ -57,7 +57,8 @@ node-returns-in_ok-body-in-Star t c =
     let nets = c.args.nets.now in
     let part = part_of boxes levels nets in
     let body = c.in_ok-body-in-Star.body in
-    let built : IsBuilt boxes (part c.in-Star.body) c.args.room.now c.part.new.room body = c.in_ok-body-in-Star.ensures in
+    let built : IsBuilt boxes (part c.in-Star.body) c.args.room.now c.part.new.room body =
+    subst (λ b. IsBuilt boxes (part b) c.args.room.now c.part.new.room body) c.get.ensures c.in_ok-body-in-Star.ensures in
     subst (λ d. IfOk c.star_over.result (IsBuilt boxes d (suc c.args.room.now) c.part.new.room))
     (sym (ap (node_of boxes levels nets) c.in-Star.is ∙ node-Star boxes part (parts_of boxes levels nets) c.in-Star.place c.in-Star.merge c.in-Star.body c.in-Star.exit c.in-Star.guard))
     (IfOk-weaker c.star_over.result _ _ (λ made all. all boxes (part c.in-Star.body) c.args.room.now c.part.new.room built) c.star_over.ensures)
@@ -69,7 +70,8 @@ node-returns-in_ok-body-in-Split t c =
     let nets = c.args.nets.now in
     let part = part_of boxes levels nets in
     let body = c.in_ok-body-in-Split.body in
-    let built : IsBuilt boxes (part c.in-Split.body) c.args.room.now c.part-in-Split.new.room body = c.in_ok-body-in-Split.ensures in
+    let built : IsBuilt boxes (part c.in-Split.body) c.args.room.now c.part-in-Split.new.room body =
+    subst (λ b. IsBuilt boxes (part b) c.args.room.now c.part-in-Split.new.room body) c.get-in-Split.ensures c.in_ok-body-in-Split.ensures in
     subst (λ d. IfOk c.split_over.result (IsBuilt boxes d (suc c.args.room.now) c.part-in-Split.new.room))
     (sym (ap (node_of boxes levels nets) c.in-Split.is ∙ node-Split boxes part (parts_of boxes levels nets) c.in-Split.place c.in-Split.merge c.in-Split.body c.in-Split.tag))
     (IfOk-weaker c.split_over.result _ _ (λ made all. all boxes (part c.in-Split.body) c.args.room.now c.part-in-Split.new.room built) c.split_over.ensures)
@@ -90,7 +92,7 @@ part-returns-in-Made t c =
     let levels = c.args.levels in
     let nets = c.args.nets.now in
     let same = part-Made boxes levels nets c.args.network.now c.in-Made.component c.in-Made.is in
-    subst (λ d. IfOk c.tree-in-Made.result (IsBuilt boxes d c.args.room.now c.tree-in-Made.new.room)) (ap (tree boxes levels nets) c.get.ensures ∙ sym same) c.tree-in-Made.ensures
+    subst (λ d. IfOk c.tree-in-Made.result (IsBuilt boxes d c.args.room.now c.tree-in-Made.new.room)) (sym same) c.tree-in-Made.ensures
 
 pub rest-returns-then-parts-eq1 : goal.rest-returns-then-parts-eq1
 rest-returns-then-parts-eq1 t c =
