@@ -31,11 +31,20 @@ impl Hash for Key {
 }
 
 /// Different variants in the order in which they were first added, seen as the list of them.
-#[derive(Drop)]
 pub struct Variants {
     sets: Vec<LabelSet>,
     // The same sets again, so that none is looked for by a walk.
     keys: IndexSet<Key>,
+}
+
+/// Written out, so that a function that gives them up calls this, and is not proved over the table of the keys.
+impl Drop for Variants {
+    fn drop(self) {
+        let Variants {
+            sets: _sets,
+            keys: _keys,
+        } = self;
+    }
 }
 
 impl Model for Variants {
@@ -95,6 +104,7 @@ impl Variants {
     pub fn into_sets(self) -> Seq<LabelSet>
         ensures { result ≡ self }
     {
-        Seq::from_vec(self.sets)
+        let Variants { sets, keys: _keys } = self;
+        Seq::from_vec(sets)
     }
 }
