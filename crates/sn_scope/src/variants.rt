@@ -79,9 +79,9 @@ impl Variants {
         ensures ok { OnOk result (self.new ≡ added self.old set) }
         ensures err { OnErr result (self.new ≡ self.old) }
     {
-        let key = Key { set: set.copy()? };
         // Room comes first, so that the sets and the keys grow together or not at all.
         self.sets.reserve(1)?;
+        let key = Key { set: set.copy()? };
         if self.keys.insert(key)? {
             self.sets.push_reserved(set);
         }
