@@ -118,12 +118,6 @@ after_box names declaration st = with_meaning declaration.name (meaning.Box (len
   refusals = box_required names declaration st.refusals;
 })
 
--- a net behind its inner declarations, with the claims before them: its network, its claim, and then its name
-abbrev pub net_ended : List (List ℕ) → Ident → NetExpr → Option ℕ → List Pending → Change
-net_ended names name connect signature before st =
-    let number = net_number names connect st in
-    with_meaning name (meaning.Net number) (with_claim name signature number before (ended names connect st))
-
 -- a net: its signature, its inner declarations, its network, and then its name
 abbrev pub net_step : List (List ℕ) → NetDecl-F Change Change → Change
 net_step names net st =

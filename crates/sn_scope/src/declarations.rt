@@ -1,6 +1,6 @@
 //! What a source declares: its types, signatures, nets and boxes, and the claims about the nets that have a signature.
 ghost use Rattle.std.specs.Prelude.{◌≡◌, ◌++◌, IfOk, OnOk, map as each};
-ghost use Rattle.sn_scope.specs.Declarations.{after, after_box, after_net, after_type, all_after, ended, main_after, net_at, net_ended, net_number, net_signature, number_at, start, with_claim, with_meaning, with_net, with_net_signature, with_signature, within};
+ghost use Rattle.sn_scope.specs.Declarations.{after, after_box, after_net, after_type, all_after, ended, main_after, net_at, net_number, net_signature, number_at, start, with_claim, with_meaning, with_net, with_net_signature, with_signature};
 
 use crate::held::Held;
 use crate::network::{Component, Network, network_at};
@@ -210,32 +210,6 @@ impl Declarations {
         self.lead(claims)
     }
 
-    /// Begins a scope for inner declarations, which have no claims yet, and answers the claims before them.
-    fn begin(&mut self, alloc: Global) -> Result<Held<Seq<Pending>>, Memory>
-        ensures within { OnOk result (self.new ≡ within self.old) }
-        ensures before { IfOk result (λ before. before.value ≡ self.old.claims) }
-    {
-        self.scopes.enter(alloc)?;
-        let value = replace(&mut self.claims, Seq::new(alloc));
-        Ok(Held { value })
-    }
-
-    /// Ends a net's declaration behind its inner ones.
-    fn end_net(
-        &mut self,
-        alloc: Global,
-        names: &NameTable,
-        net: &NetDecl,
-        signature: Option<usize>,
-        before: Held<Seq<Pending>>,
-    ) -> Result<(), Memory>
-        ensures { OnOk result (self.new ≡ net_ended names.now net.now.name net.now.connect signature before.value self.old) }
-    {
-        let number = self.end(alloc, names, &net.connect)?;
-        self.claim(&net.name, signature, number, before.into_inner())?;
-        self.declare(&net.name, Meaning::Net(number))
-    }
-
     /// As deep in calls as declarations stand within one another.
     #[cycle(after)]
     fn declaration(&mut self, alloc: Global, names: &NameTable, decl: &Decl) -> Result<(), Memory>
@@ -308,9 +282,13 @@ impl Declarations {
         ensures { OnOk result (self.new ≡ after_net names.now net.now self.old) }
     {
         let signature = self.net_signature(alloc, names, &net.sig)?;
-        let before = self.begin(alloc)?;
+        let value = replace(&mut self.claims, Seq::new(alloc));
+        let before = Held { value };
+        self.scopes.enter(alloc)?;
         self.declarations(alloc, names, net.decls.as_slice())?;
-        self.end_net(alloc, names, net, signature, before)
+        let number = self.end(alloc, names, &net.connect)?;
+        self.claim(&net.name, signature, number, before.into_inner())?;
+        self.declare(&net.name, Meaning::Net(number))
     }
 
     /// Each declaration sees those before it.
