@@ -10,8 +10,8 @@ ghost use Rattle.sn_net.specs.declared.net.Net.TheVariants as form;
 ghost use Rattle.sn_scope.specs.Built.{AreBuilt, IsBuilt, IsMade, narrowed, node_of, part_of, parts_of, rest_of, series_of};
 ghost use Rattle.sn_scope.specs.Trees.{all_some, call, in_series, tree};
 
-use crate::network::{Component, Network};
 use crate::heap::on_heap;
+use crate::network::{Component, Network};
 use sn_list::{Boxed, Memory, Seq};
 use sn_net::{Boxes, Faced, Filter, Merge, TagExpr, copy_sets};
 use sn_record::LabelSet;
@@ -129,7 +129,12 @@ fn node(
 }
 
 /// The call of a box, whose room is taken, or nothing where there is no box of that number.
-fn call(alloc: Global, boxes: &Boxes, place: u32, number: u32) -> Result<Option<Boxed<Faced>>, Memory>
+fn call(
+    alloc: Global,
+    boxes: &Boxes,
+    place: u32,
+    number: u32,
+) -> Result<Option<Boxed<Faced>>, Memory>
     ensures { IfOk result (λ built. (room : ℕ) → IsBuilt boxes.now (call boxes.now place number) (suc room) room built) }
 {
     if number as usize >= boxes.len() {
@@ -148,7 +153,11 @@ fn filter_node(alloc: Global, filter: &Filter) -> Result<Option<Boxed<Faced>>, M
 }
 
 /// A synchrocell, whose room is taken.
-fn sync_node(alloc: Global, place: u32, patterns: &[LabelSet]) -> Result<Option<Boxed<Faced>>, Memory>
+fn sync_node(
+    alloc: Global,
+    place: u32,
+    patterns: &[LabelSet],
+) -> Result<Option<Boxed<Faced>>, Memory>
     ensures { IfOk result (λ built. (boxes : List BoxProgram) (room : ℕ) → IsBuilt boxes (Some (form.Sync place patterns.now)) (suc room) room built) }
 {
     let copies = copy_sets(alloc, patterns)?;

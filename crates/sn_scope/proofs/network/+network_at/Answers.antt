@@ -77,10 +77,10 @@ network_at-returns-in_ok-branches-in-Choice t c =
     network_here names scopes c.args.network.now (NetForm-F.Choice det all) _ c.in-Choice.is (form.rolls-Choice det all) c.made-in-Choice.result least c.networks_at-in-Choice.new.refusals
     (IfOk-weaker c.made-in-Choice.result _ _ (λ made is. (
       is ∙ ap (λ m. Made (component.Choice place m c.in_ok-branches-in-Choice.branches)) c.merge_of.ensures
-      ∙ ap (λ bs. Made (component.Choice place (merge_of det) bs)) (branches.0 ∙ ap (map (network_at names scopes)) slice),
+          ∙ ap (λ bs. Made (component.Choice place (merge_of det) bs)) (branches.0 ∙ ap (map (network_at names scopes)) slice),
       branches.1 ∙ ap (λ ns. fold (λ so_far check. check so_far) c.require.new.self (map (network_required names scopes) ns)) slice
-      ∙ ap (λ start. fold (λ so_far check. check so_far) start (map (network_required names scopes) all))
-      (counted ∙ ap (λ count. required (is_between 2 64 count) reason.Arity place least) (sym (length-map all (network_required names scopes)))),
+          ∙ ap (λ start. fold (λ so_far check. check so_far) start (map (network_required names scopes) all))
+          (counted ∙ ap (λ count. required (is_between 2 64 count) reason.Arity place least) (sym (length-map all (network_required names scopes)))),
     )) c.made-in-Choice.ensures)
 
 pub network_at-returns-in_ok-body-in-Star : goal.network_at-returns-in_ok-body-in-Star
@@ -116,7 +116,7 @@ network_at-returns-in_ok-body-in-Split t c =
     network_here names scopes c.args.network.now (NetForm-F.Split det c.in-Split.body c.in-Split.tag) _ c.in-Split.is (form.rolls-Split det c.in-Split.body c.in-Split.tag) c.made-in-Split.result least c.network_at-in-Split.new.refusals
     (IfOk-weaker c.made-in-Split.result _ _ (λ made is. (
       is ∙ ap (λ m. Made (component.Split place m c.in_ok-body-in-Split.body c.number-tag.result)) c.merge_of-in-Split.ensures
-      ∙ ap (λ b. Made (component.Split place (merge_of det) b c.number-tag.result)) body ∙ ap (λ n. Made (component.Split place (merge_of det) (network_at names scopes c.in-Split.body) n)) numbered,
+          ∙ ap (λ b. Made (component.Split place (merge_of det) b c.number-tag.result)) body ∙ ap (λ n. Made (component.Split place (merge_of det) (network_at names scopes c.in-Split.body) n)) numbered,
       checked,
     )) c.made-in-Split.ensures)
 
@@ -129,8 +129,7 @@ networks_at-loop-network-preserved t c =
     let scopes = c.args.scopes.now in
     let networks = c.args.networks.now in
     let i = c.loop-network.network-index in
-    let item = c.network-item.result in
-    (
+    let item = c.network-item.result in (
       mapped_more (network_at names scopes) networks i item c.loop-network.made c.append.new.list c.into_inner.result c.loop-network-test.true c.network-item.is c.loop-network.invariant.0 (c.into_inner.ensures ∙ c.in_ok-network.ensures.0) c.in_ok-append.ensures.ok,
       checked_more (network_required names scopes) networks i item c.loop-network.refusals c.network_at.new.refusals _ c.loop-network-test.true c.network-item.is c.loop-network.invariant.1 c.in_ok-network.ensures.1,
     )
@@ -140,8 +139,7 @@ networks_at-returns t c =
     let names = c.args.names.now in
     let scopes = c.args.scopes.now in
     let networks = c.args.networks.now in
-    let i = c.loop-network.network-index in
-    (
+    let i = c.loop-network.network-index in (
       mapped_all (network_at names scopes) networks i c.loop-network.made c.loop-network-test.false c.loop-network.invariant.0,
       checked_all (network_required names scopes) networks i c.loop-network.refusals _ c.loop-network-test.false c.loop-network.invariant.1,
     )
