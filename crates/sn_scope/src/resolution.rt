@@ -12,7 +12,7 @@ use crate::resolved::{Parts, Resolved};
 use crate::trees::tree;
 use sn_ast::Program;
 use sn_label_scope::{Reason, Refusal};
-use sn_list::{Boxed, Memory, Seq};
+use sn_list::{Memory, Seq};
 use sn_names::{NameTable, Names};
 use sn_net::{Boxes, Claim, copy_sets};
 use sn_record::LabelSet;
@@ -95,7 +95,7 @@ fn claim(
     declarations: &Declarations,
     pending: Pending,
     room: &mut usize,
-) -> Result<Option<Boxed<Claim>>, Memory>
+) -> Result<Option<Claim>, Memory>
     ensures { IfOk result (IsClaim declarations.now pending room.old room.new) }
 {
     let boxes = &declarations.boxes;
@@ -106,13 +106,12 @@ fn claim(
     match tree(alloc, boxes, nets, &nets[pending.net], MOST_LEVELS, room)? {
         Some(faced) => {
             let (input, output) = types_of(alloc, declarations, pending.signature)?;
-            let claim = Claim {
+            Ok(Some(Claim {
                 place: pending.place,
                 net: faced.into_inner().into_net(),
                 input,
                 output,
-            };
-            Ok(Some(Boxed::new(alloc, claim)?))
+            }))
         }
         None => Ok(None),
     }
@@ -128,7 +127,7 @@ fn claims(alloc: Global, declarations: &Declarations) -> Result<Result<Seq<Claim
         let Some(claim) = claim(alloc, declarations, *pending, &mut room)? else {
             return Ok(Err(pending.place));
         };
-        sn_stack::append(&mut made, claim.into_inner())?;
+        sn_stack::append(&mut made, claim)?;
     }
     Ok(Ok(made))
 }

@@ -15,8 +15,8 @@ returns-in-None c =
     subst (λ b. IsBuilt boxes (tree boxes most_levels nets c.index-nets-pending.result) c.args.room.now c.tree.new.room b) c.in-None.is c.in_ok-faced.ensures in
     ap (fitting c.args.room.now) at ∙ unfit boxes c.args.room.now c.tree.new.room _ built
 
-pub returns-in_ok-new-in-Some : goal.returns-in_ok-new-in-Some
-returns-in_ok-new-in-Some c =
+pub returns-in_ok-input-in-Some : goal.returns-in_ok-input-in-Some
+returns-in_ok-input-in-Some c =
     let boxes = c.args.declarations.now.boxes in
     let nets = c.as_slice-nets.result.now in
     let made : IsMade boxes (tree boxes most_levels nets c.index-nets-pending.result) c.args.room.now c.tree.new.room c.in-Some.faced =
@@ -27,6 +27,6 @@ returns-in_ok-new-in-Some c =
     record {
       tree = c.in-Some.faced.net;
       fits = ap (fitting c.args.room.now) at ∙ fit boxes c.args.room.now c.tree.new.room _ c.in-Some.faced made;
-      same = c.in_ok-new-in-Some.ensures ∙ λ i. record { place = c.args.pending.place; net = (c.into_net.ensures ∙ ap (λ faced. faced.net) c.into_inner.ensures) i; input = c.in_ok-input-in-Some.ensures.input i; output = c.in_ok-input-in-Some.ensures.output i };
+      same = λ i. record { place = c.args.pending.place; net = (c.into_net.ensures ∙ ap (λ faced. faced.net) c.into_inner.ensures) i; input = c.in_ok-input-in-Some.ensures.input i; output = c.in_ok-input-in-Some.ensures.output i };
       left = omega (arith, made.room);
     }

@@ -1,4 +1,4 @@
-use Rattle.std.proofs.Common.{rules, ◌≡◌, ◌+◌, [], ◌∷◌, ◌++◌, drop, get_or, None, sym, ap, ◌∙◌, subst}
+use Rattle.std.proofs.Common.{rules, ◌≡◌, ◌+◌, drop, get_or, None, sym, ap, ◌∙◌, subst}
 use Rattle.std.proofs.lemmas.List.{drop_more}
 use Rattle.sn_scope.specs.Claims.{IsClaim, IsFitted}
 use Rattle.sn_scope.specs.Trees.{claims_within, fitting, led_by, most_nodes, tree_of}
@@ -26,7 +26,7 @@ loop-pending-preserved c =
     let d : Pending = record { place = 0; net = 0; signature = 0 } in
     let fitted : IsFitted st (get_or items i d) c.loop-pending.room c.claim.new.room c.in-Some.claim =
     subst (λ b. IsClaim st (get_or items i d) c.loop-pending.room c.claim.new.room b) c.in-Some.is c.in_ok-claim.ensures in
-    ap (λ claims. led_by claims (claims_within st c.claim.new.room (drop (i + 1) items))) (c.in_ok-append.ensures.ok ∙ ap (λ claim. c.loop-pending.made ++ claim ∷ []) c.into_inner.ensures)
+    ap (λ claims. led_by claims (claims_within st c.claim.new.room (drop (i + 1) items))) c.in_ok-append.ensures.ok
     ∙ sym (claims_next st c.loop-pending.room c.claim.new.room (get_or items i d) (drop (i + 1) items) c.loop-pending.made c.in-Some.claim fitted)
     ∙ sym (ap (λ ps. led_by c.loop-pending.made (claims_within st c.loop-pending.room ps)) (drop_more items i d c.loop-pending-test.true))
     ∙ c.loop-pending.invariant

@@ -1,10 +1,13 @@
-use Rattle.std.proofs.Common.{sym, ap, ◌∙◌}
+use Rattle.std.proofs.Common.{◌≡◌, IfOk, sym, ap, ◌∙◌, subst}
+use Rattle.std.proofs.lemmas.Result.{IfOk-weaker}
 use Rattle.sn_ast.specs.declared.tag_expr.TForm.TheOpen.{TForm-F}
 use Rattle.sn_ast.specs.declared.tag_expr.TForm.TheVariants as form
 use Rattle.sn_names.specs.Names.{number_in}
 use Rattle.sn_label_scope.specs.Operators.{bin_op}
 use Rattle.sn_scope.specs.Tags.{tag_expr}
 use Rattle.sn_tagexpr.specs.declared.expr.TagExpr.TheVariants.{Tag, Neg, Not, Op, And, Or, Cond}
+use Rattle.sn_scope.specs.Joints.{joined}
+use Rattle.sn_scope.specs.declared.tags.Joint.TheVariants as joint
 use Rattle.sn_scope.proofs.Forms.{tag_level}
 use Rattle.sn_scope.proofs.tags.+tag_expr.Goals as goal
 
@@ -25,31 +28,41 @@ tag_expr-returns-in_ok-boxed_expr-in-Not t c =
     ap Not (c.in_ok-boxed_expr-in-Not.ensures ∙ ap (tag_expr names) c.get-in-Not.ensures)
     ∙ sym (tag_level names c.args.e.now (TForm-F.Not c.in-Not.part) _ c.in-Not.is (form.rolls-Not c.in-Not.part))
 
-pub tag_expr-returns-in_ok-left-in-Op : goal.tag_expr-returns-in_ok-left-in-Op
-tag_expr-returns-in_ok-left-in-Op t c =
+pub tag_expr-returns-in-Op : goal.tag_expr-returns-in-Op
+tag_expr-returns-in-Op t c =
     let names = c.args.names.now in
-    let made = c.in_ok-left-in-Op in
-    let operator = c.in-Op.operator in
-    ap (λ o. Op o made.left made.right) c.bin_op.ensures
-    ∙ ap (λ e. Op (bin_op operator) e made.right) (made.ensures.left ∙ ap (tag_expr names) c.get-in-Op.ensures)
-    ∙ ap (Op (bin_op operator) (tag_expr names c.in-Op.left)) (made.ensures.right ∙ ap (tag_expr names) c.get-in-Op-2.ensures)
-    ∙ sym (tag_level names c.args.e.now (TForm-F.Op operator c.in-Op.left c.in-Op.right) _ c.in-Op.is (form.rolls-Op operator c.in-Op.left c.in-Op.right))
+    let left = c.in-Op.left in
+    let right = c.in-Op.right in
+    let parts = c.boxed_pair.result in
+    let is_left : IfOk parts (λ pair. pair.0 ≡ tag_expr names left) = subst (λ e. IfOk parts (λ pair. pair.0 ≡ tag_expr names e)) c.get-in-Op.ensures c.boxed_pair.ensures.left in
+    let is_right : IfOk parts (λ pair. pair.1 ≡ tag_expr names right) = subst (λ e. IfOk parts (λ pair. pair.1 ≡ tag_expr names e)) c.get-in-Op-2.ensures c.boxed_pair.ensures.right in
+    IfOk-weaker c.join.result _ _
+    (λ made is. is ∙ ap (λ o. joined (joint.Op o) (tag_expr names left) (tag_expr names right)) c.bin_op.ensures ∙ sym (tag_level names c.args.e.now (TForm-F.Op c.in-Op.operator left right) _ c.in-Op.is (form.rolls-Op c.in-Op.operator left right)))
+    (c.join.ensures (tag_expr names left) (tag_expr names right) is_left is_right)
 
-pub tag_expr-returns-in_ok-left-in-And : goal.tag_expr-returns-in_ok-left-in-And
-tag_expr-returns-in_ok-left-in-And t c =
+pub tag_expr-returns-in-And : goal.tag_expr-returns-in-And
+tag_expr-returns-in-And t c =
     let names = c.args.names.now in
-    let made = c.in_ok-left-in-And in
-    ap (λ e. And e made.right) (made.ensures.left ∙ ap (tag_expr names) c.get-in-And.ensures)
-    ∙ ap (And (tag_expr names c.in-And.left)) (made.ensures.right ∙ ap (tag_expr names) c.get-in-And-2.ensures)
-    ∙ sym (tag_level names c.args.e.now (TForm-F.And c.in-And.left c.in-And.right) _ c.in-And.is (form.rolls-And c.in-And.left c.in-And.right))
+    let left = c.in-And.left in
+    let right = c.in-And.right in
+    let parts = c.boxed_pair-in-And.result in
+    let is_left : IfOk parts (λ pair. pair.0 ≡ tag_expr names left) = subst (λ e. IfOk parts (λ pair. pair.0 ≡ tag_expr names e)) c.get-in-And.ensures c.boxed_pair-in-And.ensures.left in
+    let is_right : IfOk parts (λ pair. pair.1 ≡ tag_expr names right) = subst (λ e. IfOk parts (λ pair. pair.1 ≡ tag_expr names e)) c.get-in-And-2.ensures c.boxed_pair-in-And.ensures.right in
+    IfOk-weaker c.join-in-And.result _ _
+    (λ made is. is ∙ sym (tag_level names c.args.e.now (TForm-F.And left right) _ c.in-And.is (form.rolls-And left right)))
+    (c.join-in-And.ensures (tag_expr names left) (tag_expr names right) is_left is_right)
 
-pub tag_expr-returns-in_ok-left-in-Or : goal.tag_expr-returns-in_ok-left-in-Or
-tag_expr-returns-in_ok-left-in-Or t c =
+pub tag_expr-returns-in-Or : goal.tag_expr-returns-in-Or
+tag_expr-returns-in-Or t c =
     let names = c.args.names.now in
-    let made = c.in_ok-left-in-Or in
-    ap (λ e. Or e made.right) (made.ensures.left ∙ ap (tag_expr names) c.get-in-Or.ensures)
-    ∙ ap (Or (tag_expr names c.in-Or.left)) (made.ensures.right ∙ ap (tag_expr names) c.get-in-Or-2.ensures)
-    ∙ sym (tag_level names c.args.e.now (TForm-F.Or c.in-Or.left c.in-Or.right) _ c.in-Or.is (form.rolls-Or c.in-Or.left c.in-Or.right))
+    let left = c.in-Or.left in
+    let right = c.in-Or.right in
+    let parts = c.boxed_pair-in-Or.result in
+    let is_left : IfOk parts (λ pair. pair.0 ≡ tag_expr names left) = subst (λ e. IfOk parts (λ pair. pair.0 ≡ tag_expr names e)) c.get-in-Or.ensures c.boxed_pair-in-Or.ensures.left in
+    let is_right : IfOk parts (λ pair. pair.1 ≡ tag_expr names right) = subst (λ e. IfOk parts (λ pair. pair.1 ≡ tag_expr names e)) c.get-in-Or-2.ensures c.boxed_pair-in-Or.ensures.right in
+    IfOk-weaker c.join-in-Or.result _ _
+    (λ made is. is ∙ sym (tag_level names c.args.e.now (TForm-F.Or left right) _ c.in-Or.is (form.rolls-Or left right)))
+    (c.join-in-Or.ensures (tag_expr names left) (tag_expr names right) is_left is_right)
 
 pub tag_expr-returns-in_ok-left-in-Cond : goal.tag_expr-returns-in_ok-left-in-Cond
 tag_expr-returns-in_ok-left-in-Cond t c =
