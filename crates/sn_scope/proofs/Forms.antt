@@ -15,7 +15,7 @@ use Rattle.sn_tagexpr.specs.declared.expr.TagExpr.{TagExpr}
 use Rattle.sn_label_scope.specs.Refusals.{Check}
 use Rattle.sn_label_scope.specs.declared.refusal.Refusal.{Refusal}
 use Rattle.sn_scope.specs.Networks.{network_at, network_required, network_step, required_step}
-use Rattle.sn_scope.specs.Tags.{tag_expr, tag_step, tags_required, tags_step}
+use Rattle.sn_scope.specs.Tags.{tag_expr, tag_step}
 use Rattle.sn_scope.specs.declared.network.Network.{Network}
 use Rattle.sn_scope.specs.declared.scopes.Scopes.{Scopes}
 
