@@ -1,5 +1,5 @@
 -- One level of a tree, form by form.
-use Rattle.std.proofs.Common.{◌≡◌, ℕ, ◌<◌, ◌≤◌, true, false, cond, nat_lt, List, [], ◌∷◌, length, drop, get_or, map, slice_get, Option, Some, None, option_map, sym, ap, ◌∙◌, arith}
+use Rattle.std.proofs.Common.{◌≡◌, refl, ℕ, ◌<◌, ◌≤◌, true, false, cond, nat_lt, List, [], ◌∷◌, length, drop, get_or, map, slice_get, Option, Some, None, option_map, sym, ap, ◌∙◌, arith}
 use Rattle.std.proofs.lemmas.Bool.Decides.{nat_tests}
 use Rattle.std.proofs.lemmas.Option.{slice_get_past, slice_get-get_or}
 use Rattle.sn_record.specs.LabelSet.{Labels}
@@ -72,6 +72,17 @@ module _ (boxes : List BoxProgram) (levels : ℕ) (nets : List Component) where
   series-rest (a ∷ []) first two at = absurd (omega (arith, two))
   series-rest (a ∷ b ∷ []) first two at = ap (λ x. in_series (part_of boxes levels nets x) (part_of boxes levels nets b)) (sym at)
   series-rest (a ∷ b ∷ c ∷ more) first two at = ap (λ x. in_series (part_of boxes levels nets x) (parts_of boxes levels nets (b ∷ c ∷ more))) (sym at)
+
+  -- one part is the rest alone, and several are in series
+  pub rest-one : (parts : List Network) (first : Network) → length parts ≡ 1 → first ≡ get_or parts 0 first → rest_of boxes levels nets parts ≡ part_of boxes levels nets first
+  rest-one [] first one at = absurd (omega (arith, one))
+  rest-one (a ∷ []) first one at = ap (part_of boxes levels nets) (sym at)
+  rest-one (a ∷ b ∷ more) first one at = absurd (omega (arith, one))
+
+  pub rest-more : (parts : List Network) → (length parts ≡ 1 → ⊥) → rest_of boxes levels nets parts ≡ parts_of boxes levels nets parts
+  rest-more [] many = refl
+  rest-more (a ∷ []) many = absurd (many refl)
+  rest-more (a ∷ b ∷ more) many = refl
 
 -- a box of the number is called, and there is no other
 pub call_within : (boxes : List BoxProgram) (place number : ℕ) → number < length boxes → call boxes place number ≡ Some (net.Box place number)

@@ -1,8 +1,10 @@
 pub mod Members
 pub mod Nets
 pub mod Nodes
+pub mod Forms
 pub mod Levels
 pub mod Building
+pub mod Loops
 pub mod Fitting
 pub mod SoundTags
 pub mod SoundFilters

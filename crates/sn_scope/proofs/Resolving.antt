@@ -1,7 +1,8 @@
 -- From what was declared to what a program is resolved to.
-use Rattle.std.proofs.Common.{◌≡◌, ℕ, ◌-◌, ◌<◌, nat_le, nat_lt, true, false, cond, List, [], ◌∷◌, length, All, Option, Some, None, Result, Ok, Err, IfOk, refl, sym, ap, subst, ◌∙◌, arith}
+use Rattle.std.proofs.Common.{◌≡◌, ◌⊎◌, ℕ, ◌-◌, ◌<◌, ◌≤◌, nat_le, nat_lt, true, false, cond, List, [], ◌∷◌, length, All, Option, Some, None, Result, Ok, Err, IfOk, refl, sym, ap, subst, ◌∙◌, arith}
 use Rattle.std.proofs.lemmas.List.Elements.{All-nil, All-cons}
 use Rattle.std.proofs.lemmas.Bool.Decides.{nat_tests}
+use mathlib.Core.Logic.{inl, inr}
 use Rattle.sn_ast.specs.declared.declaration.Program.{Program}
 use Rattle.sn_net.specs.Net.{nodes}
 use Rattle.sn_net.specs.WellFormed.{IsWellFormed}
@@ -16,6 +17,7 @@ use Rattle.sn_scope.specs.declared.declarations.Declarations.{Declarations}
 use Rattle.sn_scope.specs.declared.declarations.Pending.{Pending}
 use Rattle.sn_label_scope.specs.declared.refusal.Refusal.{Refusal}
 use Rattle.sn_scope.specs.declared.resolved.Parts.{Parts}
+use Rattle.sn_scope.specs.declared.resolution.ScopeFault.{ScopeFault}
 use Rattle.sn_scope.specs.declared.resolution.ScopeFault.TheVariants as cause
 use Rattle.sn_scope.proofs.SoundTrees.{trees_are_sound}
 
@@ -107,3 +109,36 @@ main_within names st (Some main) =
 -- the program's claim is one of the claims
 pub has_main : (names : List (List ℕ)) (st : Declarations) (r : Parts) → with_main names st st.main ≡ Ok r → HasMain r
 has_main names st r is = subst (λ x. IfOk x HasMain) is (main_within names st st.main)
+
+-- what is decided from the number of the program's claim, the names and the claims
+pub with_all : (names held : List (List ℕ)) (st : Declarations) (main : ℕ) (boxes : List BoxProgram) (claims : List Claim) → st.main ≡ Some main → length names ≤ most_names →
+    claims_within st most_nodes st.claims ≡ Ok claims → main < length claims → held ≡ names → boxes ≡ st.boxes → with_main names st st.main ≡ Ok (record { names = held; boxes = boxes; claims = claims; main = main })
+with_all names held st main boxes claims is_main few is_claims below is_names is_boxes =
+    let fits : nat_le (length names) most_names ≡ true = grind (arith, nat_tests, few) in
+    let within : nat_lt main (length claims) ≡ true = grind (arith, nat_tests, below) in
+    ap (with_main names st) is_main
+    ∙ ap (λ b. cond b (resolved names st.boxes main (claims_within st most_nodes st.claims)) (Err cause.TooManyNames)) fits
+    ∙ ap (resolved names st.boxes main) is_claims
+    ∙ ap (λ b. cond b (Ok (record { names = names; boxes = st.boxes; claims = claims; main = main })) (Err cause.NoMain)) within
+    ∙ ap (λ ns. Ok (record { names = ns; boxes = st.boxes; claims = claims; main = main })) (sym is_names)
+    ∙ ap (λ bs. Ok (record { names = held; boxes = bs; claims = claims; main = main })) (sym is_boxes)
+
+pub with_many : (names : List (List ℕ)) (st : Declarations) (main : ℕ) → st.main ≡ Some main → most_names < length names → with_main names st st.main ≡ Err cause.TooManyNames
+with_many names st main is_main many =
+    let past : nat_le (length names) most_names ≡ false = grind (arith, nat_tests, many) in
+    ap (with_main names st) is_main ∙ ap (λ b. cond b (resolved names st.boxes main (claims_within st most_nodes st.claims)) (Err cause.TooManyNames)) past
+
+with_few : (names : List (List ℕ)) (st : Declarations) (main : ℕ) → st.main ≡ Some main → length names ≤ most_names → with_main names st st.main ≡ resolved names st.boxes main (claims_within st most_nodes st.claims)
+with_few names st main is_main few =
+    let fits : nat_le (length names) most_names ≡ true = grind (arith, nat_tests, few) in
+    ap (with_main names st) is_main ∙ ap (λ b. cond b (resolved names st.boxes main (claims_within st most_nodes st.claims)) (Err cause.TooManyNames)) fits
+
+-- why it is not decided, in the words of the whole
+pub no_main : (names : List (List ℕ)) (st : Declarations) (fault : ScopeFault) → (fault ≡ cause.Memory) ⊎ ((st.main ≡ None) × (fault ≡ cause.NoMain)) → (fault ≡ cause.Memory) ⊎ (with_main names st st.main ≡ Err fault)
+no_main names st fault (inl memory) = inl memory
+no_main names st fault (inr none) = inr (ap (with_main names st) none.0 ∙ ap Err (sym none.1))
+
+pub not_resolved : (names : List (List ℕ)) (st : Declarations) (main : ℕ) (fault : ScopeFault) → st.main ≡ Some main → length names ≤ most_names →
+    (fault ≡ cause.Memory) ⊎ ((any : List (List ℕ)) → resolved any st.boxes main (claims_within st most_nodes st.claims) ≡ Err fault) → (fault ≡ cause.Memory) ⊎ (with_main names st st.main ≡ Err fault)
+not_resolved names st main fault is_main few (inl memory) = inl memory
+not_resolved names st main fault is_main few (inr told) = inr (with_few names st main is_main few ∙ told names)

@@ -1,3 +1,4 @@
+pub mod Joints
 pub mod Tags
 pub mod Filters
 pub mod Scopes

@@ -2,13 +2,14 @@
 ghost use Rattle.std.specs.Prelude.{◌≡◌, ◌++◌, IfOk, OnOk, map as each};
 ghost use Rattle.sn_scope.specs.Declarations.{after, after_box, after_net, after_type, all_after, ended, main_after, net_at, net_number, net_signature, number_at, start, with_claim, with_meaning, with_net, with_net_signature, with_signature};
 
+use crate::held::Held;
 use crate::network::{Component, Network, network_at};
 use crate::scopes::{Meaning, Scopes};
 use crate::types::type_at;
 use sn_ast::{BoxDecl, Decl, Ident, NetDecl, NetExpr, Sig, TypePart};
 use sn_box_scope::box_at;
 use sn_label_scope::{Reason, Refusals};
-use sn_list::{Memory, Seq};
+use sn_list::{Boxed, Memory, Seq};
 use sn_names::NameTable;
 use sn_net::Boxes;
 use sn_record::LabelSet;
@@ -124,11 +125,11 @@ impl Declarations {
     }
 
     /// The number of the net: that of the one that its network names, or else its own.
-    fn net(&mut self, network: Network) -> Result<usize, Memory>
+    fn net(&mut self, network: Boxed<Network>) -> Result<usize, Memory>
         ensures declared { OnOk result (self.new ≡ record self.old { nets = with_net network self.old.nets }) }
         ensures number { IfOk result (λ number. number ≡ net_at network self.old.nets) }
     {
-        match network {
+        match network.into_inner() {
             Network::Named(number) => Ok(number),
             Network::Made(component) => {
                 let number = self.nets.len();
@@ -281,11 +282,12 @@ impl Declarations {
         ensures { OnOk result (self.new ≡ after_net names.now net.now self.old) }
     {
         let signature = self.net_signature(alloc, names, &net.sig)?;
-        let before = replace(&mut self.claims, Seq::new(alloc));
+        let value = replace(&mut self.claims, Seq::new(alloc));
+        let before = Held { value };
         self.scopes.enter(alloc)?;
         self.declarations(alloc, names, net.decls.as_slice())?;
         let number = self.end(alloc, names, &net.connect)?;
-        self.claim(&net.name, signature, number, before)?;
+        self.claim(&net.name, signature, number, before.into_inner())?;
         self.declare(&net.name, Meaning::Net(number))
     }
 

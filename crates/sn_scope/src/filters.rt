@@ -1,7 +1,10 @@
 //! Filters by the numbers of their labels.
-ghost use Rattle.std.specs.Prelude.{◌≡◌, ◌++◌, ◌∷◌, [], IfOk, OnOk, fold, map as each};
+ghost use Rattle.std.specs.Prelude.{◌≡◌, ◌++◌, ◌∷◌, [], IfOk, OnOk, fold, not, map as each};
 ghost use Rattle.std.specs.FinMap as map;
 ghost use Rattle.sn_net.specs.Filter.{target};
+ghost use Rattle.sn_record.specs.LabelSet.{contains};
+ghost use Rattle.sn_label_scope.specs.Refusals.{required};
+ghost use Rattle.sn_label_scope.specs.declared.refusal.Reason.TheVariants as reason;
 ghost use Rattle.sn_scope.specs.Filters.{filter_at, filter_required, identity_at, is_between, items_required, part_at, source_required, template_at, template_required};
 
 use crate::tags::{require_tags, tag_expr};
@@ -32,22 +35,6 @@ fn part_at(alloc: Global, names: &NameTable, item: &ItemAt) -> Result<Part, Memo
     }
 }
 
-/// Appends what the item sets, and answers its label.
-fn push_part(
-    alloc: Global,
-    names: &NameTable,
-    parts: &mut Seq<Part>,
-    item: &ItemAt,
-) -> Result<Label, Memory>
-    ensures parts { OnOk result (parts.new ≡ parts.old ++ part_at names.now item.now ∷ []) }
-    ensures target { IfOk result (λ label. label ≡ target (part_at names.now item.now)) }
-{
-    let part = part_at(alloc, names, item)?;
-    let target = part.target();
-    sn_stack::append(parts, part)?;
-    Ok(target)
-}
-
 /// A label is refused that the item takes a value from and the pattern doesn't have.
 fn require_source(names: &NameTable, refusals: &mut Refusals, pattern: &LabelSet, item: &ItemAt)
     ensures { refusals.new ≡ source_required names.now pattern.now item.now refusals.old }
@@ -72,6 +59,30 @@ fn require_source(names: &NameTable, refusals: &mut Refusals, pattern: &LabelSet
     }
 }
 
+/// Appends what the item sets. Its label is refused where an item before it sets that, and one that it takes a value from where the
+/// pattern doesn't have it.
+fn add_item(
+    alloc: Global,
+    names: &NameTable,
+    refusals: &mut Refusals,
+    pattern: &LabelSet,
+    set: &mut LabelSet,
+    parts: &mut Seq<Part>,
+    item: &ItemAt,
+) -> Result<(), Memory>
+    ensures parts { OnOk result (parts.new ≡ parts.old ++ part_at names.now item.now ∷ []) }
+    ensures set { OnOk result (set.new ≡ map.insert set.old (target (part_at names.now item.now)) tt) }
+    ensures refused { OnOk result (refusals.new ≡ required (not (contains set.old (target (part_at names.now item.now)))) reason.Twice item.now.target.name.at (source_required names.now pattern.now item.now refusals.old)) }
+{
+    require_source(names, refusals, pattern, item);
+    let part = part_at(alloc, names, item)?;
+    let target = part.target();
+    sn_stack::append(parts, part)?;
+    let fresh = set.insert(target)?;
+    refusals.require(fresh, Reason::Twice, item.target.name.at);
+    Ok(())
+}
+
 /// The template by its numbers. A label that is set twice is refused, and one that the pattern doesn't have.
 fn template_at(
     alloc: Global,
@@ -86,10 +97,7 @@ fn template_at(
     let mut set = LabelSet::new(alloc);
     let mut parts = Seq::new(alloc);
     for item in template.items.as_slice() {
-        require_source(names, refusals, pattern, item);
-        let target = push_part(alloc, names, &mut parts, item)?;
-        let fresh = set.insert(target)?;
-        refusals.require(fresh, Reason::Twice, item.target.name.at);
+        add_item(alloc, names, refusals, pattern, &mut set, &mut parts, item)?;
     }
     Ok(Template { parts })
 }

@@ -3,6 +3,8 @@
 
 mod declarations;
 mod filters;
+mod heap;
+mod held;
 mod network;
 mod numbering;
 mod resolution;

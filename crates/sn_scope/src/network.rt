@@ -80,12 +80,19 @@ fn is_part(meaning: Option<Meaning>) -> bool
     }
 }
 
+/// The component as a part of its own, on the heap.
+fn made(alloc: Global, component: Component) -> Result<Boxed<Network>, Memory>
+    ensures { IfOk result (λ network. network ≡ Made component) }
+{
+    Boxed::new(alloc, Network::Made(component))
+}
+
 /// The filter that passes each record on.
-fn identity(alloc: Global, place: u32) -> Result<Network, Memory>
+fn identity(alloc: Global, place: u32) -> Result<Boxed<Network>, Memory>
     ensures { IfOk result (λ network. network ≡ Made (form.Filter (identity_at place))) }
 {
     let filter = identity_at(alloc, place)?;
-    Ok(Network::Made(Component::Filter(filter)))
+    made(alloc, Component::Filter(filter))
 }
 
 /// The net that the name stands for, or a call of the box. What is neither is refused, and then a filter stands for it.
@@ -94,7 +101,7 @@ fn named_at(
     scopes: &Scopes,
     refusals: &mut Refusals,
     name: &Ident,
-) -> Result<Network, Memory>
+) -> Result<Boxed<Network>, Memory>
     ensures network { IfOk result (λ network. network ≡ named_at (meaning_of scopes.now name.now.text) name.now.at) }
     ensures refused { OnOk result (refusals.new ≡ required (is_part (meaning_of scopes.now name.now.text)) reason.Unknown name.now.at refusals.old) }
 {
@@ -102,8 +109,8 @@ fn named_at(
     let meaning = scopes.find(name.text.as_slice());
     refusals.require(is_part(meaning), Reason::Unknown, place);
     match meaning {
-        Some(Meaning::Net(number)) => Ok(Network::Named(number)),
-        Some(Meaning::Box(number)) => Ok(Network::Made(Component::Box { place, number })),
+        Some(Meaning::Net(number)) => Boxed::new(alloc, Network::Named(number)),
+        Some(Meaning::Box(number)) => made(alloc, Component::Box { place, number }),
         Some(Meaning::Type(_) | Meaning::Signature(_)) | None => identity(alloc, place),
     }
 }
@@ -135,12 +142,12 @@ fn filter(
     place: u32,
     pattern: &Variant,
     templates: &[TemplateAt],
-) -> Result<Network, Memory>
+) -> Result<Boxed<Network>, Memory>
     ensures network { IfOk result (λ network. network ≡ Made (form.Filter (filter_at names.now place pattern.now templates.now))) }
     ensures refused { OnOk result (refusals.new ≡ filter_required names.now place pattern.now templates.now refusals.old) }
 {
     let filter = filter_at(alloc, names, refusals, place, pattern, templates)?;
-    Ok(Network::Made(Component::Filter(filter)))
+    made(alloc, Component::Filter(filter))
 }
 
 /// A synchrocell. Another number of patterns than 2 to 8 is refused.
@@ -150,30 +157,41 @@ fn sync(
     refusals: &mut Refusals,
     place: u32,
     patterns: &[Variant],
-) -> Result<Network, Memory>
+) -> Result<Boxed<Network>, Memory>
     ensures network { IfOk result (λ network. network ≡ Made (form.Sync place (each (variant_at names.now) patterns.now))) }
     ensures refused { OnOk result (refusals.new ≡ fold (variant_required names.now) (required (is_between 2 8 (length patterns.now)) reason.Arity place refusals.old) patterns.now) }
 {
     refusals.require(is_between(2, 8, patterns.len()), Reason::Arity, place);
     let patterns = label_sets(alloc, names, refusals, patterns)?;
-    Ok(Network::Made(Component::Sync { place, patterns }))
+    made(alloc, Component::Sync { place, patterns })
 }
 
-/// The exit pattern of a star, and its guard.
-fn exit_at(
+/// A star over its body.
+fn star(
     alloc: Global,
     names: &NameTable,
     refusals: &mut Refusals,
+    place: u32,
+    merge: Merge,
+    body: Boxed<Network>,
     exit: &Variant,
     guard: &Option<TExpr>,
-) -> Result<(LabelSet, Option<TagExpr>), Memory>
-    ensures exit { IfOk result (λ made. made.0 ≡ variant_at names.now exit.now) }
-    ensures guard { IfOk result (λ made. made.1 ≡ guard_at names.now guard.now) }
+) -> Result<Boxed<Network>, Memory>
+    ensures network { IfOk result (λ network. network ≡ Made (form.Star place merge body (variant_at names.now exit.now) (guard_at names.now guard.now))) }
     ensures refused { OnOk result (refusals.new ≡ guard_required names.now (variant_at names.now exit.now) guard.now (variant_required names.now refusals.old exit.now)) }
 {
     let exit = label_set(alloc, names, refusals, exit.labels.as_slice())?;
     let guard = guard_at(alloc, names, refusals, &exit, guard)?;
-    Ok((exit, guard))
+    made(
+        alloc,
+        Component::Star {
+            place,
+            merge,
+            body,
+            exit,
+            guard,
+        },
+    )
 }
 
 /// The network with each name of a net or of a box by the number of that, and each label by the number of its name. As
@@ -185,7 +203,7 @@ pub fn network_at(
     scopes: &Scopes,
     refusals: &mut Refusals,
     network: &NetExpr,
-) -> Result<Network, Memory>
+) -> Result<Boxed<Network>, Memory>
     ensures { IfOk result (λ made. (made ≡ network_at names.now scopes.now network.now) × (refusals.new ≡ network_required names.now scopes.now network.now refusals.old)) }
 {
     let place = network.at;
@@ -198,16 +216,19 @@ pub fn network_at(
         NetForm::Sync { patterns } => sync(alloc, names, refusals, place, patterns.as_slice()),
         NetForm::Serial { parts } => {
             let parts = networks_at(alloc, names, scopes, refusals, parts.as_slice())?;
-            Ok(Network::Made(Component::Serial(parts)))
+            made(alloc, Component::Serial(parts))
         }
         NetForm::Choice { det, branches } => {
             refusals.require(is_between(2, 64, branches.len()), Reason::Arity, place);
             let branches = networks_at(alloc, names, scopes, refusals, branches.as_slice())?;
-            Ok(Network::Made(Component::Choice {
-                place,
-                merge: merge_of(*det),
-                branches,
-            }))
+            made(
+                alloc,
+                Component::Choice {
+                    place,
+                    merge: merge_of(*det),
+                    branches,
+                },
+            )
         }
         NetForm::Star {
             det,
@@ -215,39 +236,24 @@ pub fn network_at(
             exit,
             guard,
         } => {
-            let body = boxed_at(alloc, names, scopes, refusals, body.get())?;
-            let (exit, guard) = exit_at(alloc, names, refusals, exit, guard)?;
-            Ok(Network::Made(Component::Star {
-                place,
-                merge: merge_of(*det),
-                body,
-                exit,
-                guard,
-            }))
+            let body = network_at(alloc, names, scopes, refusals, body.get())?;
+            let merge = merge_of(*det);
+            star(alloc, names, refusals, place, merge, body, exit, guard)
         }
         NetForm::Split { det, body, tag } => {
-            let body = boxed_at(alloc, names, scopes, refusals, body.get())?;
-            Ok(Network::Made(Component::Split {
-                place,
-                merge: merge_of(*det),
-                body,
-                tag: names.number(tag.text.as_slice()),
-            }))
+            let body = network_at(alloc, names, scopes, refusals, body.get())?;
+            let tag = names.number(tag.text.as_slice());
+            made(
+                alloc,
+                Component::Split {
+                    place,
+                    merge: merge_of(*det),
+                    body,
+                    tag,
+                },
+            )
         }
     }
-}
-
-#[cycle(network_at)]
-fn boxed_at(
-    alloc: Global,
-    names: &NameTable,
-    scopes: &Scopes,
-    refusals: &mut Refusals,
-    network: &NetExpr,
-) -> Result<Boxed<Network>, Memory>
-    ensures { IfOk result (λ made. (made ≡ network_at names.now scopes.now network.now) × (refusals.new ≡ network_required names.now scopes.now network.now refusals.old)) }
-{
-    Boxed::new(alloc, network_at(alloc, names, scopes, refusals, network)?)
 }
 
 #[cycle(network_at)]
@@ -263,7 +269,7 @@ fn networks_at(
     let mut made = Seq::new(alloc);
     for network in networks {
         let network = network_at(alloc, names, scopes, refusals, network)?;
-        sn_stack::append(&mut made, network)?;
+        sn_stack::append(&mut made, network.into_inner())?;
     }
     Ok(made)
 }

@@ -1,11 +1,12 @@
 //! From a program to its boxes and its claims.
-ghost use Rattle.std.specs.Prelude.{◌≡◌, ◌⊎◌, ◌<◌, ℕ, List, IfOk, IfErr, IfSome, [], Ok, Err, Some, None, length};
+ghost use Rattle.std.specs.Prelude.{◌≡◌, ◌⊎◌, ◌<◌, ◌≤◌, ℕ, List, IfOk, IfErr, IfSome, [], Ok, Err, Some, None, length};
 ghost use Rattle.sn_scope.specs.Claims.{IsClaim};
-ghost use Rattle.sn_scope.specs.Resolution.{fault_at, parts_of, resolution, resolved, with_main};
+ghost use Rattle.sn_scope.specs.Resolution.{fault_at, most_names, parts_of, resolution, resolved, with_main};
 ghost use Rattle.sn_scope.specs.Trees.{claims_within, most_nodes, signature_at};
 ghost use Rattle.sn_scope.specs.declared.resolution.ScopeFault.TheVariants as cause;
 
 use crate::declarations::{Declarations, Pending};
+use crate::held::Held;
 use crate::numbering::enter_decls;
 use crate::resolved::{Parts, Resolved};
 use crate::trees::tree;
@@ -107,7 +108,7 @@ fn claim(
             let (input, output) = types_of(alloc, declarations, pending.signature)?;
             Ok(Some(Claim {
                 place: pending.place,
-                net: faced.into_net(),
+                net: faced.into_inner().into_net(),
                 input,
                 output,
             }))
@@ -163,23 +164,32 @@ fn claims_with(
     }
 }
 
+/// The names of the labels, which may be so many and no more.
+fn labels(names: Held<NameTable>) -> Result<Held<Names>, ScopeFault>
+    ensures ok { IfOk result (λ labels. (labels.value ≡ names.value) × (length names.value ≤ most_names)) }
+    ensures refused { IfErr result (λ fault. (fault ≡ cause.TooManyNames) × (most_names < length names.value)) }
+{
+    match Names::from_table(names.into_inner()) {
+        Ok(value) => Ok(Held { value }),
+        Err(_) => Err(ScopeFault::TooManyNames),
+    }
+}
+
 /// What is left to decide where nothing is refused at a place. Takes the boxes out of the declarations.
 fn finish(
     alloc: Global,
-    names: NameTable,
+    names: Held<NameTable>,
     declarations: &mut Declarations,
 ) -> Result<Parts, ScopeFault>
-    ensures ok { IfOk result (λ parts. with_main names declarations.old declarations.old.main ≡ Ok parts) }
-    ensures refused { IfErr result (λ fault. (fault ≡ cause.Memory) ⊎ (with_main names declarations.old declarations.old.main ≡ Err fault)) }
+    ensures ok { IfOk result (λ parts. with_main names.value declarations.old declarations.old.main ≡ Ok parts) }
+    ensures refused { IfErr result (λ fault. (fault ≡ cause.Memory) ⊎ (with_main names.value declarations.old declarations.old.main ≡ Err fault)) }
 {
     let main = main_of(declarations)?;
-    let Ok(names) = Names::from_table(names) else {
-        return Err(ScopeFault::TooManyNames);
-    };
+    let names = labels(names)?;
     let claims = claims_with(alloc, declarations, main)?;
     let boxes = replace(&mut declarations.boxes, Seq::new(alloc));
     Ok(Parts {
-        names,
+        names: names.into_inner(),
         boxes,
         claims,
         main,
@@ -195,10 +205,12 @@ pub fn resolve(alloc: Global, program: &Program) -> Result<Resolved, ScopeFault>
     ensures ok { IfOk result (λ resolved. resolution program.now ≡ Ok (parts_of resolved)) }
     ensures refused { IfErr result (λ fault. (fault ≡ cause.Memory) ⊎ (resolution program.now ≡ Err fault)) }
 {
-    let mut names = NameTable::new(alloc);
-    enter_decls(&mut names, program.decls.as_slice())?;
+    let mut names = Held {
+        value: NameTable::new(alloc),
+    };
+    enter_decls(&mut names.value, program.decls.as_slice())?;
     let mut declarations = Declarations::new(alloc);
-    declarations.declarations(alloc, &names, program.decls.as_slice())?;
+    declarations.declarations(alloc, &names.value, program.decls.as_slice())?;
     match declarations.refusals.least() {
         Some(refusal) => Err(fault_of(refusal)),
         None => {

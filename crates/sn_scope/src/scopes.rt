@@ -19,10 +19,19 @@ pub enum Meaning {
 }
 
 /// The names that were declared in one scope, each beside its meaning.
-#[derive(Drop)]
 pub struct Scope {
     names: NameTable,
     meanings: Seq<Meaning>,
+}
+
+/// Written out, so that a function that gives a scope up calls this, and is not proved over the table of its names.
+impl Drop for Scope {
+    fn drop(self) {
+        let Scope {
+            names: _names,
+            meanings: _meanings,
+        } = self;
+    }
 }
 
 /// A scope, and those around it from the outermost on.

@@ -1,5 +1,7 @@
 //! Expressions over tags by the numbers of the tags.
 ghost use Rattle.std.specs.Prelude.{◌≡◌, IfOk};
+ghost use Rattle.sn_tagexpr.specs.declared.expr.TagExpr.{TagExpr as Expr};
+ghost use Rattle.sn_scope.specs.Joints.{joined};
 ghost use Rattle.sn_scope.specs.Tags.{tag_expr, tags_required};
 
 use sn_ast::{TExpr, TForm};
@@ -7,8 +9,31 @@ use sn_label_scope::{Reason, Refusals, bin_op};
 use sn_list::{Boxed, Memory};
 use sn_names::NameTable;
 use sn_record::{Kind, Label, LabelSet};
-use sn_tagexpr::TagExpr;
+use sn_tagexpr::{BinOp, TagExpr};
 use std::alloc::Global;
+
+/// An operator between two parts.
+#[derive(Clone, Copy)]
+enum Joint {
+    Op(BinOp),
+    And,
+    Or,
+}
+
+/// Two parts and what stands between them. Takes the parts as they came, so that its caller has no exit for each form.
+fn join(
+    joint: Joint,
+    parts: Result<(Boxed<TagExpr>, Boxed<TagExpr>), Memory>,
+) -> Result<TagExpr, Memory>
+    ensures { (left right : Expr) → IfOk parts (λ pair. pair.0 ≡ left) → IfOk parts (λ pair. pair.1 ≡ right) → IfOk result (λ expr. expr ≡ joined joint left right) }
+{
+    let (left, right) = parts?;
+    match joint {
+        Joint::Op(operator) => Ok(TagExpr::Op(operator, left, right)),
+        Joint::And => Ok(TagExpr::And(left, right)),
+        Joint::Or => Ok(TagExpr::Or(left, right)),
+    }
+}
 
 #[cycle(tag_expr)]
 fn boxed_expr(alloc: Global, names: &NameTable, e: &TExpr) -> Result<Boxed<TagExpr>, Memory>
@@ -43,16 +68,17 @@ pub fn tag_expr(alloc: Global, names: &NameTable, e: &TExpr) -> Result<TagExpr, 
         TForm::Neg(part) => Ok(TagExpr::Neg(boxed_expr(alloc, names, part.get())?)),
         TForm::Not(part) => Ok(TagExpr::Not(boxed_expr(alloc, names, part.get())?)),
         TForm::Op(operator, left, right) => {
-            let (left, right) = boxed_pair(alloc, names, left.get(), right.get())?;
-            Ok(TagExpr::Op(bin_op(*operator), left, right))
+            let joint = Joint::Op(bin_op(*operator));
+            join(joint, boxed_pair(alloc, names, left.get(), right.get()))
         }
         TForm::And(left, right) => {
-            let (left, right) = boxed_pair(alloc, names, left.get(), right.get())?;
-            Ok(TagExpr::And(left, right))
+            join(
+                Joint::And,
+                boxed_pair(alloc, names, left.get(), right.get()),
+            )
         }
         TForm::Or(left, right) => {
-            let (left, right) = boxed_pair(alloc, names, left.get(), right.get())?;
-            Ok(TagExpr::Or(left, right))
+            join(Joint::Or, boxed_pair(alloc, names, left.get(), right.get()))
         }
         TForm::Cond(test, left, right) => {
             let test = boxed_expr(alloc, names, test.get())?;

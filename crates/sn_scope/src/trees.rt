@@ -7,11 +7,12 @@ ghost use Rattle.sn_net.specs.Face.{face};
 ghost use Rattle.sn_net.specs.declared.expr.BoxProgram.{BoxProgram};
 ghost use Rattle.sn_net.specs.declared.net.Net.{Net as SomeNet};
 ghost use Rattle.sn_net.specs.declared.net.Net.TheVariants as form;
-ghost use Rattle.sn_scope.specs.Built.{AreBuilt, IsBuilt, narrowed, node_of, part_of, parts_of, rest_of, series_of};
-ghost use Rattle.sn_scope.specs.Trees.{all_some, call, tree};
+ghost use Rattle.sn_scope.specs.Built.{AreBuilt, IsBuilt, IsMade, narrowed, node_of, part_of, parts_of, rest_of, series_of};
+ghost use Rattle.sn_scope.specs.Trees.{all_some, call, in_series, tree};
 
+use crate::heap::on_heap;
 use crate::network::{Component, Network};
-use sn_list::{Memory, Seq};
+use sn_list::{Boxed, Memory, Seq};
 use sn_net::{Boxes, Faced, Filter, Merge, TagExpr, copy_sets};
 use sn_record::LabelSet;
 use std::alloc::Global;
@@ -19,11 +20,11 @@ use std::alloc::Global;
 const MOST_VARIANTS: usize = 1024;
 
 /// Nothing where the face has too many variants.
-fn narrow(built: Option<Faced>) -> Option<Faced>
+fn narrow(built: Option<Boxed<Faced>>) -> Option<Boxed<Faced>>
     ensures { result ≡ narrowed built }
 {
     let faced = built?;
-    if faced.face.len() <= MOST_VARIANTS {
+    if faced.get().face.len() <= MOST_VARIANTS {
         return Some(faced);
     }
     None
@@ -51,7 +52,7 @@ pub fn tree(
     component: &Component,
     levels: u32,
     room: &mut usize,
-) -> Result<Option<Faced>, Memory>
+) -> Result<Option<Boxed<Faced>>, Memory>
     ensures { IfOk result (IsBuilt boxes.now (tree boxes.now levels nets.now component.now) room.old room.new) }
 {
     if levels == 0 || !take_room(room) {
@@ -70,7 +71,7 @@ fn series_tree(
     parts: &[Network],
     levels: u32,
     room: &mut usize,
-) -> Result<Option<Faced>, Memory>
+) -> Result<Option<Boxed<Faced>>, Memory>
     ensures { IfOk result (IsBuilt boxes.now (parts_of boxes.now levels nets.now parts.now) room.old room.new) }
 {
     if levels == 0 || !take_room(room) {
@@ -89,7 +90,7 @@ fn node(
     component: &Component,
     levels: u32,
     room: &mut usize,
-) -> Result<Option<Faced>, Memory>
+) -> Result<Option<Boxed<Faced>>, Memory>
     ensures { IfOk result (IsBuilt boxes.now (node_of boxes.now levels nets.now component.now) (suc room.old) room.new) }
 {
     match component {
@@ -128,29 +129,57 @@ fn node(
 }
 
 /// The call of a box, whose room is taken, or nothing where there is no box of that number.
-fn call(alloc: Global, boxes: &Boxes, place: u32, number: u32) -> Result<Option<Faced>, Memory>
+fn call(
+    alloc: Global,
+    boxes: &Boxes,
+    place: u32,
+    number: u32,
+) -> Result<Option<Boxed<Faced>>, Memory>
     ensures { IfOk result (λ built. (room : ℕ) → IsBuilt boxes.now (call boxes.now place number) (suc room) room built) }
 {
     if number as usize >= boxes.len() {
         return Ok(None);
     }
-    Ok(Some(Faced::of_box(alloc, place, number, boxes)?))
+    let faced = Faced::of_box(alloc, place, number, boxes);
+    Ok(Some(on_heap(alloc, faced)?))
 }
 
 /// A filter, whose room is taken.
-fn filter_node(alloc: Global, filter: &Filter) -> Result<Option<Faced>, Memory>
+fn filter_node(alloc: Global, filter: &Filter) -> Result<Option<Boxed<Faced>>, Memory>
     ensures { IfOk result (λ built. (boxes : List BoxProgram) (room : ℕ) → IsBuilt boxes (Some (form.Filter filter.now)) (suc room) room built) }
 {
     let copy = filter.copy(alloc)?;
-    Ok(Some(Faced::filter(alloc, copy)?))
+    Ok(Some(on_heap(alloc, Faced::filter(alloc, copy))?))
 }
 
 /// A synchrocell, whose room is taken.
-fn sync_node(alloc: Global, place: u32, patterns: &[LabelSet]) -> Result<Option<Faced>, Memory>
+fn sync_node(
+    alloc: Global,
+    place: u32,
+    patterns: &[LabelSet],
+) -> Result<Option<Boxed<Faced>>, Memory>
     ensures { IfOk result (λ built. (boxes : List BoxProgram) (room : ℕ) → IsBuilt boxes (Some (form.Sync place patterns.now)) (suc room) room built) }
 {
     let copies = copy_sets(alloc, patterns)?;
-    Ok(Some(Faced::sync(alloc, place, copies)?))
+    Ok(Some(on_heap(alloc, Faced::sync(alloc, place, copies))?))
+}
+
+/// Two parts in series, whose own room is taken, where the right one is built too. Takes that as it came, so that its
+/// caller has one exit.
+fn serial_over(
+    alloc: Global,
+    left: Boxed<Faced>,
+    right: Result<Option<Boxed<Faced>>, Memory>,
+) -> Result<Option<Boxed<Faced>>, Memory>
+    ensures { IfOk result (λ built. (boxes : List BoxProgram) (first second : Option SomeNet) (old between new : ℕ) → IsMade boxes first old between left → IfOk right (IsBuilt boxes second between new) → IsBuilt boxes (in_series first second) (suc old) new built) }
+{
+    match right? {
+        Some(right) => {
+            let faced = Faced::serial(alloc, left.into_inner(), right.into_inner());
+            Ok(Some(on_heap(alloc, faced)?))
+        }
+        None => Ok(None),
+    }
 }
 
 /// A choice over its branches, whose own room is taken, where all of them are built.
@@ -159,11 +188,14 @@ fn choice_over(
     place: u32,
     merge: Merge,
     branches: Option<Seq<Faced>>,
-) -> Result<Option<Faced>, Memory>
+) -> Result<Option<Boxed<Faced>>, Memory>
     ensures { IfOk result (λ built. (boxes : List BoxProgram) (defined : Option (List SomeNet)) (old new : ℕ) → AreBuilt boxes defined old new branches → IsBuilt boxes (option_map (λ nets. form.Choice place merge nets (each (face boxes) nets)) defined) (suc old) new built) }
 {
     match branches {
-        Some(branches) => Ok(Some(Faced::choice(alloc, place, merge, branches)?)),
+        Some(branches) => {
+            let faced = Faced::choice(alloc, place, merge, branches);
+            Ok(Some(on_heap(alloc, faced)?))
+        }
         None => Ok(None),
     }
 }
@@ -173,17 +205,18 @@ fn star_over(
     alloc: Global,
     place: u32,
     merge: Merge,
-    body: Option<Faced>,
+    body: Option<Boxed<Faced>>,
     exit: &LabelSet,
     guard: &Option<TagExpr>,
-) -> Result<Option<Faced>, Memory>
+) -> Result<Option<Boxed<Faced>>, Memory>
     ensures { IfOk result (λ built. (boxes : List BoxProgram) (defined : Option SomeNet) (old new : ℕ) → IsBuilt boxes defined old new body → IsBuilt boxes (option_map (λ tree. form.Star place merge tree exit.now guard.now) defined) (suc old) new built) }
 {
     match body {
         Some(body) => {
-            let guard = copy_guard(alloc, guard)?;
             let exit = exit.copy()?;
-            Ok(Some(Faced::star(alloc, place, merge, body, exit, guard)?))
+            let guard = copy_guard(alloc, guard)?;
+            let faced = Faced::star(alloc, place, merge, body.into_inner(), exit, guard);
+            Ok(Some(on_heap(alloc, faced)?))
         }
         None => Ok(None),
     }
@@ -194,13 +227,16 @@ fn split_over(
     alloc: Global,
     place: u32,
     merge: Merge,
-    body: Option<Faced>,
+    body: Option<Boxed<Faced>>,
     tag: u32,
-) -> Result<Option<Faced>, Memory>
+) -> Result<Option<Boxed<Faced>>, Memory>
     ensures { IfOk result (λ built. (boxes : List BoxProgram) (defined : Option SomeNet) (old new : ℕ) → IsBuilt boxes defined old new body → IsBuilt boxes (option_map (λ tree. form.Split place merge tree tag) defined) (suc old) new built) }
 {
     match body {
-        Some(body) => Ok(Some(Faced::split(alloc, place, merge, body, tag)?)),
+        Some(body) => {
+            let faced = Faced::split(alloc, place, merge, body.into_inner(), tag);
+            Ok(Some(on_heap(alloc, faced)?))
+        }
         None => Ok(None),
     }
 }
@@ -223,7 +259,7 @@ fn series(
     parts: &[Network],
     levels: u32,
     room: &mut usize,
-) -> Result<Option<Faced>, Memory>
+) -> Result<Option<Boxed<Faced>>, Memory>
     ensures { IfOk result (IsBuilt boxes.now (series_of boxes.now levels nets.now parts.now) (suc room.old) room.new) }
 {
     if parts.len() < 2 {
@@ -232,10 +268,8 @@ fn series(
     let Some(left) = part(alloc, boxes, nets, &parts[0], levels, room)? else {
         return Ok(None);
     };
-    let Some(right) = rest(alloc, boxes, nets, &parts[1..], levels, room)? else {
-        return Ok(None);
-    };
-    Ok(Some(Faced::serial(alloc, left, right)?))
+    let right = rest(alloc, boxes, nets, &parts[1..], levels, room);
+    serial_over(alloc, left, right)
 }
 
 /// The tree of one part, or of several in series.
@@ -247,7 +281,7 @@ fn rest(
     parts: &[Network],
     levels: u32,
     room: &mut usize,
-) -> Result<Option<Faced>, Memory>
+) -> Result<Option<Boxed<Faced>>, Memory>
     ensures { IfOk result (IsBuilt boxes.now (rest_of boxes.now levels nets.now parts.now) room.old room.new) }
 {
     if parts.len() == 1 {
@@ -265,7 +299,7 @@ fn part(
     network: &Network,
     levels: u32,
     room: &mut usize,
-) -> Result<Option<Faced>, Memory>
+) -> Result<Option<Boxed<Faced>>, Memory>
     ensures { IfOk result (IsBuilt boxes.now (part_of boxes.now levels nets.now network.now) room.old room.new) }
 {
     match network {
@@ -296,7 +330,7 @@ fn trees(
         let Some(faced) = part(alloc, boxes, nets, network, levels, room)? else {
             return Ok(None);
         };
-        sn_stack::append(&mut made, faced)?;
+        sn_stack::append(&mut made, faced.into_inner())?;
     }
     Ok(Some(made))
 }

@@ -31,11 +31,20 @@ impl Hash for Key {
 }
 
 /// Different variants in the order in which they were first added, seen as the list of them.
-#[derive(Drop)]
 pub struct Variants {
     sets: Vec<LabelSet>,
     // The same sets again, so that none is looked for by a walk.
     keys: IndexSet<Key>,
+}
+
+/// Written out, so that a function that gives them up calls this, and is not proved over the table of the keys.
+impl Drop for Variants {
+    fn drop(self) {
+        let Variants {
+            sets: _sets,
+            keys: _keys,
+        } = self;
+    }
 }
 
 impl Model for Variants {
@@ -70,9 +79,9 @@ impl Variants {
         ensures ok { OnOk result (self.new ≡ added self.old set) }
         ensures err { OnErr result (self.new ≡ self.old) }
     {
-        let key = Key { set: set.copy()? };
         // Room comes first, so that the sets and the keys grow together or not at all.
         self.sets.reserve(1)?;
+        let key = Key { set: set.copy()? };
         if self.keys.insert(key)? {
             self.sets.push_reserved(set);
         }
@@ -95,6 +104,7 @@ impl Variants {
     pub fn into_sets(self) -> Seq<LabelSet>
         ensures { result ≡ self }
     {
-        Seq::from_vec(self.sets)
+        let Variants { sets, keys: _keys } = self;
+        Seq::from_vec(sets)
     }
 }

@@ -27,6 +27,6 @@ returns-in_ok-input-in-Some c =
     record {
       tree = c.in-Some.faced.net;
       fits = ap (fitting c.args.room.now) at ∙ fit boxes c.args.room.now c.tree.new.room _ c.in-Some.faced made;
-      same = λ i. record { place = c.args.pending.place; net = c.into_net.ensures i; input = c.in_ok-input-in-Some.ensures.input i; output = c.in_ok-input-in-Some.ensures.output i };
+      same = λ i. record { place = c.args.pending.place; net = (c.into_net.ensures ∙ ap (λ faced. faced.net) c.into_inner.ensures) i; input = c.in_ok-input-in-Some.ensures.input i; output = c.in_ok-input-in-Some.ensures.output i };
       left = omega (arith, made.room);
     }
