@@ -265,9 +265,25 @@ fn grow_series(
     let at = sum(grown.next()?, width(run.depth(), left)?)?;
     let first = Spot::below(alloc, steps, path, Step::Left, 0)?;
     let to_right = Target::Node(at);
-    grow(alloc, run, grown, left, &first.steps, first.path.as_slice(), to_right)?;
+    grow(
+        alloc,
+        run,
+        grown,
+        left,
+        &first.steps,
+        first.path.as_slice(),
+        to_right,
+    )?;
     let second = Spot::below(alloc, steps, path, Step::Right, 1)?;
-    grow(alloc, run, grown, right, &second.steps, second.path.as_slice(), goes)
+    grow(
+        alloc,
+        run,
+        grown,
+        right,
+        &second.steps,
+        second.path.as_slice(),
+        goes,
+    )
 }
 
 /// A choice: its dispatcher, and then its branches, each of which gives to a child of that.
@@ -291,7 +307,15 @@ fn grow_choice(
     for (i, branch) in branches.iter().enumerate() {
         let spot = Spot::below(alloc, steps, path, Step::Branch(i as u32), i as u32)?;
         let child = Target::Child { node, child: i + 1 };
-        grow(alloc, run, grown, branch, &spot.steps, spot.path.as_slice(), child)?;
+        grow(
+            alloc,
+            run,
+            grown,
+            branch,
+            &spot.steps,
+            spot.path.as_slice(),
+            child,
+        )?;
     }
     Ok(())
 }
@@ -316,7 +340,16 @@ pub(crate) fn grow(
             push_cell(alloc, run, grown, patterns.as_slice(), steps, path, goes)
         }
         Net::Serial { left, right } => {
-            grow_series(alloc, run, grown, left.get(), right.get(), steps, path, goes)
+            grow_series(
+                alloc,
+                run,
+                grown,
+                left.get(),
+                right.get(),
+                steps,
+                path,
+                goes,
+            )
         }
         Net::Choice {
             merge,
@@ -327,7 +360,17 @@ pub(crate) fn grow(
             grow_choice(alloc, run, grown, *merge, branches, steps, path, goes)
         }
         Net::Star { merge, .. } => {
-            push_fork(alloc, run, grown, *merge, run.depth(), &[], steps, path, goes)
+            push_fork(
+                alloc,
+                run,
+                grown,
+                *merge,
+                run.depth(),
+                &[],
+                steps,
+                path,
+                goes,
+            )
         }
         Net::Split { merge, .. } => {
             push_fork(alloc, run, grown, *merge, 0, &[], steps, path, goes)
