@@ -1,13 +1,13 @@
 -- The node at a number, in code and in the view.
-use Rattle.std.proofs.Common.{arith, ◌≡◌, ℕ, zero, suc, ◌<◌, List, [], ◌∷◌, subst, map, length, get_or, set, sym, ap, ◌∙◌}
-use Rattle.std.specs.Prelude.{slice_get, Option, Some, unwrap_or}
+use Rattle.std.proofs.Common.{arith, ◌≡◌, ℕ, zero, suc, ◌<◌, ◌≤◌, ◌&&◌, false, List, [], ◌∷◌, subst, map, length, get_or, set, refl, sym, ap, ◌∙◌}
+use Rattle.std.specs.Prelude.{slice_get, IfSome, Option, None, Some, is_some, unwrap_or}
 use Rattle.std.specs.declared.snapshot.Snapshot.{Snapshot}
 use Rattle.std.proofs.lemmas.List.{length-map}
 use Rattle.std.proofs.lemmas.List.Elements.{All-get_or, All-same, All-set}
 use Rattle.sn_model.specs.declared.run.Run.{Run}
 use Rattle.sn_view.specs.View as view
-use Rattle.sn_view.specs.View.{View}
-use Rattle.sn_view.specs.Next.{form_of, node_at}
+use Rattle.sn_view.specs.View.{Route, View}
+use Rattle.sn_view.specs.Next.{Routing, enabled, form_of, if_node, is_fork, may_route, needs, node_at, routing_of}
 use Rattle.sn_node.specs.Answered.{form_at}
 use Rattle.sn_node.specs.Seen.{node_of}
 use Rattle.sn_node.specs.declared.node.Made.{Made}
@@ -16,11 +16,26 @@ use Rattle.sn_model.specs.Run.{net_of}
 use Rattle.sn_graph.specs.Arena.{IsOf, view_of}
 use Rattle.sn_graph.specs.Grown.{IsOfRun}
 use Rattle.sn_graph.specs.declared.arena.Arena.{Arena}
-use Rattle.sn_graph.proofs.Changes.{seen_get}
+use Rattle.sn_graph.proofs.Changes.{seen_get, seen_none}
 
 -- what is read there is seen there
 pub here : (arena : Arena) (i : ℕ) (a : Node) → i < length arena.nodes.items → a ≡ get_or arena.nodes.items i a → node_at i (view_of arena) ≡ Some (node_of a)
 here arena i a within read = seen_get node_of arena.nodes.items i a within read
+
+pub holds_here : (P : view.Node → Type 0) (arena : Arena) (i : ℕ) (a : Node) → i < length arena.nodes.items → a ≡ get_or arena.nodes.items i a → P (node_of a) → IfSome (node_at i (view_of arena)) P
+holds_here P arena i a within read p = subst (λ o. IfSome o P) (sym (here arena i a within read)) p
+
+-- no dispatcher is there
+pub no_route_past : (arena : Arena) (i : ℕ) → length arena.nodes.items ≤ i → false ≡ enabled (view_of arena) (Route i)
+no_route_past arena i past = sym (ap (if_node (λ n. may_route n (routing_of (view_of arena) n)) false) (seen_none node_of arena.nodes.items i past))
+
+pub no_route_here : (arena : Arena) (i : ℕ) (a : Node) → i < length arena.nodes.items → a ≡ get_or arena.nodes.items i a → is_fork (node_of a).state ≡ false → false ≡ enabled (view_of arena) (Route i)
+no_route_here arena i a within read other =
+    sym (ap (if_node (λ n. may_route n (routing_of (view_of arena) n)) false) (here arena i a within read) ∙ by (routing_of (view_of arena) (node_of a)))
+  where
+    by : (o : Option Routing) → may_route (node_of a) o ≡ false
+    by None = refl
+    by (Some r) = ap (λ b. b && is_some (needs (node_of a) r)) other
 
 -- two arenas that are seen alike have the same node there
 pub seen_alike : (old new : Arena) (i : ℕ) (a b : Node) → view_of new ≡ view_of old → node_at i (view_of old) ≡ Some (node_of a) → node_at i (view_of new) ≡ Some (node_of b) → node_of a ≡ node_of b

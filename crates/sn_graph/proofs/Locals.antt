@@ -1,6 +1,6 @@
 -- The event Local, in the view.
 use Rattle.std.proofs.Common.{◌≡◌, ℕ, ◌<◌, ◌≤◌, List, length, get_or, set, true, false, refl, sym, ap, subst, ◌∙◌, arith}
-use Rattle.std.specs.Prelude.{slice_get, Some, IfSome}
+use Rattle.std.specs.Prelude.{slice_get, None, Some, IfSome, is_some}
 use Rattle.std.proofs.lemmas.List.{length-map, map-set}
 use Rattle.std.proofs.lemmas.List.Elements.{All-get_or, All-same, All-set}
 use Rattle.std.proofs.lemmas.Option.{slice_get_read}
@@ -9,9 +9,9 @@ use Rattle.sn_model.specs.declared.run.Run.{Run}
 use Rattle.sn_model.specs.Run.{net_of}
 use Rattle.sn_view.specs.View as view
 use Rattle.sn_view.specs.View.{Entry, Local, View}
-use Rattle.sn_view.specs.Next.{after, enabled, form_of, passed, send}
+use Rattle.sn_view.specs.Next.{after, enabled, form_of, if_node, local_of, passed, send}
 use Rattle.sn_node.specs.Answered.{form_at}
-use Rattle.sn_node.specs.Local.{Gives, GivesAtMost, PassesOn, Stays}
+use Rattle.sn_node.specs.Local.{Gives, GivesAtMost, HasRoute, PassesOn, Stays, local_at}
 use Rattle.sn_node.specs.Seen.{node_of, target_of}
 use Rattle.sn_node.specs.declared.node.Made.{Made}
 use Rattle.sn_node.specs.declared.node.Node.{Node}
@@ -19,8 +19,8 @@ use Rattle.sn_node.proofs.Events.{few_passed, gives_enabled, local_disabled, loc
 use Rattle.sn_graph.specs.Arena.{IsOf, view_of}
 use Rattle.sn_graph.specs.declared.arena.Arena.{Arena}
 use Rattle.sn_graph.specs.Grown.{IsOfRun}
-use Rattle.sn_graph.specs.Local.{CountsAt, GivesAt}
-use Rattle.sn_graph.proofs.Changes.{unchanged}
+use Rattle.sn_graph.specs.Local.{CountsAt, GivesAt, HasRouteAt}
+use Rattle.sn_graph.proofs.Changes.{seen_none, unchanged}
 use Rattle.sn_graph.proofs.Here.{here, seen_alike, with_node}
 
 -- the graph is of the run also where one node changes that is of it still
@@ -110,3 +110,32 @@ module _ (old new : Arena) (i : ℕ) (e a b : Node) (alike : view_of new ≡ vie
 -- a node that is seen the same is nothing new
 pub same_view : (old new : Arena) (i : ℕ) (a b : Node) → view_of new ≡ view_of old → a ≡ get_or new.nodes.items i a → node_of b ≡ node_of a → with_node new i b ≡ view_of old
 same_view old new i a b alike read same = ap (λ ns. record (view_of new) { nodes = ns }) (unchanged node_of new.nodes.items i a b read same) ∙ alike
+
+-- no node is there
+pub none_there : (arena : Arena) (i : ℕ) → length arena.nodes.items ≤ i → false ≡ enabled (view_of arena) (Local i)
+none_there arena i past = sym (ap (if_node (λ n. is_some (local_of (view_of arena) n)) false) (seen_none node_of arena.nodes.items i past))
+
+-- what is asked of the node at i, and what it answers, are the view's
+module _ (arena : Arena) (i : ℕ) (a : Node) (within : i < length arena.nodes.items) (read : a ≡ get_or arena.nodes.items i a) (run : Run) (of : IsOf arena run) where
+  pub run_there : a.made.run.value ≡ run
+  run_there = subst (IsOfRun run) (sym read) (All-get_or (IsOfRun run) arena.nodes.items i a within of.nodes)
+
+  pub route_there : HasRouteAt i (view_of arena) → HasRoute run (form_at (net_of run) a.made.path) (node_of a)
+  route_there routed =
+      subst (λ (r : Run). HasRoute r (form_at (net_of r) a.made.path) (node_of a)) of.made
+      (subst (λ o. IfSome o (λ n. HasRoute (view_of arena).run (form_of (view_of arena) n) n)) (here arena i a within read) routed)
+
+  pub gives_there : (es : List (Entry ModelItem)) → Gives run (form_at (net_of run) a.made.path) (node_of a) es → GivesAt i (view_of arena) es
+  gives_there es gives =
+      subst (λ o. IfSome o (λ n. Gives (view_of arena).run (form_of (view_of arena) n) n es)) (sym (here arena i a within read))
+      (subst (λ (r : Run). Gives r (form_at (net_of r) a.made.path) (node_of a) es) (sym of.made) gives)
+
+  pub counts_there : (most : ℕ) → GivesAtMost run (form_at (net_of run) a.made.path) (node_of a) most → CountsAt i (view_of arena) most
+  counts_there most counts =
+      subst (λ o. IfSome o (λ n. GivesAtMost (view_of arena).run (form_of (view_of arena) n) n most)) (sym (here arena i a within read))
+      (subst (λ (r : Run). GivesAtMost r (form_at (net_of r) a.made.path) (node_of a) most) (sym of.made) counts)
+
+  pub nothing_there : local_at run (form_at (net_of run) a.made.path) (node_of a) ≡ None → false ≡ enabled (view_of arena) (Local i)
+  nothing_there none =
+      sym (ap (if_node (λ n. is_some (local_of (view_of arena) n)) false) (here arena i a within read)
+      ∙ ap is_some (subst (λ (r : Run). local_at r (form_at (net_of r) a.made.path) (node_of a) ≡ None) (sym of.made) none))

@@ -1,5 +1,5 @@
 -- Calls that are begun and finished, as the view has them.
-use Rattle.std.proofs.Common.{◌≡◌, ℕ, zero, suc, ◌+◌, ◌<◌, ◌==◌, Bool, true, false, true≢false, cond, ◌&&◌, List, [], ◌∷◌, map, length, get_or, set, refl, sym, ap, ap₂, subst, ◌∙◌, arith, eq-eqb}
+use Rattle.std.proofs.Common.{◌≡◌, ℕ, zero, suc, ◌+◌, ◌<◌, ◌≤◌, ◌==◌, Bool, true, false, true≢false, cond, ◌&&◌, List, [], ◌∷◌, map, length, get_or, set, refl, sym, ap, ap₂, subst, ◌∙◌, arith, eq-eqb}
 use Rattle.std.specs.Prelude.{slice_get, slice_set, Option, Some, IfSome}
 use Rattle.std.specs.List.{Any, list_any}
 use Rattle.std.proofs.lemmas.Bool.{eqb-true}
@@ -24,9 +24,9 @@ use Rattle.sn_node.specs.Calls.{Begins, IsAnswering, IsNextCall, begins, finishe
 use Rattle.sn_node.specs.Seen.{node_of}
 use Rattle.sn_node.specs.declared.node.Node.{Node}
 use Rattle.sn_graph.specs.Arena.{IsOf, view_of}
-use Rattle.sn_graph.specs.Started.{Finishes, IsCallAt, StandOnce, StartsCall}
+use Rattle.sn_graph.specs.Started.{Finishes, IsCallAt, StandOnce, StartsCall, StartsNone}
 use Rattle.sn_graph.specs.declared.arena.Arena.{Arena}
-use Rattle.sn_graph.proofs.Changes.{changes, read_twice, seen_get}
+use Rattle.sn_graph.proofs.Changes.{changes, read_twice, seen_get, seen_none}
 
 -- ONE ELEMENT IS CHANGED
 module _ {X : Type 0} (f : X → X) where
@@ -150,6 +150,31 @@ pub form_read : (nodes : List Node) (i place number : ℕ) (run : Run) (net : Ne
     → net ≡ net_of run → path ≡ a.made.path → form_at net path ≡ Some (Net-F.Box place number) → form_at (net_of run) b.made.path ≡ Some (Net-F.Box place number)
 form_read nodes i place number run net path a b within one two is from form =
     sym (ap₂ form_at is (from ∙ ap (λ (n : Node). n.made.path) (read_twice nodes i a b within one two))) ∙ form
+
+-- where nothing may start
+pub none_past : (arena : Arena) (i : ℕ) → length arena.nodes.items ≤ i → StartsNone i (view_of arena) (view_of arena)
+none_past arena i past = record { not_enabled = ap (if_node (may_start (view_of arena)) false) (seen_none node_of arena.nodes.items i past); same = refl }
+
+module _ (arena : Arena) (run : Run) (made : arena.run.value ≡ run) (i : ℕ) (a : Node) (within : i < length arena.nodes.items) (read : a ≡ get_or arena.nodes.items i a) where
+  -- what may start there, by the part of the network that the node is
+  pub may_there : (net : Net) (path : List ℕ) → net ≡ net_of run → path ≡ a.made.path
+      → enabled (view_of arena) (Start i) ≡ (is_box (form_at net path) && list_any has_no_call (node_of a).waiting)
+  may_there net path is from =
+      ap (if_node (may_start (view_of arena)) false) (seen_get node_of arena.nodes.items i a within read)
+      ∙ ap (λ o. is_box o && list_any has_no_call (node_of a).waiting) (ap (λ (r : Run). form_at (net_of r) a.made.path) made ∙ sym (ap₂ form_at is from))
+
+  pub none_elsewhere : (net : Net) (path : List ℕ) → net ≡ net_of run → path ≡ a.made.path → is_box (form_at net path) ≡ false → StartsNone i (view_of arena) (view_of arena)
+  none_elsewhere net path is from other = record { not_enabled = may_there net path is from ∙ ap (λ b. b && list_any has_no_call (node_of a).waiting) other; same = refl }
+
+  pub none_waits : list_any has_no_call (node_of a).waiting ≡ false → StartsNone i (view_of arena) (view_of arena)
+  none_waits none = record {
+    not_enabled = may_there (net_of run) a.made.path refl refl ∙ ap (λ b. is_box (form_at (net_of run) a.made.path) && b) none ∙ and_false (is_box (form_at (net_of run) a.made.path));
+    same = refl;
+  }
+    where
+      and_false : (b : Bool) → (b && false) ≡ false
+      and_false true = refl
+      and_false false = refl
 
 -- the first free record of a box is in flight
 module _ (arena : Arena) (run : Run) (made : arena.run.value ≡ run) (i : ℕ) (a b : Node) (within : i < length arena.nodes.items) (read : a ≡ get_or arena.nodes.items i a)

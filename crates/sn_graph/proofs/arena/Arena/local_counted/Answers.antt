@@ -1,4 +1,5 @@
 use Rattle.std.proofs.Common.{refl, ◌∙◌, length}
+use Rattle.std.proofs.lemmas.Result.{IfOk-from_err}
 use Rattle.sn_node.specs.Local.{given_of}
 use Rattle.sn_graph.proofs.Changes.{on_err}
 use Rattle.sn_graph.proofs.Locals.{counted_after, counted_enabled, few_here, of_changed, same_view, stays_disabled, still_within, there_in}
@@ -51,3 +52,52 @@ pub returns-in-None-clause-after : goal.returns-in-None-clause-after
 returns-in-None-clause-after c =
     let stays = rw c.in-None.is at c.in_ok-given.ensures.ok in
     same_view c.args.self.now c.reserve.new.self c.args.i c.index_mut.result.now c.pass.new.self c.reserve.ensures.view c.index_mut.ensures.value stays.same
+
+pub returns-in_err-reserve-clause-enabled : goal.returns-in_err-reserve-clause-enabled
+returns-in_err-reserve-clause-enabled c = IfOk-from_err c.from_residual.result _ c.from_residual.ensures.0
+
+pub returns-in_err-reserve-clause-after : goal.returns-in_err-reserve-clause-after
+returns-in_err-reserve-clause-after c = IfOk-from_err c.from_residual.result _ c.from_residual.ensures.0
+
+pub returns-in_err-reserve-clause-err : goal.returns-in_err-reserve-clause-err
+returns-in_err-reserve-clause-err c = on_err c.from_residual.result c.reserve.ensures.view
+
+pub returns-in_err-reserve-clause-of : goal.returns-in_err-reserve-clause-of
+returns-in_err-reserve-clause-of c = c.reserve.ensures.of c.args.run.now c.requires.of
+
+pub returns-in_err-reserve-clause-quiet : goal.returns-in_err-reserve-clause-quiet
+returns-in_err-reserve-clause-quiet c = c.reserve.ensures.quiet
+
+pub returns-in_err-given-clause-enabled : goal.returns-in_err-given-clause-enabled
+returns-in_err-given-clause-enabled c = IfOk-from_err c.from_residual-in_err-given.result _ c.from_residual-in_err-given.ensures.0
+
+pub returns-in_err-given-clause-after : goal.returns-in_err-given-clause-after
+returns-in_err-given-clause-after c = IfOk-from_err c.from_residual-in_err-given.result _ c.from_residual-in_err-given.ensures.0
+
+pub returns-in_err-given-clause-of : goal.returns-in_err-given-clause-of
+returns-in_err-given-clause-of c =
+    let within = still_within c.args.self.now c.reserve.new.self c.args.i c.reserve.ensures.view c.requires.within in
+    of_changed c.reserve.new.self _ c.args.run.now c.args.i c.index_mut.result.now c.pass.new.self within c.index_mut.ensures.value c.pass.ensures.made refl refl (c.reserve.ensures.of c.args.run.now c.requires.of)
+
+pub returns-in_err-given-clause-quiet : goal.returns-in_err-given-clause-quiet
+returns-in_err-given-clause-quiet c = record { places = c.reserve.ensures.quiet.places; agenda = c.reserve.ensures.quiet.agenda }
+
+pub returns-in-Some-clause-err : goal.returns-in-Some-clause-err
+returns-in-Some-clause-err c = tt
+
+pub returns-in-Some-clause-quiet : goal.returns-in-Some-clause-quiet
+returns-in-Some-clause-quiet c = record {
+  places = c.send_given.ensures.quiet.places ∙ c.reserve.ensures.quiet.places;
+  agenda = c.send_given.ensures.quiet.agenda ∙ c.reserve.ensures.quiet.agenda;
+}
+
+pub returns-in-None-clause-err : goal.returns-in-None-clause-err
+returns-in-None-clause-err c = tt
+
+pub returns-in-None-clause-of : goal.returns-in-None-clause-of
+returns-in-None-clause-of c =
+    let within = still_within c.args.self.now c.reserve.new.self c.args.i c.reserve.ensures.view c.requires.within in
+    of_changed c.reserve.new.self _ c.args.run.now c.args.i c.index_mut.result.now c.pass.new.self within c.index_mut.ensures.value c.pass.ensures.made refl refl (c.reserve.ensures.of c.args.run.now c.requires.of)
+
+pub returns-in-None-clause-quiet : goal.returns-in-None-clause-quiet
+returns-in-None-clause-quiet c = record { places = c.reserve.ensures.quiet.places; agenda = c.reserve.ensures.quiet.agenda }
