@@ -1,8 +1,8 @@
 //! From the bytes of a source and of an input to a run.
 use crate::command::Limits;
-use crate::held::Held;
 use crate::refusal::Refusal;
 use sn_input::Input;
+use sn_list::Held;
 use sn_load::{INPUT_LIMIT, Program, SOURCE_LIMIT, items_of, load_source, read_input};
 use sn_model::Run;
 use sn_names::Names;

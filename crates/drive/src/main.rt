@@ -15,7 +15,6 @@
 mod chance;
 mod command;
 mod driving;
-mod held;
 mod load;
 mod nodes;
 mod order;

@@ -83,11 +83,11 @@ fn boxed_at(
     scope: &BoxScope,
     refusals: &mut Refusals,
     variables: &mut Variables,
-    e: &BExpr,
+    e: &Boxed<BExpr>,
 ) -> Result<Boxed<Expr>, Memory>
     ensures { IfOk result (λ boxed. (boxed ≡ expr_at scope.now e.now variables.old) × (refusals.new ≡ expr_required scope.now e.now variables.old refusals.old) × (variables.new ≡ variables.old)) }
 {
-    Boxed::new(alloc, expr_at(alloc, scope, refusals, variables, e)?)
+    Boxed::new(alloc, expr_at(alloc, scope, refusals, variables, e.get())?)
 }
 
 #[cycle(expr_at)]
@@ -96,8 +96,8 @@ fn pair_at(
     scope: &BoxScope,
     refusals: &mut Refusals,
     variables: &mut Variables,
-    left: &BExpr,
-    right: &BExpr,
+    left: &Boxed<BExpr>,
+    right: &Boxed<BExpr>,
 ) -> Result<(Boxed<Expr>, Boxed<Expr>), Memory>
     ensures { IfOk result (λ pair. (pair.0 ≡ expr_at scope.now left.now variables.old) × (pair.1 ≡ expr_at scope.now right.now variables.old) × (refusals.new ≡ expr_required scope.now right.now variables.old (expr_required scope.now left.now variables.old refusals.old)) × (variables.new ≡ variables.old)) }
 {
@@ -112,12 +112,12 @@ fn parts_at(
     scope: &BoxScope,
     refusals: &mut Refusals,
     variables: &mut Variables,
-    parts: &[BExpr],
+    parts: &Seq<BExpr>,
 ) -> Result<Seq<Expr>, Memory>
     ensures { IfOk result (λ made. (made ≡ parts_over (each (expr_at scope.now) parts.now) variables.old) × (refusals.new ≡ parts_required (each (expr_required scope.now) parts.now) variables.old refusals.old) × (variables.new ≡ variables.old) × (length made ≡ length parts.now)) }
 {
     let mut made = Seq::new(alloc);
-    for part in parts {
+    for part in parts.as_slice() {
         let part = expr_at(alloc, scope, refusals, variables, part)?;
         sn_stack::append(&mut made, part)?;
     }
@@ -132,7 +132,7 @@ fn rest_at(
     refusals: &mut Refusals,
     variables: &mut Variables,
     name: &Ident,
-    rest: &BExpr,
+    rest: &Boxed<BExpr>,
 ) -> Result<Boxed<Expr>, Memory>
     ensures { IfOk result (λ boxed. (boxed ≡ expr_at scope.now rest.now (with_bound variables.old name.now)) × (refusals.new ≡ expr_required scope.now rest.now (with_bound variables.old name.now) refusals.old) × (variables.new ≡ variables.old)) }
 {
@@ -160,74 +160,40 @@ pub(crate) fn expr_at(
         BForm::TextLit(text) => text_at(alloc, refusals, text.as_slice(), e.at),
         BForm::Tag(name) => variables.named(refusals, true, name),
         BForm::Name(name) => variables.named(refusals, false, name),
-        BForm::Neg(part) => {
-            boxed_at(alloc, scope, refusals, variables, part.get()).map(Expr::Neg)
-        }
-        BForm::Not(part) => {
-            boxed_at(alloc, scope, refusals, variables, part.get()).map(Expr::Not)
-        }
+        BForm::Neg(part) => boxed_at(alloc, scope, refusals, variables, part).map(Expr::Neg),
+        BForm::Not(part) => boxed_at(alloc, scope, refusals, variables, part).map(Expr::Not),
         BForm::Op(operator, left, right) => {
-            let (left, right) = pair_at(
-                alloc,
-                scope,
-                refusals,
-                variables,
-                left.get(),
-                right.get(),
-            )?;
+            let (left, right) = pair_at(alloc, scope, refusals, variables, left, right)?;
             Ok(Expr::Op(bin_op(*operator), left, right))
         }
         BForm::And(left, right) => {
-            let (left, right) = pair_at(
-                alloc,
-                scope,
-                refusals,
-                variables,
-                left.get(),
-                right.get(),
-            )?;
+            let (left, right) = pair_at(alloc, scope, refusals, variables, left, right)?;
             Ok(Expr::And(left, right))
         }
         BForm::Or(left, right) => {
-            let (left, right) = pair_at(
-                alloc,
-                scope,
-                refusals,
-                variables,
-                left.get(),
-                right.get(),
-            )?;
+            let (left, right) = pair_at(alloc, scope, refusals, variables, left, right)?;
             Ok(Expr::Or(left, right))
         }
         BForm::If(test, left, right) => {
-            let test = boxed_at(alloc, scope, refusals, variables, test.get())?;
-            let (left, right) = pair_at(
-                alloc,
-                scope,
-                refusals,
-                variables,
-                left.get(),
-                right.get(),
-            )?;
+            let test = boxed_at(alloc, scope, refusals, variables, test)?;
+            let (left, right) = pair_at(alloc, scope, refusals, variables, left, right)?;
             Ok(Expr::If(test, left, right))
         }
         BForm::Let(name, bound, rest) => {
-            let bound = boxed_at(alloc, scope, refusals, variables, bound.get())?;
-            let rest = rest_at(alloc, scope, refusals, variables, name, rest.get())?;
+            let bound = boxed_at(alloc, scope, refusals, variables, bound)?;
+            let rest = rest_at(alloc, scope, refusals, variables, name, rest)?;
             Ok(Expr::Let(bound, rest))
         }
-        BForm::Seq(parts) => {
-            parts_at(alloc, scope, refusals, variables, parts.as_slice()).map(Expr::Seq)
-        }
-        BForm::ListLit(parts) => {
-            parts_at(alloc, scope, refusals, variables, parts.as_slice()).map(Expr::ListLit)
-        }
+        BForm::Seq(parts) => parts_at(alloc, scope, refusals, variables, parts).map(Expr::Seq),
+        BForm::ListLit(parts) => parts_at(alloc, scope, refusals, variables, parts).map(
+            Expr::ListLit,
+        ),
         BForm::Call(name, parts) => {
-            let parts = parts_at(alloc, scope, refusals, variables, parts.as_slice())?;
+            let parts = parts_at(alloc, scope, refusals, variables, parts)?;
             call_at(scope, refusals, name, parts)
         }
         BForm::Out(n, parts) => {
-            let parts = parts_at(alloc, scope, refusals, variables, parts.as_slice())?;
+            let parts = parts_at(alloc, scope, refusals, variables, parts)?;
             output_at(scope, refusals, e.at, *n, parts)
         }
     }

@@ -1,4 +1,3 @@
 pub mod Outcomes
 pub mod Answers
-pub mod Compared
 pub mod Answering

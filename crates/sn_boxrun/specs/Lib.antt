@@ -1,4 +1,3 @@
 pub mod Machine
 pub mod Call
-pub mod Coding
 pub mod Job

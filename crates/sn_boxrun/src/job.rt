@@ -1,6 +1,6 @@
 //! Calls of boxes as jobs, which whoever holds the run may make.
 ghost use Rattle.std.specs.Prelude.{◌≡◌, IfErr, IfOk};
-ghost use Rattle.sn_boxrun.specs.Coding.{items_once};
+ghost use Rattle.sn_net.specs.Coding.{items_once};
 ghost use Rattle.sn_boxrun.specs.Job.{IsAnswer, IsJobOf};
 
 use crate::answer::call;

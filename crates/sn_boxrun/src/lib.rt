@@ -6,8 +6,6 @@ mod answer;
 mod frame;
 mod job;
 mod machine;
-mod same;
 
 pub use answer::{call, call_owned};
 pub use job::{Done, Job, make_done};
-pub use same::{is_same_record, is_same_value};

@@ -18,10 +18,10 @@ use Rattle.sn_expr_parser.specs.Levels.{or_in}
 use Rattle.sn_expr_parser.specs.declared.box_node.Head.{Head}
 use Rattle.sn_expr_parser.specs.declared.box_node.Head.TheVariants.{Variant}
 use Rattle.sn_expr_parser.specs.declared.boxes.BoxParser.{BoxParser}
-use Rattle.sn_expr_parser.specs.declared.boxes.Frame.{Frame}
-use Rattle.sn_expr_parser.specs.declared.boxes.Frame.TheVariants.{Parens, Arguments, Middle, Last}
-use Rattle.sn_expr_parser.specs.declared.boxes.LastPart.TheVariants.{Body, Else}
-use Rattle.sn_expr_parser.specs.declared.boxes.MiddlePart.TheVariants.{Bound, Test, Then}
+use Rattle.sn_expr_parser.specs.declared.box_frame.Frame.{Frame}
+use Rattle.sn_expr_parser.specs.declared.box_frame.Frame.TheVariants.{Parens, Arguments, Middle, Last}
+use Rattle.sn_expr_parser.specs.declared.box_frame.LastPart.TheVariants.{Body, Else}
+use Rattle.sn_expr_parser.specs.declared.box_frame.MiddlePart.TheVariants.{Bound, Test, Then}
 use Rattle.sn_expr_parser.specs.declared.boxes.Mode.{Mode}
 use Rattle.sn_expr_parser.specs.declared.boxes.Mode.TheVariants.{Begin, LetName, LetAssign, AtOperand}
 use Rattle.sn_expr_parser.specs.declared.boxes.Awaited.TheVariants.{Want, AfterName, AfterOut, Opening, FirstArgument, FirstStep, Have}

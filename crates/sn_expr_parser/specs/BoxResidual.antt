@@ -24,12 +24,12 @@ use Rattle.sn_expr_parser.specs.declared.level.Level.{Level}
 use Rattle.sn_expr_parser.specs.declared.boxes.BoxParser.{BoxParser}
 use Rattle.sn_expr_parser.specs.declared.boxes.BoxStop.{BoxStop}
 use Rattle.sn_expr_parser.specs.declared.boxes.BoxStop.TheVariants.{Memory, Refused, Ended}
-use Rattle.sn_expr_parser.specs.declared.boxes.Frame.{Frame}
-use Rattle.sn_expr_parser.specs.declared.boxes.Frame.TheVariants.{Parens, Arguments, Middle, Last}
-use Rattle.sn_expr_parser.specs.declared.boxes.LastPart.{LastPart}
-use Rattle.sn_expr_parser.specs.declared.boxes.LastPart.TheVariants.{Body, Else}
-use Rattle.sn_expr_parser.specs.declared.boxes.MiddlePart.{MiddlePart}
-use Rattle.sn_expr_parser.specs.declared.boxes.MiddlePart.TheVariants.{Bound, Test, Then}
+use Rattle.sn_expr_parser.specs.declared.box_frame.Frame.{Frame}
+use Rattle.sn_expr_parser.specs.declared.box_frame.Frame.TheVariants.{Parens, Arguments, Middle, Last}
+use Rattle.sn_expr_parser.specs.declared.box_frame.LastPart.{LastPart}
+use Rattle.sn_expr_parser.specs.declared.box_frame.LastPart.TheVariants.{Body, Else}
+use Rattle.sn_expr_parser.specs.declared.box_frame.MiddlePart.{MiddlePart}
+use Rattle.sn_expr_parser.specs.declared.box_frame.MiddlePart.TheVariants.{Bound, Test, Then}
 use Rattle.sn_expr_parser.specs.declared.boxes.Mode.{Mode}
 use Rattle.sn_expr_parser.specs.declared.boxes.Mode.TheVariants.{Begin, LetName, LetAssign, AtOperand}
 use Rattle.sn_expr_parser.specs.declared.boxes.Awaited.TheVariants.{Want, AfterName, AfterOut, Opening, FirstArgument, FirstStep, Have}

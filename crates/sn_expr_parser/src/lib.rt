@@ -4,7 +4,10 @@
 //! It answers the expression at the token after it, and refuses a token exactly where no expression goes on with it.
 #![tactic(auto)]
 
+mod box_after;
+mod box_frame;
 mod box_node;
+mod box_operand;
 mod boxes;
 mod level;
 mod tags;

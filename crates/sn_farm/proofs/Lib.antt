@@ -1,4 +1,3 @@
-mod Crossing
 mod Ending
 mod Leaving
 mod Turning

@@ -7,12 +7,12 @@ ghost use Rattle.sn_farm.specs.Desks.{IsDeskOf};
 ghost use Rattle.sn_farm.specs.Turns.{Goes, shows};
 
 use crate::apply::apply;
-use crate::hall::Hall;
 use crate::outcome::Outcome;
 use sn_boxrun::{Done, Job};
 use sn_graph::{ApplyCause, Event, Graph};
 use sn_io::Gate;
 use sn_jobs::{JobHand, JobOwner};
+use sn_workers::Hall;
 use std::sync::Wait;
 
 /// What came of a turn of the owner.

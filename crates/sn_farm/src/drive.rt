@@ -11,13 +11,12 @@ ghost use Rattle.sn_farm.specs.declared.desk.Turn.TheVariants.{Ended};
 
 use crate::apply::apply;
 use crate::desk::{Desk, Turn, call_here, finish};
-use crate::hall::Hall;
 use crate::outcome::Outcome;
-use crate::patience::Patience;
 use sn_graph::{ApplyCause, Effect, Event, Graph};
 use sn_io::{Gate, Sink};
 use sn_output::{LineFault, LineSink};
 use sn_record::Item;
+use sn_workers::{Hall, Patience};
 use std::alloc::Global;
 use std::sync::Wait;
 

@@ -18,16 +18,14 @@ ghost use Rattle.sn_farm.specs.declared.outcome.Outcome.TheVariants as outcome;
 
 use crate::desk::Desk;
 use crate::drive::drive;
-use crate::hall::Hall;
 use crate::outcome::Outcome;
-use crate::signals::Signals;
-use crate::work::help;
 use sn_graph::Graph;
 use sn_io::{Gate, Sink};
 use sn_jobs::{JobHand, make};
 use sn_list::Memory;
 use sn_model::Run;
 use sn_output::LineSink;
+use sn_workers::{Hall, Signals, help};
 use std::alloc::Global;
 use std::sync::{Arc, Wait};
 use std::thread::{Threads, join_mut};

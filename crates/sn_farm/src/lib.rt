@@ -7,11 +7,7 @@ mod apply;
 mod desk;
 mod drive;
 mod farm;
-mod hall;
 mod outcome;
-mod patience;
-mod signals;
-mod work;
 
 pub use farm::{farm_drive, farm_run};
 pub use outcome::Outcome;

@@ -21,7 +21,7 @@ use Rattle.sn_graph.specs.declared.arena.Arena.{Arena}
 use Rattle.sn_graph.specs.Grown.{IsOfRun}
 use Rattle.sn_graph.specs.Local.{CountsAt, GivesAt, HasRouteAt}
 use Rattle.sn_graph.proofs.Changes.{seen_none, unchanged}
-use Rattle.sn_graph.proofs.Here.{here, seen_alike, with_node}
+use Rattle.sn_graph.proofs.Here.{here, holds_here, seen_alike, with_node}
 
 -- the graph is of the run also where one node changes that is of it still
 pub of_changed : (old new : Arena) (run : Run) (i : ℕ) (a b : Node) → i < length old.nodes.items → a ≡ get_or old.nodes.items i a → b.made ≡ a.made
@@ -127,12 +127,12 @@ module _ (arena : Arena) (i : ℕ) (a : Node) (within : i < length arena.nodes.i
 
   pub gives_there : (es : List (Entry ModelItem)) → Gives run (form_at (net_of run) a.made.path) (node_of a) es → GivesAt i (view_of arena) es
   gives_there es gives =
-      subst (λ o. IfSome o (λ n. Gives (view_of arena).run (form_of (view_of arena) n) n es)) (sym (here arena i a within read))
+      holds_here (λ n. Gives (view_of arena).run (form_of (view_of arena) n) n es) arena i a within read
       (subst (λ (r : Run). Gives r (form_at (net_of r) a.made.path) (node_of a) es) (sym of.made) gives)
 
   pub counts_there : (most : ℕ) → GivesAtMost run (form_at (net_of run) a.made.path) (node_of a) most → CountsAt i (view_of arena) most
   counts_there most counts =
-      subst (λ o. IfSome o (λ n. GivesAtMost (view_of arena).run (form_of (view_of arena) n) n most)) (sym (here arena i a within read))
+      holds_here (λ n. GivesAtMost (view_of arena).run (form_of (view_of arena) n) n most) arena i a within read
       (subst (λ (r : Run). GivesAtMost r (form_at (net_of r) a.made.path) (node_of a) most) (sym of.made) counts)
 
   pub nothing_there : local_at run (form_at (net_of run) a.made.path) (node_of a) ≡ None → false ≡ enabled (view_of arena) (Local i)

@@ -2,7 +2,7 @@
 use Rattle.std.proofs.Common.{◌≡◌, ℕ, zero, suc, ◌+◌, ◌<◌, ◌≤◌, ◌==◌, Bool, true, false, true≢false, cond, ◌&&◌, List, [], ◌∷◌, map, length, get_or, set, refl, sym, ap, ap₂, subst, ◌∙◌, arith, eq-eqb}
 use Rattle.std.specs.Prelude.{slice_get, slice_set, Option, Some, IfSome}
 use Rattle.std.specs.List.{Any, list_any}
-use Rattle.std.proofs.lemmas.Bool.{eqb-true}
+use Rattle.std.proofs.lemmas.Bool.{and_right, eqb-true}
 use Rattle.std.proofs.lemmas.List.{get_or-set_same, length-map, length-set}
 use Rattle.std.proofs.lemmas.Option.{get_or_from_slice_get, none-some, same_Some, slice_get_within}
 use Rattle.sn_record.specs.Record.{Entries}
@@ -168,13 +168,9 @@ module _ (arena : Arena) (run : Run) (made : arena.run.value ≡ run) (i : ℕ) 
 
   pub none_waits : list_any has_no_call (node_of a).waiting ≡ false → StartsNone i (view_of arena) (view_of arena)
   none_waits none = record {
-    not_enabled = may_there (net_of run) a.made.path refl refl ∙ ap (λ b. is_box (form_at (net_of run) a.made.path) && b) none ∙ and_false (is_box (form_at (net_of run) a.made.path));
+    not_enabled = may_there (net_of run) a.made.path refl refl ∙ ap (λ b. is_box (form_at (net_of run) a.made.path) && b) none ∙ and_right (is_box (form_at (net_of run) a.made.path)) false refl;
     same = refl;
   }
-    where
-      and_false : (b : Bool) → (b && false) ≡ false
-      and_false true = refl
-      and_false false = refl
 
 -- the first free record of a box is in flight
 module _ (arena : Arena) (run : Run) (made : arena.run.value ≡ run) (i : ℕ) (a b : Node) (within : i < length arena.nodes.items) (read : a ≡ get_or arena.nodes.items i a)

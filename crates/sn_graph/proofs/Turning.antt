@@ -17,6 +17,7 @@ use Rattle.sn_node.specs.Routed.{Routed, Sends, Nowhere, sent, to_child_of, det_
 use Rattle.sn_node.specs.Routes.{EntryGoes, GoesBy, item_sent}
 use Rattle.sn_net.specs.declared.routing.Key.{Key}
 use Rattle.sn_node.specs.States.{is_in_turn}
+use Rattle.std.proofs.lemmas.Bool.{and_right}
 use Rattle.std.proofs.lemmas.List.{length-map}
 use Rattle.std.proofs.lemmas.Option.{slice_get_within}
 use Rattle.sn_node.specs.declared.node.Node.{Node}
@@ -254,13 +255,9 @@ module _ (g : View) (i : ℕ) (n : view.Node) (there : node_at i g ≡ Some n) w
   pub no_way_fork : is_fork n.state ≡ false → enabled g (Route i) ≡ false
   no_way_fork not_fork = at_n ∙ no_fork_routes (routing_of g n) not_fork
 
-  and_false : (b : Bool) → b && false ≡ false
-  and_false true = refl
-  and_false false = refl
-
   pub no_way_child : (k : Key) → GoesBy (routing_of g n) k → child_of n.children (stream_key k) ≡ None → enabled g (Route i) ≡ false
   no_way_child k goes none =
       at_n ∙ ap (may_route n) goes.is
       ∙ ap (λ key. is_fork n.state && is_some (child_of n.children key)) goes.key
       ∙ ap (λ c. is_fork n.state && is_some c) none
-      ∙ and_false (is_fork n.state)
+      ∙ and_right (is_fork n.state) false refl

@@ -5,10 +5,12 @@
 #![tactic(auto)]
 
 mod boxed;
+mod held;
 mod memory;
 mod seq;
 pub mod sorted;
 
 pub use boxed::Boxed;
+pub use held::Held;
 pub use memory::Memory;
 pub use seq::Seq;

@@ -13,3 +13,4 @@ pub mod Route
 pub mod Best
 pub mod Routable
 pub mod Dispatchers
+pub mod Coding

@@ -2,7 +2,7 @@
 use Rattle.std.specs.Prelude.{◌≡◌, ℕ, List, map, Option, Some, slice_get}
 use Rattle.std.specs.Option.{option_map}
 use Rattle.std.specs.Coded.{Π_prop, →_prop}
-use Rattle.sn_boxrun.specs.Coding.{items_once}
+use Rattle.sn_net.specs.Coding.{items_once}
 use Rattle.sn_record.specs.Record.{Entries}
 use Rattle.sn_record.specs.declared.item.Item.{Item}
 use Rattle.sn_net.specs.declared.net.Net.{Net}

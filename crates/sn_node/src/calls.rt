@@ -11,9 +11,8 @@ ghost use Rattle.sn_node.specs.declared.entry.Waiting.TheVariants as waiting;
 
 use crate::entry::{Entry, Waiting};
 use crate::node::Node;
-use sn_boxrun::is_same_record;
 use sn_list::Memory;
-use sn_record::{Item, Items, Record};
+use sn_record::{Item, Items, Record, is_same_record};
 
 /// A copy of the record, if this is one that has no call.
 fn free_record(w: &Waiting) -> Result<Option<Record>, Memory>

@@ -12,12 +12,12 @@ use Rattle.sn_outcomes.specs.Told.{AreTold}
 use Rattle.sn_output.specs.Printed.{printed, ending}
 use Rattle.sn_sample.specs.Source.{source_text}
 use Rattle.sn_sample.specs.Tally.{counted, counts_line}
-use Rattle.sn_top.specs.Answer.{Finds, FindsSample, FindsText, FindsTypes, FindsFor, IsAnswered, IsRefusedInput, Outside, found_status}
+use Rattle.sn_plain.specs.Answer.{Finds, FindsSample, FindsText, FindsTypes, FindsFor, IsAnswered, IsRefusedInput, Outside, found_status}
 use Rattle.sn_load.specs.Flows.{HasFlows}
 use Rattle.sn_load.specs.Load.{Limits, limits_of, setting, WhyNoRecords, stream_of}
-use Rattle.sn_top.specs.Runs.{Manner, OnOneThread, Printout, WithWorkers, whole}
-use Rattle.sn_top.specs.Sample.{AreTypedSamples, HasNoRoom, HasUntypedSample, answers_to, names_with}
-use Rattle.sn_top.specs.Seen.{File}
+use Rattle.sn_plain.specs.Runs.{Manner, OnOneThread, Printout, WithWorkers, whole}
+use Rattle.sn_plain.specs.Sample.{AreTypedSamples, HasNoRoom, HasUntypedSample, answers_to, names_with}
+use Rattle.sn_plain.specs.Seen.{File}
 use Rattle.sn_load.specs.Source.{FindsSource}
 use Rattle.sn_load.specs.declared.load.Program.{Program}
 use Rattle.sn_load.specs.declared.load.TheConstants.{SOURCE_LIMIT, INPUT_LIMIT}

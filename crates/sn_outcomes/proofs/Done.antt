@@ -9,10 +9,10 @@ use Rattle.sn_outcomes.proofs.Judging.{Found, goes_accepted}
 use Rattle.sn_outcomes.proofs.Inputs.{comes_once, typed_comes}
 use Rattle.sn_output.specs.Printed.{ending}
 use Rattle.sn_sample.specs.Source.{source_text}
-use Rattle.sn_top.specs.Answer.{PrintsSample, Finds, FindsText, FindsTypes, IsAccepted, IsAnswered, Outside, ending_status, found_status}
-use Rattle.sn_top.specs.Runs.{ComesOut, OnOneThread, WithWorkers, whole}
+use Rattle.sn_plain.specs.Answer.{PrintsSample, Finds, FindsText, FindsTypes, IsAccepted, IsAnswered, Outside, ending_status, found_status}
+use Rattle.sn_plain.specs.Runs.{ComesOut, OnOneThread, WithWorkers, whole}
 use Rattle.sn_load.specs.Load.{IsTypedFile, limits_of, setting, stream_of}
-use Rattle.sn_top.specs.Sample.{AreTypedSamples, answers_to}
+use Rattle.sn_plain.specs.Sample.{AreTypedSamples, answers_to}
 use Rattle.sn_load.specs.Source.{HasText}
 use Rattle.sn_load.specs.declared.load.Program.{Program}
 use Rattle.sn_load.specs.declared.load.TheConstants.{INPUT_LIMIT, SOURCE_LIMIT}

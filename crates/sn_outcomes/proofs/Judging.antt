@@ -2,8 +2,8 @@
 use Rattle.std.proofs.Common.{ℕ, List, ◌≡◌, ◌<◌, ◌≤◌, refl, ap, subst, length, arith}
 use Rattle.std.specs.Prelude.{Result, Ok, Err}
 use Rattle.sn_outcomes.proofs.Loaded.{IsFound, found_once, program_found, refused_found}
-use Rattle.sn_top.specs.Answer.{IsAccepted, IsRefusedSource}
-use Rattle.sn_top.specs.Runs.{Printout}
+use Rattle.sn_plain.specs.Answer.{IsAccepted, IsRefusedSource}
+use Rattle.sn_plain.specs.Runs.{Printout}
 use Rattle.sn_load.specs.declared.load.Program.{Program}
 use Rattle.sn_load.specs.declared.load.TheConstants.{SOURCE_LIMIT}
 use Rattle.sn_load.specs.declared.status.Refusal.{Refusal}

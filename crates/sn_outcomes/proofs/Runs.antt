@@ -11,9 +11,9 @@ use Rattle.sn_net.specs.declared.net.Net.{Net}
 use Rattle.sn_net.specs.Net.{all_deterministic}
 use Rattle.sn_model.specs.Meaning.{Setting}
 use Rattle.sn_output.specs.Printed.{ending, printed}
-use Rattle.sn_top.specs.Answer.{Finds, IsAccepted}
+use Rattle.sn_plain.specs.Answer.{Finds, IsAccepted}
 use Rattle.sn_load.specs.Load.{Limits, setting}
-use Rattle.sn_top.specs.Runs.{OnOneThread, Printout, Prints, WithWorkers}
+use Rattle.sn_plain.specs.Runs.{OnOneThread, Printout, Prints, WithWorkers}
 use Rattle.sn_load.specs.declared.load.Program.{Program}
 use Rattle.sn_load.specs.declared.status.Refusal.{Refusal}
 

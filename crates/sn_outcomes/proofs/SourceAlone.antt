@@ -3,9 +3,9 @@ use Rattle.std.proofs.Common.{ℕ, List, ◌≡◌, sym, inl, inr}
 use Rattle.std.specs.Prelude.{Ok, Err, Option, Some}
 use Rattle.sn_outcomes.proofs.Judging.{Found, Goes, goes_once, program_goes, wrong_goes}
 use Rattle.sn_outcomes.specs.Told.{IsOfSource}
-use Rattle.sn_top.specs.Answer.{Finds}
+use Rattle.sn_plain.specs.Answer.{Finds}
 use Rattle.sn_load.specs.Load.{Limits}
-use Rattle.sn_top.specs.Runs.{Manner}
+use Rattle.sn_plain.specs.Runs.{Manner}
 use Rattle.sn_load.specs.declared.load.Program.{Program}
 use Rattle.sn_load.specs.declared.status.Refusal.{Refusal}
 use Rattle.sn_load.specs.declared.status.Refusal.TheVariants.{TooLarge, Source as SourceAt, NoMain, TooDeep, LargeTree, TooManyNames, IllTyped, Variants, Line}

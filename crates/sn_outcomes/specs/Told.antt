@@ -1,9 +1,9 @@
 -- Where the bytes of the files of a command are told, and what is found whatever an input holds.
 use Rattle.std.specs.Prelude.{◌≡◌, ℕ, IsTrue, List, Some}
 use Rattle.sn_net.specs.Net.{all_deterministic}
-use Rattle.sn_top.specs.Answer.{IsAccepted}
+use Rattle.sn_plain.specs.Answer.{IsAccepted}
 use Rattle.sn_load.specs.declared.load.Program.{Program}
-use Rattle.sn_top.specs.Seen.{File}
+use Rattle.sn_plain.specs.Seen.{File}
 use Rattle.sn_load.specs.declared.status.Refusal.{Refusal}
 use Rattle.sn_load.specs.declared.status.Refusal.TheVariants.{TooLarge, Source as SourceAt, NoMain, TooDeep, LargeTree, TooManyNames, IllTyped, Variants, Line}
 use Rattle.sn_load.specs.declared.status.Which.TheVariants.{Source, Input}

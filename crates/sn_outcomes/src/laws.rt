@@ -23,12 +23,12 @@ ghost use Rattle.sn_parser.specs.Answer.{Faults, IsFault as IsParseFault, IsProg
 ghost use Rattle.sn_parser.specs.declared.parsing.ParseFault.{ParseFault as SomeParseFault};
 ghost use Rattle.sn_parser.specs.declared.parsing.ParseFault.TheVariants as parse_fault;
 ghost use Rattle.sn_sample.specs.Source.{source_text};
-ghost use Rattle.sn_top.specs.Answer.{Finds, FindsFor, IsAccepted, IsAnswered, Outside, ending_status};
-ghost use Rattle.sn_top.specs.Runs.{ComesOut, OnOneThread, Printout, WithWorkers};
+ghost use Rattle.sn_plain.specs.Answer.{Finds, FindsFor, IsAccepted, IsAnswered, Outside, ending_status};
+ghost use Rattle.sn_plain.specs.Runs.{ComesOut, OnOneThread, Printout, WithWorkers};
 ghost use Rattle.sn_load.specs.Load.{IsTypedFile, Limits, WhyNoRecords, limits_of, setting, stream_of};
-ghost use Rattle.sn_top.specs.Sample.{AreTypedSamples, answers_to};
+ghost use Rattle.sn_plain.specs.Sample.{AreTypedSamples, answers_to};
 ghost use Rattle.sn_load.specs.Scope.{IsProgram, WhyNoProgram};
-ghost use Rattle.sn_top.specs.Seen.{File};
+ghost use Rattle.sn_plain.specs.Seen.{File};
 ghost use Rattle.sn_load.specs.Source.{FindsSource, HasText, IsSource};
 ghost use Rattle.sn_load.specs.declared.load.Program.{Program as SomeProgram};
 ghost use Rattle.sn_load.specs.declared.load.TheConstants.{INPUT_LIMIT, SOURCE_LIMIT};

@@ -6,3 +6,4 @@ pub mod Sets
 pub mod Values
 pub mod Records
 pub mod Scores
+pub mod Compared

@@ -10,6 +10,7 @@ mod label_map;
 mod label_set;
 mod merging;
 mod record;
+mod same;
 mod value;
 
 pub use best::score;
@@ -18,5 +19,6 @@ pub use label::{ByLabel, Kind, Label};
 pub use label_set::LabelSet;
 pub use merging::{in_order, merge};
 pub use record::Record;
+pub use same::{is_same_record, is_same_value};
 pub use sn_list::Memory;
 pub use value::{Text, Value, Values};

@@ -2,14 +2,13 @@
 ghost use Rattle.std.specs.Prelude.{◌≡◌, ◌++◌, IfOk, OnOk, map as each};
 ghost use Rattle.sn_scope.specs.Declarations.{after, after_box, after_net, after_type, all_after, ended, main_after, net_at, net_number, net_signature, number_at, start, with_claim, with_meaning, with_net, with_net_signature, with_signature};
 
-use crate::held::Held;
 use crate::network::{Component, Network, network_at};
 use crate::scopes::{Meaning, Scopes};
 use crate::types::type_at;
 use sn_ast::{BoxDecl, Decl, Ident, NetDecl, NetExpr, Sig, TypePart};
 use sn_box_scope::box_at;
 use sn_label_scope::{Reason, Refusals};
-use sn_list::{Boxed, Memory, Seq};
+use sn_list::{Boxed, Held, Memory, Seq};
 use sn_names::NameTable;
 use sn_net::Boxes;
 use sn_record::LabelSet;

@@ -4,7 +4,6 @@
 mod declarations;
 mod filters;
 mod heap;
-mod held;
 mod network;
 mod numbering;
 mod resolution;

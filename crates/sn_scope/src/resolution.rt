@@ -6,13 +6,12 @@ ghost use Rattle.sn_scope.specs.Trees.{claims_within, most_nodes, signature_at};
 ghost use Rattle.sn_scope.specs.declared.resolution.ScopeFault.TheVariants as cause;
 
 use crate::declarations::{Declarations, Pending};
-use crate::held::Held;
 use crate::numbering::enter_decls;
 use crate::resolved::{Parts, Resolved};
 use crate::trees::tree;
 use sn_ast::Program;
 use sn_label_scope::{Reason, Refusal};
-use sn_list::{Memory, Seq};
+use sn_list::{Held, Memory, Seq};
 use sn_names::{NameTable, Names};
 use sn_net::{Boxes, Claim, copy_sets};
 use sn_record::LabelSet;

@@ -1,10 +1,2 @@
-pub mod Printing
-pub mod Serving
-pub mod Served
-pub mod Printed
-pub mod Told
-pub mod Running
-pub mod Checking
-pub mod Sampling
 pub mod Working
 pub mod Counting

@@ -19,11 +19,11 @@ use Rattle.sn_model.proofs.Lists.{one_list-allowed}
 use Rattle.sn_output.specs.Printed.{ending, printed}
 use Rattle.sn_farm.specs.Farmed.{HasPrinted as FarmHasPrinted}
 use Rattle.sn_load.specs.Load.{AreTypedRecords, Limits}
-use Rattle.sn_top.specs.Ready.{setting_at}
-use Rattle.sn_top.specs.Runs.{ComesOut, HasBegun, HasPrinted, IsOfStream, Printout, WithWorkers, ended}
+use Rattle.sn_plain.specs.Ready.{setting_at}
+use Rattle.sn_plain.specs.Runs.{ComesOut, HasBegun, HasPrinted, IsOfStream, Printout, WithWorkers, ended}
 use Rattle.sn_top.proofs.Counting.{only_one}
-use Rattle.sn_top.specs.Seen.{Sink}
-use Rattle.sn_top.specs.declared.ready.Ready.{Ready}
+use Rattle.sn_plain.specs.Seen.{Sink}
+use Rattle.sn_plain.specs.declared.ready.Ready.{Ready}
 
 -- what comes out of a network for typed records
 comes_out : (s : Setting) (net : Net) (records : List Entries) (stream : List ModelItem) → FitsBoxes s.boxes net → AreTypedRecords s.boxes net records → MayAnswerList s net (map Rec records) stream

@@ -1,6 +1,0 @@
-pub mod Seen
-pub mod Shown
-pub mod Sample
-pub mod Answer
-pub mod Ready
-pub mod Runs

@@ -2,16 +2,14 @@
 //! on standard error and the exit status.
 #![tactic(auto)]
 
-mod held;
-mod outside;
-mod ready;
 mod sample;
 mod serve;
-mod transcript;
+mod shared;
 mod workers;
 
-pub use serve::{serve_plain, serve_words};
+pub use serve::serve_words;
 pub use sn_load::{INPUT_LIMIT, SOURCE_LIMIT, Status};
+pub use sn_plain::serve_plain;
 pub use sn_words::{
     Command, DEFAULT_DEPTH, DEFAULT_FUEL, DEFAULT_QUEUE, DEFAULT_WORKERS, WordsFault, read_words,
 };

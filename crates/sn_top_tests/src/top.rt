@@ -1,6 +1,6 @@
 ghost use Rattle.std.specs.Prelude.{◌≡◌, IfOk, true};
 ghost use Rattle.sn_words.specs.Command.{IsInRange};
-ghost use Rattle.sn_top.specs.Answer.{is_plain};
+ghost use Rattle.sn_plain.specs.Answer.{is_plain};
 
 use crate::served::{Served, files, serve_files, sink, try_files, try_sink};
 use sn_io::{MemFiles, MemSink, OpenGate};

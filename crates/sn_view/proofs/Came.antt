@@ -43,7 +43,8 @@ use Rattle.sn_view.proofs.Apart.{distinct-doors, entry-there, not-at-itself, not
 use Rattle.sn_view.proofs.Beginning.{can-start, start-can}
 use Rattle.sn_view.proofs.Chains.{Chained, chained}
 use Rattle.sn_view.proofs.Children.{keys_of, keys-of-doors}
-use Rattle.sn_view.proofs.Coding.{distinct_once, items_once, number_once, place_once, run_once, some_once}
+use Rattle.sn_net.specs.Coding.{items_once}
+use Rattle.sn_view.proofs.Coding.{distinct_once, number_once, place_once, run_once, some_once}
 use Rattle.sn_view.proofs.Counted.{calls-counted, calls-once, marks-counted}
 use Rattle.sn_view.proofs.Events.{stands-at}
 use Rattle.sn_view.proofs.Feeding.{boxes-fed}

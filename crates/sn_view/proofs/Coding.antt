@@ -1,39 +1,12 @@
 -- Equations that have one proof alone.
-use Rattle.std.proofs.Common.{◌≡◌, ◌⊎◌, ℕ, List, [], ◌∷◌, Bool, Option, None, Some, false, IsTrue, refl, inl, inr}
+use Rattle.std.proofs.Common.{◌≡◌, ℕ, List, [], ◌∷◌, Bool, Option, None, Some, false, IsTrue, refl}
 use Rattle.std.specs.Prelude.{IfSome}
-use Rattle.std.specs.Coded.{Coded, Coded-set, Unit-prop, code_by, coded⊎, coded_list, coded_ℕ}
-use Rattle.sn_record.specs.declared.item.Fault.{Fault as FaultAt}
-use Rattle.sn_record.specs.contracts.item.Fault as fault
-use Rattle.sn_record.specs.contracts.record.Record as record_code
-use Rattle.sn_record.specs.Record.{Entries}
-use Rattle.sn_net.specs.Item.{ModelItem, Rec, Fault, Stuck}
+use Rattle.std.specs.Coded.{Coded-set, Unit-prop, code_by, coded_list, coded_ℕ}
 use Rattle.sn_streams.specs.Keys.{Key, AreDistinct, is_among}
 use Rattle.sn_model.specs.declared.run.Run.{Run}
 use Rattle.sn_model.specs.contracts.run.Run as run_code
 use mathlib.Core.Bool.{Bool-set}
 use mathlib.Core.HLevel.{×_prop}
-
-abbrev parts : ModelItem → Entries ⊎ (FaultAt ⊎ ℕ)
-parts (Rec r) = inl r
-parts (Fault fault) = inr (inl fault)
-parts (Stuck place) = inr (inr place)
-
-abbrev item : Entries ⊎ (FaultAt ⊎ ℕ) → ModelItem
-item (inl r) = Rec r
-item (inr (inl fault)) = Fault fault
-item (inr (inr place)) = Stuck place
-
-item-parts : (x : ModelItem) → item (parts x) ≡ x
-item-parts (Rec r) = refl
-item-parts (Fault fault) = refl
-item-parts (Stuck place) = refl
-
-abbrev model_item_code : Coded ModelItem
-model_item_code = code_by (Entries ⊎ (FaultAt ⊎ ℕ)) (coded⊎ record_code.the_row.coded (coded⊎ fault.the_row.coded coded_ℕ)) parts item item-parts
-
--- of lists of model items
-pub items_once : (xs ys : List ModelItem) (p q : xs ≡ ys) → p ≡ q
-items_once = Coded-set (coded_list model_item_code)
 
 -- of numbers, and of those that may be there
 pub number_once : (i j : ℕ) (p q : i ≡ j) → p ≡ q

@@ -1,7 +1,7 @@
 use denote.Param.Send.{sendable}
 use Rattle.std.proofs.Crossing.{crosses}
 use Rattle.sn_jobs.proofs.Crossing.{hand_send}
-use Rattle.sn_farm.proofs.Crossing.{hall_sync}
+use Rattle.sn_workers.proofs.Crossing.{hall_sync}
 use Rattle.sn_farm.proofs.farm.drive_with.Goals as goal
 
 pub join_mut-outcome-requires-send-F : goal.join_mut-outcome-requires-send-F

@@ -1,4 +1,4 @@
-use Rattle.sn_top.specs.Runs.{OnOneThread, WithWorkers}
+use Rattle.sn_plain.specs.Runs.{OnOneThread, WithWorkers}
 use Rattle.sn_outcomes.proofs.Commands.{command_once, status_once}
 use Rattle.sn_outcomes.proofs.SourceAlone.{source_alone}
 use Rattle.sn_outcomes.proofs.laws.command_has_one_outcome.Goals as goal

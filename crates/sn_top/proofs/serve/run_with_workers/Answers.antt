@@ -1,9 +1,9 @@
 use Rattle.std.proofs.Common.{refl, None, Some}
 use Rattle.std.proofs.lemmas.Result.{err_from_is_err_and}
 use Rattle.sn_load.specs.Load.{limits_of}
-use Rattle.sn_top.specs.Runs.{WithWorkers}
-use Rattle.sn_top.specs.Seen.{File, Sink, seen_file, seen_sink}
-use Rattle.sn_top.proofs.Serving.{finds_printed, not_finished, not_ready}
+use Rattle.sn_plain.specs.Runs.{WithWorkers}
+use Rattle.sn_plain.specs.Seen.{File, Sink, seen_file, seen_sink}
+use Rattle.sn_plain.proofs.Serving.{finds_printed, not_finished, not_ready}
 use Rattle.sn_top.proofs.serve.run_with_workers.Goals as goal
 
 pub returns-in_err-ready-clause-stopped : goal.returns-in_err-ready-clause-stopped

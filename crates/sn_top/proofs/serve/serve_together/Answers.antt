@@ -1,5 +1,5 @@
-use Rattle.sn_top.specs.Answer.{Outside, seen}
-use Rattle.sn_top.proofs.Served.{concludes, concludes_short, concludes_unread, concludes_unwritten}
+use Rattle.sn_plain.specs.Answer.{Outside, seen}
+use Rattle.sn_plain.proofs.Served.{concludes, concludes_short, concludes_unread, concludes_unwritten}
 use Rattle.sn_top.proofs.serve.serve_together.Goals as goal
 
 pub returns-clause-answer : goal.returns-clause-answer

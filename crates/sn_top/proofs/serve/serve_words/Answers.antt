@@ -1,8 +1,8 @@
 use Rattle.std.proofs.Common.{map}
 use Rattle.std.specs.String.{string_bytes}
 use Rattle.sn_words.specs.Words.{command_of}
-use Rattle.sn_top.specs.Answer.{Outside, seen, HasUnread, IsUnwritten}
-use Rattle.sn_top.proofs.Served.{answered_for, of_command, cut_short_for}
+use Rattle.sn_plain.specs.Answer.{Outside, seen, HasUnread, IsUnwritten}
+use Rattle.sn_plain.proofs.Served.{answered_for, of_command, cut_short_for}
 use Rattle.sn_top.proofs.serve.serve_words.Goals as goal
 
 pub returns-in-Ok-clause-answer : goal.returns-in-Ok-clause-answer

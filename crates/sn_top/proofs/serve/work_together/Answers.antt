@@ -3,9 +3,9 @@ use Rattle.std.specs.Prelude.{IfErr, Ok, OnOk}
 use Rattle.sn_io.specs.Told.{appended}
 use Rattle.sn_words.specs.declared.command.Command.{Command}
 use Rattle.sn_words.specs.Command.{IsInRange}
-use Rattle.sn_top.specs.Answer.{FindsFor, WhyEnded}
-use Rattle.sn_top.specs.Runs.{whole}
-use Rattle.sn_top.specs.Seen.{File, Sink, seen_file, seen_sink}
+use Rattle.sn_plain.specs.Answer.{FindsFor, WhyEnded}
+use Rattle.sn_plain.specs.Runs.{whole}
+use Rattle.sn_plain.specs.Seen.{File, Sink, seen_file, seen_sink}
 use Rattle.sn_top.proofs.serve.work_together.Goals as goal
 
 pub run_with_workers-requires-clause-limits : goal.run_with_workers-requires-clause-limits

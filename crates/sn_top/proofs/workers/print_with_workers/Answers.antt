@@ -5,7 +5,7 @@ use Rattle.sn_net.specs.Item.{modelled}
 use Rattle.sn_model.specs.Run.{boxes_of, depth_of, fuel_of, input_of, net_of}
 use Rattle.sn_model.specs.declared.run.Run.{Run}
 use Rattle.sn_load.specs.Load.{limits_of}
-use Rattle.sn_top.specs.Seen.{Sink, seen_sink}
+use Rattle.sn_plain.specs.Seen.{Sink, seen_sink}
 use Rattle.sn_top.proofs.Working.{farm_begun, farm_printed, nothing_begun}
 use Rattle.sn_top.proofs.workers.print_with_workers.Goals as goal
 

@@ -1,4 +1,4 @@
-use Rattle.std.proofs.Common.{◌≡◌, arith, ap, false, refl, rules, true}
+use Rattle.std.proofs.Common.{◌≡◌, arith, ap, refl, rules, true}
 use Rattle.sn_view.specs.Next.{is_fork}
 use Rattle.sn_node.specs.Seen.{state_of}
 use Rattle.sn_node.specs.States.{is_freely, is_in_turn}

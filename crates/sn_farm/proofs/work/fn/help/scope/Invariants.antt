@@ -1,5 +1,0 @@
-use Rattle.std.proofs.Common.{◌≡◌}
-use Rattle.sn_farm.proofs.work.fn.help.scope.Given as goal
-
-abbrev pub invariant-loop : goal.invariant-loop
-invariant-loop g l = l.hand.made.run ≡ l.hall.now.run.now.value

@@ -1,0 +1,8 @@
+pub mod Printing
+pub mod Serving
+pub mod Served
+pub mod Printed
+pub mod Told
+pub mod Running
+pub mod Checking
+pub mod Sampling

@@ -1,0 +1,266 @@
+-- What a command may leave: its status, and what it appends to `out` and to `err`.
+use Rattle.std.specs.Prelude.{◌≡◌, ◌⊎◌, ◌≤◌, ◌<◌, ℕ, List, [], length, codes, Option, None, Some, Result, Ok, Err, IfSome, Bool, false, true}
+use Rattle.sn_io.specs.Told.{appended}
+use Rattle.sn_words.specs.Command.{usage_text, source_of, input_of}
+use Rattle.sn_words.specs.declared.command.Command.{Command}
+use Rattle.sn_words.specs.declared.command.Command.TheVariants.{Run, Once, Check, Print, Sample}
+use Rattle.sn_load.specs.declared.status.Status.{Status}
+use Rattle.sn_load.specs.declared.status.Status.TheVariants as status
+use Rattle.sn_load.specs.declared.status.Which.{Which}
+use Rattle.sn_load.specs.declared.status.Which.TheVariants.{Source, Input}
+use Rattle.sn_load.specs.declared.status.Refusal.{Refusal}
+use Rattle.sn_load.specs.declared.status.Refusal.TheVariants.{TooLarge, Source as SourceAt, NoMain, TooDeep, LargeTree, TooManyNames, IllTyped, Variants, Line}
+use Rattle.sn_load.specs.declared.status.Stop.{Stop}
+use Rattle.sn_load.specs.declared.status.Stop.TheVariants as stop
+use Rattle.sn_load.specs.declared.load.TheConstants.{SOURCE_LIMIT, INPUT_LIMIT}
+use Rattle.sn_load.specs.Source.{FindsSource}
+use Rattle.sn_load.specs.Status.{refusal_status, stop_line, stop_status}
+use Rattle.sn_plain.specs.Seen.{Sink, File, seen_sink, seen_file, SinkFailed, FileFailed, GotLine}
+use Rattle.sn_record.specs.declared.item.Fault.{Fault}
+use Rattle.sn_net.specs.declared.net.Claim.{Claim}
+use Rattle.sn_output.specs.Printed.{ending}
+use Rattle.sn_load.specs.Load.{Limits, limits_of, HasManyNames, HasWrongLine}
+use Rattle.sn_plain.specs.Runs.{Manner, Printout, Prints, OnOneThread, WithWorkers, HasBegun, ended}
+use Rattle.sn_load.specs.Flows.{HasFlows}
+use Rattle.sn_plain.specs.Sample.{AreTypedSamples, HasNoRoom, IsWrongSample, answers_to, names_with}
+use Rattle.sn_sample.specs.Source.{source_text}
+use Rattle.sn_sample.specs.Tally.{counted, counts_line}
+use Rattle.sn_load.specs.Scope.{IsProgram, WhyNoProgram}
+use Rattle.sn_load.specs.declared.load.Program.{Program}
+
+-- the source is within the limit, and spells the program
+pub record IsAccepted (bytes : List ℕ) (program : Program) : Type 0 where
+  pub within : length bytes ≤ SOURCE_LIMIT
+  pub main : IsProgram bytes program
+
+-- the source is within the limit, and refused
+abbrev pub IsRefusedSource : Refusal → List ℕ → Type 0
+IsRefusedSource refusal bytes = (length bytes ≤ SOURCE_LIMIT) × WhyNoProgram bytes refusal
+
+-- the source is accepted, and the input is within the limit and refused
+abbrev pub IsRefusedInput : Option (List ℕ) → (List (List ℕ) → Claim → List ℕ → Type 0) → List ℕ → Type 0
+IsRefusedInput input Why bytes = (program : Program) × IsAccepted bytes program × IfSome input (λ more. (length more ≤ INPUT_LIMIT) × Why program.names program.claim more)
+
+-- What the checks refuse of a source and an input, where their bytes are told. They come in this order: the source's file, the source
+-- and its types, the input's file, the input and its types.
+abbrev pub IsRefused : Option (List ℕ) → Option (List ℕ) → Refusal → Type 0
+IsRefused source input (TooLarge Source) = IfSome source (λ bytes. SOURCE_LIMIT < length bytes)
+IsRefused source input (SourceAt fault at) = IfSome source (IsRefusedSource (SourceAt fault at))
+IsRefused source input NoMain = IfSome source (IsRefusedSource NoMain)
+IsRefused source input (TooDeep at) = IfSome source (IsRefusedSource (TooDeep at))
+IsRefused source input (LargeTree at) = IfSome source (IsRefusedSource (LargeTree at))
+IsRefused source input TooManyNames = IfSome source (λ bytes. IsRefusedSource TooManyNames bytes ⊎ IsRefusedInput input HasManyNames bytes)
+IsRefused source input (Line fault) = IfSome source (IsRefusedInput input (HasWrongLine fault))
+IsRefused source input (IllTyped fault at variant) = IfSome source (IsRefusedSource (IllTyped fault at variant))
+IsRefused source input (Variants at) = IfSome source (IsRefusedSource (Variants at))
+IsRefused source input (TooLarge Input) = IfSome source (λ bytes. (program : Program) × IsAccepted bytes program × IfSome input (λ more. INPUT_LIMIT < length more))
+
+-- what the checks and then the run find of them
+abbrev pub Finds : Manner → Limits → Option (List ℕ) → Option (List ℕ) → Result Printout Refusal → Type 0
+Finds Shows limits source input (Err refusal) = IsRefused source input refusal
+Finds Shows limits source input (Ok p) = IfSome source (λ bytes. (program : Program) × IsAccepted bytes program × IfSome input (λ more. Prints Shows limits program more p))
+
+-- the same of a source alone, which is within the limit where more than its size is found
+abbrev pub FindsText : Option (List ℕ) → Result Printout Refusal → Type 0
+FindsText source (Err (TooLarge Source)) = IfSome source (λ bytes. SOURCE_LIMIT < length bytes)
+FindsText source (Err (TooLarge Input)) = ⊥
+FindsText source (Err (SourceAt fault at)) = IfSome source (λ bytes. (length bytes ≤ SOURCE_LIMIT) × FindsSource bytes (Err (SourceAt fault at)))
+FindsText source (Err NoMain) = ⊥
+FindsText source (Err (TooDeep at)) = IfSome source (λ bytes. (length bytes ≤ SOURCE_LIMIT) × FindsSource bytes (Err (TooDeep at)))
+FindsText source (Err (LargeTree at)) = ⊥
+FindsText source (Err TooManyNames) = ⊥
+FindsText source (Err (IllTyped fault at variant)) = ⊥
+FindsText source (Err (Variants at)) = ⊥
+FindsText source (Err (Line fault)) = ⊥
+FindsText source (Ok p) = IfSome source (λ bytes. (length bytes ≤ SOURCE_LIMIT) × FindsSource bytes (Ok p.bytes) × (p.ending ≡ None))
+
+-- The same of a source whose types are checked: what can come out for each variant of the input is printed.
+abbrev pub FindsTypes : Option (List ℕ) → Result Printout Refusal → Type 0
+FindsTypes source (Err (TooLarge Source)) = IfSome source (λ bytes. SOURCE_LIMIT < length bytes)
+FindsTypes source (Err (TooLarge Input)) = ⊥
+FindsTypes source (Err (SourceAt fault at)) = IfSome source (IsRefusedSource (SourceAt fault at))
+FindsTypes source (Err NoMain) = IfSome source (IsRefusedSource NoMain)
+FindsTypes source (Err (TooDeep at)) = IfSome source (IsRefusedSource (TooDeep at))
+FindsTypes source (Err (LargeTree at)) = IfSome source (IsRefusedSource (LargeTree at))
+FindsTypes source (Err TooManyNames) = IfSome source (IsRefusedSource TooManyNames)
+FindsTypes source (Err (IllTyped fault at variant)) = IfSome source (IsRefusedSource (IllTyped fault at variant))
+FindsTypes source (Err (Variants at)) = IfSome source (IsRefusedSource (Variants at))
+FindsTypes source (Err (Line fault)) = ⊥
+FindsTypes source (Ok p) = IfSome source (λ bytes. (program : Program) × IsAccepted bytes program × HasFlows program program.claim.input p.bytes × (p.ending ≡ None))
+
+-- what the program prints for the records of a number: the line of the counters of what it answers
+pub record PrintsSample (program : Program) (number count : ℕ) (p : Printout) : Type 0 where
+  pub typed : AreTypedSamples program.names program.claim number count
+  pub bytes_are : p.bytes ≡ counts_line (counted (names_with program.names) (answers_to program number count))
+  pub ending_is : p.ending ≡ ending (answers_to program number count)
+
+-- the built-in source spells a program of which this holds
+abbrev pub OfBuiltIn : (Program → Type 0) → Type 0
+OfBuiltIn P = (program : Program) × IsAccepted source_text program × P program
+
+-- The same of the built-in source and the records of a number, which stand in no file.
+abbrev pub FindsSample : ℕ → ℕ → Result Printout Refusal → Type 0
+FindsSample number count (Err (TooLarge which)) = ⊥
+FindsSample number count (Err (SourceAt fault at)) = IsRefusedSource (SourceAt fault at) source_text
+FindsSample number count (Err NoMain) = IsRefusedSource NoMain source_text
+FindsSample number count (Err (TooDeep at)) = IsRefusedSource (TooDeep at) source_text
+FindsSample number count (Err (LargeTree at)) = IsRefusedSource (LargeTree at) source_text
+FindsSample number count (Err TooManyNames) = IsRefusedSource TooManyNames source_text ⊎ OfBuiltIn (λ program. HasNoRoom program.names)
+FindsSample number count (Err (IllTyped fault at variant)) = IsRefusedSource (IllTyped fault at variant) source_text
+FindsSample number count (Err (Variants at)) = IsRefusedSource (Variants at) source_text
+FindsSample number count (Err (Line fault)) = OfBuiltIn (λ program. IsWrongSample fault program.names program.claim number count)
+FindsSample number count (Ok p) = OfBuiltIn (λ program. PrintsSample program number count p)
+
+-- the bytes on `out`, the status and the line on `err` for what was found
+abbrev pub found_bytes : Result Printout Refusal → List ℕ
+found_bytes (Ok p) = p.bytes
+found_bytes (Err refusal) = []
+
+abbrev pub ending_status : Option Fault → Status
+ending_status None = status.Ok
+ending_status (Some fault) = status.Fault
+
+abbrev pub found_status : Result Printout Refusal → Status
+found_status (Ok p) = ending_status p.ending
+found_status (Err refusal) = refusal_status refusal
+
+abbrev pub ending_line : Option Fault → List ℕ → List ℕ → List ℕ
+ending_line None source input = []
+ending_line (Some fault) source input = stop_line (stop.Faulted fault) source input
+
+abbrev pub found_line : Result Printout Refusal → List ℕ → List ℕ → List ℕ
+found_line (Ok p) source input = ending_line p.ending source input
+found_line (Err refusal) source input = stop_line (stop.Refused refusal) source input
+
+-- the outside, as a call found it and as it left it: the file of each name, `out` and `err`
+pub record Outside : Type 0 where
+  pub file : List ℕ → File
+  pub out : Sink
+  pub err : Sink
+
+abbrev pub seen : {F O E : Type 0} → (F → List ℕ → Option (List ℕ)) → (F → List ℕ → ℕ) → (O → Option (List ℕ)) → (O → ℕ) → (E → Option (List ℕ)) → (E → ℕ) → F → F → O → O → E → E → Outside
+seen bytes_of file_faults out_held out_faults err_held err_faults files new_files out new_out err new_err = record {
+  file = λ name. seen_file bytes_of file_faults files new_files name;
+  out = seen_sink out_held out_faults out new_out;
+  err = seen_sink err_held err_faults err new_err;
+}
+
+-- what is found of a command's files
+abbrev pub FindsFor : Command → (List ℕ → File) → Result Printout Refusal → Type 0
+FindsFor (Run source input workers fuel depth queue) file found = Finds WithWorkers (limits_of fuel depth) (file source).told (file input).told found
+FindsFor (Once source input fuel depth) file found = Finds OnOneThread (limits_of fuel depth) (file source).told (file input).told found
+FindsFor (Check source) file found = FindsTypes (file source).told found
+FindsFor (Print source) file found = FindsText (file source).told found
+FindsFor (Sample number count) file found = FindsSample number count found
+
+-- the whole answer: what is found decides the bytes, the status and the line
+pub record IsAnswered (command : Command) (outside : Outside) (s : Status) : Type 0 where
+  pub found : Result Printout Refusal
+  pub finds : FindsFor command outside.file found
+  pub status_is : s ≡ found_status found
+  pub out_got : outside.out.now ≡ appended outside.out.before (found_bytes found)
+  pub err_got : GotLine outside.err (found_line found (source_of command) (input_of command))
+
+-- the count of that file's faults rose, and no check before its read refuses
+abbrev pub IsUnread : Which → File → File → Type 0
+IsUnread Source source input = FileFailed source
+IsUnread Input source input = FileFailed input × IfSome source.told (λ bytes. (program : Program) × IsAccepted bytes program)
+
+abbrev pub IsSourceUnread : Which → File → Type 0
+IsSourceUnread Source source = FileFailed source
+IsSourceUnread Input source = ⊥
+
+abbrev pub UnreadFor : Command → (List ℕ → File) → Which → Type 0
+UnreadFor (Run source input workers fuel depth queue) file which = IsUnread which (file source) (file input)
+UnreadFor (Once source input fuel depth) file which = IsUnread which (file source) (file input)
+UnreadFor (Check source) file which = IsSourceUnread which (file source)
+UnreadFor (Print source) file which = IsSourceUnread which (file source)
+UnreadFor (Sample number count) file which = ⊥
+
+-- nothing was printed, and the line names the file
+pub record HasUnread (command : Command) (outside : Outside) : Type 0 where
+  pub which : Which
+  pub why : UnreadFor command outside.file which
+  pub out_same : outside.out.now ≡ outside.out.before
+  pub err_got : GotLine outside.err (stop_line (stop.Unread which) (source_of command) (input_of command))
+
+-- `out` got nothing, or some first bytes of what it would get
+abbrev pub GotPart : (Result Printout Refusal → Type 0) → Sink → Type 0
+GotPart finds out = (out.now ≡ out.before) ⊎ HasBegun (λ p. finds (Ok p)) out
+
+pub record IsCutShort (command : Command) (outside : Outside) : Type 0 where
+  pub out_got : GotPart (FindsFor command outside.file) outside.out
+  pub err_got : GotLine outside.err (codes "memory\n")
+
+-- the count of `out` rose, and it got some first bytes of what it would get
+abbrev pub HasFailed : (Result Printout Refusal → Type 0) → Sink → Type 0
+HasFailed finds out = SinkFailed out × HasBegun (λ p. finds (Ok p)) out
+
+pub record IsUnwritten (command : Command) (outside : Outside) : Type 0 where
+  pub out_failed : HasFailed (FindsFor command outside.file) outside.out
+  pub err_got : GotLine outside.err (codes "write\n")
+
+-- why a run ended otherwise than with its whole output, and what `out` holds then
+abbrev pub StoppedFor : (Result Printout Refusal → Type 0) → (Which → Type 0) → Sink → Stop → Type 0
+StoppedFor finds unread out (stop.Refused refusal) = finds (Err refusal) × (out.now ≡ out.before)
+StoppedFor finds unread out (stop.Faulted fault) = (p : List ℕ) × finds (Ok (ended p (Some fault))) × (out.now ≡ appended out.before p)
+StoppedFor finds unread out (stop.Unread which) = unread which × (out.now ≡ out.before)
+StoppedFor finds unread out stop.Memory = GotPart finds out
+StoppedFor finds unread out stop.Write = HasFailed finds out
+
+-- a run on a source and an input
+abbrev pub WhyStopped : Manner → Limits → File → File → Sink → Stop → Type 0
+WhyStopped Shows limits source input out why = StoppedFor (Finds Shows limits source.told input.told) (λ which. IsUnread which source input) out why
+
+-- the printing of a source
+abbrev pub WhyUnprinted : File → Sink → Stop → Type 0
+WhyUnprinted source out why = StoppedFor (FindsText source.told) (λ which. IsSourceUnread which source) out why
+
+-- the check of a source
+abbrev pub WhyUnchecked : File → Sink → Stop → Type 0
+WhyUnchecked source out why = StoppedFor (FindsTypes source.told) (λ which. IsSourceUnread which source) out why
+
+-- a run on the records of a number
+abbrev pub WhyUncounted : ℕ → ℕ → Sink → Stop → Type 0
+WhyUncounted number count out why = StoppedFor (FindsSample number count) (λ which. ⊥) out why
+
+-- the calling thread does the command alone
+abbrev pub is_plain : Command → Bool
+is_plain (Run source input workers fuel depth queue) = false
+is_plain (Once source input fuel depth) = true
+is_plain (Check source) = true
+is_plain (Print source) = true
+is_plain (Sample number count) = false
+
+-- the status of what was done, and what `err` got of it
+abbrev pub end_status : Result (Unit {0}) Stop → Status
+end_status (Ok done) = status.Ok
+end_status (Err why) = stop_status why
+
+abbrev pub GotEnd : Sink → Result (Unit {0}) Stop → Command → Type 0
+GotEnd err (Ok done) command = err.now ≡ err.before
+GotEnd err (Err why) command = GotLine err (stop_line why (source_of command) (input_of command))
+
+-- any command
+abbrev pub WhyEnded : Command → (List ℕ → File) → Sink → Stop → Type 0
+WhyEnded command file out why = StoppedFor (FindsFor command file) (UnreadFor command file) out why
+
+-- The clauses for words, which may be no command.
+pub record HasNoCommand (outside : Outside) (s : Status) : Type 0 where
+  pub status_is : s ≡ status.Usage
+  pub out_same : outside.out.now ≡ outside.out.before
+  pub err_got : GotLine outside.err usage_text
+
+abbrev pub IsAnsweredFor : Option Command → Outside → Status → Type 0
+IsAnsweredFor None outside s = HasNoCommand outside s
+IsAnsweredFor (Some command) outside s = IsAnswered command outside s
+
+-- there is a command, and this holds of it
+abbrev pub OfCommand : (Command → Outside → Type 0) → Option Command → Outside → Type 0
+OfCommand P None outside = ⊥
+OfCommand P (Some command) outside = P command outside
+
+-- want of memory may come before the words are read
+pub record IsCutShortFor (command : Option Command) (outside : Outside) : Type 0 where
+  pub out_got : (outside.out.now ≡ outside.out.before) ⊎ OfCommand (λ c o. GotPart (FindsFor c o.file) o.out) command outside
+  pub err_got : GotLine outside.err (codes "memory\n")

@@ -1,0 +1,6 @@
+pub mod Seen
+pub mod Shown
+pub mod Sample
+pub mod Answer
+pub mod Ready
+pub mod Runs

@@ -1,0 +1,69 @@
+//! From the files of a run to what is run.
+ghost use Rattle.std.specs.Prelude.{◌≡◌, ◌≤◌, ℕ, List, IfOk, IfErr};
+ghost use Rattle.sn_net.specs.WellFormed.{FitsBoxes};
+ghost use Rattle.sn_plain.specs.Ready.{IsReady, WhyNotReady};
+ghost use Rattle.sn_load.specs.Load.{AreTypedRecords};
+ghost use Rattle.sn_plain.specs.Seen.{seen_file};
+
+use crate::outside::read_file;
+use sn_input::Input;
+use sn_io::Files;
+use sn_list::{Held, Seq};
+use sn_load::{INPUT_LIMIT, Program, SOURCE_LIMIT, Stop, Which, load_source, read_input};
+use sn_names::Names;
+use sn_net::{Boxes, Claim, Net};
+use sn_record::Record;
+use std::alloc::Global;
+
+/// The main network of a source with its boxes, and the records of an input with the names of their labels.
+#[derive(Drop)]
+pub struct Ready {
+    pub net: Net,
+    pub boxes: Boxes,
+    pub records: Seq<Record>,
+    pub names: Names,
+}
+
+/// Makes all checks before a run: of the source and its types, and then of the input. Each file is read once.
+pub fn prepare<F: Files>(
+    alloc: Global,
+    source_name: &[u8],
+    input_name: &[u8],
+    files: &mut F,
+) -> Result<Ready, Stop>
+    ensures ready { IfOk result (IsReady (F.bytes_of files.old source_name.now) (F.bytes_of files.old input_name.now)) }
+    ensures formed { IfOk result (λ ready. FitsBoxes ready.boxes ready.net) }
+    ensures typed { IfOk result (λ ready. AreTypedRecords ready.boxes ready.net ready.records) }
+    ensures stopped { IfErr result (WhyNotReady
+        (seen_file F.bytes_of F.faults files.old files.new source_name.now)
+        (seen_file F.bytes_of F.faults files.old files.new input_name.now)) }
+    ensures same { (name : List ℕ) → F.bytes_of files.new name ≡ F.bytes_of files.old name }
+    ensures later { (name : List ℕ) → F.faults files.old name ≤ F.faults files.new name }
+{
+    let source = read_file(alloc, files, Which::Source, source_name, SOURCE_LIMIT)?;
+    let program = load_source(alloc, source.as_slice())?;
+    let program = Held { value: program };
+    let input = read_file(alloc, files, Which::Input, input_name, INPUT_LIMIT)?;
+    let Program {
+        names,
+        boxes,
+        claim,
+    } = program.into_inner();
+    let checked = Held {
+        value: (boxes, claim),
+    };
+    let Input { records, names, .. } = read_input(
+        alloc,
+        names,
+        &checked.value.1,
+        input.as_slice(),
+    )?;
+    let (boxes, claim) = checked.into_inner();
+    let Claim { net, .. } = claim;
+    Ok(Ready {
+        net,
+        boxes,
+        records,
+        names,
+    })
+}

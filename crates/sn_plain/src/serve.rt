@@ -1,0 +1,199 @@
+//! The commands that the calling thread does alone.
+ghost use Rattle.std.specs.Prelude.{◌≡◌, ◌≢◌, ◌≤◌, ℕ, List, Ok, IfErr, OnOk, false, true};
+ghost use Rattle.sn_io.specs.Told.{appended};
+ghost use Rattle.sn_load.specs.Load.{AreLimits, limits_of};
+ghost use Rattle.sn_plain.specs.Seen.{GotLine, seen_file, seen_sink};
+ghost use Rattle.sn_load.specs.Status.{stop_line};
+ghost use Rattle.sn_plain.specs.Answer.{GotEnd, end_status, is_plain, seen, Finds, FindsFor, FindsText, FindsTypes, WhyEnded, WhyStopped, WhyUnchecked, WhyUnprinted, IsAnswered, HasUnread, IsCutShort, IsUnwritten};
+ghost use Rattle.sn_plain.specs.Runs.{OnOneThread, whole};
+ghost use Rattle.sn_words.specs.Command.{IsInRange, input_of, source_of};
+
+use crate::outside::{read_file, write_line};
+use crate::ready::prepare;
+use crate::transcript::print_once;
+use itoa::Buffer;
+use sn_io::{Files, Sink, write_whole};
+use sn_list::Held;
+use sn_load::{SOURCE_LIMIT, Status, Stop, Which, canonical_text, flows_text, load_source};
+use sn_words::Command;
+use std::alloc::Global;
+
+/// Runs a source over the records of an input on one thread, and prints what comes out.
+fn run_once<F: Files, O: Sink>(
+    alloc: Global,
+    source_name: &[u8],
+    input_name: &[u8],
+    fuel: u64,
+    depth: u32,
+    files: &mut F,
+    out: &mut O,
+) -> Result<(), Stop>
+    requires { AreLimits (limits_of fuel depth) }
+    ensures done { OnOk result ((p : List ℕ)
+        × Finds OnOneThread (limits_of fuel depth) (F.bytes_of files.old source_name.now) (F.bytes_of files.old input_name.now) (Ok (whole p))
+        × (O.held out.new ≡ appended (O.held out.old) p)) }
+    ensures stopped { IfErr result (WhyStopped OnOneThread (limits_of fuel depth)
+        (seen_file F.bytes_of F.faults files.old files.new source_name.now)
+        (seen_file F.bytes_of F.faults files.old files.new input_name.now)
+        (seen_sink O.held O.faults out.old out.new)) }
+    ensures same { (name : List ℕ) → F.bytes_of files.new name ≡ F.bytes_of files.old name }
+    ensures later { (name : List ℕ) → F.faults files.old name ≤ F.faults files.new name }
+    ensures out_later { O.faults out.old ≤ O.faults out.new }
+{
+    let ready = prepare(alloc, source_name, input_name, files)?;
+    match print_once(alloc, ready, fuel, depth, out)? {
+        None => Ok(()),
+        Some(fault) => Err(Stop::Faulted(fault)),
+    }
+}
+
+/// Checks a source, and prints what can come out for each variant of its input.
+fn run_check<F: Files, O: Sink>(
+    alloc: Global,
+    source_name: &[u8],
+    files: &mut F,
+    out: &mut O,
+) -> Result<(), Stop>
+    ensures done { OnOk result ((p : List ℕ)
+        × FindsTypes (F.bytes_of files.old source_name.now) (Ok (whole p))
+        × (O.held out.new ≡ appended (O.held out.old) p)) }
+    ensures stopped { IfErr result (WhyUnchecked
+        (seen_file F.bytes_of F.faults files.old files.new source_name.now)
+        (seen_sink O.held O.faults out.old out.new)) }
+    ensures same { (name : List ℕ) → F.bytes_of files.new name ≡ F.bytes_of files.old name }
+    ensures later { (name : List ℕ) → F.faults files.old name ≤ F.faults files.new name }
+    ensures out_later { O.faults out.old ≤ O.faults out.new }
+{
+    let source = read_file(alloc, files, Which::Source, source_name, SOURCE_LIMIT)?;
+    let program = load_source(alloc, source.as_slice())?;
+    let program = Held { value: program };
+    let text = flows_text(alloc, &program.value)?;
+    write_whole(out, text.as_slice())?;
+    Ok(())
+}
+
+/// Prints the canonical text of a source.
+fn run_print<F: Files, O: Sink>(
+    alloc: Global,
+    source_name: &[u8],
+    files: &mut F,
+    out: &mut O,
+) -> Result<(), Stop>
+    ensures done { OnOk result ((p : List ℕ)
+        × FindsText (F.bytes_of files.old source_name.now) (Ok (whole p))
+        × (O.held out.new ≡ appended (O.held out.old) p)) }
+    ensures stopped { IfErr result (WhyUnprinted
+        (seen_file F.bytes_of F.faults files.old files.new source_name.now)
+        (seen_sink O.held O.faults out.old out.new)) }
+    ensures same { (name : List ℕ) → F.bytes_of files.new name ≡ F.bytes_of files.old name }
+    ensures later { (name : List ℕ) → F.faults files.old name ≤ F.faults files.new name }
+    ensures out_later { O.faults out.old ≤ O.faults out.new }
+{
+    let source = read_file(alloc, files, Which::Source, source_name, SOURCE_LIMIT)?;
+    let text = canonical_text(alloc, source.as_slice())?;
+    write_whole(out, text.as_slice())?;
+    Ok(())
+}
+
+/// Whether the calling thread does the command alone.
+pub fn is_plain(command: &Command) -> bool
+    ensures { result ≡ is_plain command.now }
+{
+    match command {
+        Command::Run { .. } | Command::Sample { .. } => false,
+        Command::Once { .. } | Command::Check { .. } | Command::Print { .. } => true,
+    }
+}
+
+/// Does a command on the calling thread alone.
+fn work_alone<F: Files, O: Sink>(
+    alloc: Global,
+    command: &Command,
+    files: &mut F,
+    out: &mut O,
+) -> Result<(), Stop>
+    requires plain { is_plain command.now ≡ true }
+    requires numbers { IsInRange command.now }
+    ensures done { OnOk result ((p : List ℕ)
+        × FindsFor command.now (seen_file F.bytes_of F.faults files.old files.new) (Ok (whole p))
+        × (O.held out.new ≡ appended (O.held out.old) p)) }
+    ensures stopped { IfErr result (WhyEnded command.now
+        (seen_file F.bytes_of F.faults files.old files.new)
+        (seen_sink O.held O.faults out.old out.new)) }
+    ensures same { (name : List ℕ) → F.bytes_of files.new name ≡ F.bytes_of files.old name }
+    ensures later { (name : List ℕ) → F.faults files.old name ≤ F.faults files.new name }
+    ensures out_later { O.faults out.old ≤ O.faults out.new }
+{
+    match command {
+        Command::Once {
+            source,
+            input,
+            fuel,
+            depth,
+        } => run_once(
+            alloc,
+            source.as_slice(),
+            input.as_slice(),
+            *fuel,
+            *depth,
+            files,
+            out,
+        ),
+        Command::Check { source } => run_check(alloc, source.as_slice(), files, out),
+        Command::Print { source } => run_print(alloc, source.as_slice(), files, out),
+        Command::Run { .. } | Command::Sample { .. } => unreachable!(),
+    }
+}
+
+/// Writes the line that tells why a command stopped.
+fn tell<E: Sink>(command: &Command, stop: &Stop, err: &mut E)
+    ensures got { GotLine (seen_sink E.held E.faults err.old err.new) (stop_line stop.now (source_of command.now) (input_of command.now)) }
+    ensures err_later { E.faults err.old ≤ E.faults err.new }
+{
+    let mut buffer = Buffer::new();
+    let place = buffer.format(stop.place()).as_bytes();
+    let name = stop.name(command.source(), command.input(), place);
+    write_line(err, stop.label(), name, stop.detail());
+}
+
+/// Answers the status of what was done. Where a command stopped, the line that tells why is written; a failing `err` changes no status.
+pub fn conclude<E: Sink>(command: &Command, end: &Result<(), Stop>, err: &mut E) -> Status
+    ensures status { result ≡ end_status end.now }
+    ensures got { GotEnd (seen_sink E.held E.faults err.old err.new) end.now command.now }
+    ensures err_later { E.faults err.old ≤ E.faults err.new }
+{
+    match end {
+        Ok(()) => Status::Ok,
+        Err(stop) => {
+            tell(command, stop, err);
+            stop.status()
+        }
+    }
+}
+
+/// Does a command on the calling thread, which needs no others. It returns.
+pub fn serve_plain<F: Files, O: Sink, E: Sink>(
+    alloc: Global,
+    command: &Command,
+    files: &mut F,
+    out: &mut O,
+    err: &mut E,
+) -> Status
+    requires plain { is_plain command.now ≡ true }
+    requires numbers { IsInRange command.now }
+    ensures answer { result ≢ Status.Read → result ≢ Status.Memory → result ≢ Status.Write
+        → IsAnswered command.now (seen F.bytes_of F.faults O.held O.faults E.held E.faults files.old files.new out.old out.new err.old err.new) result }
+    ensures read { result ≡ Status.Read
+        → HasUnread command.now (seen F.bytes_of F.faults O.held O.faults E.held E.faults files.old files.new out.old out.new err.old err.new) }
+    ensures memory { result ≡ Status.Memory
+        → IsCutShort command.now (seen F.bytes_of F.faults O.held O.faults E.held E.faults files.old files.new out.old out.new err.old err.new) }
+    ensures write { result ≡ Status.Write
+        → IsUnwritten command.now (seen F.bytes_of F.faults O.held O.faults E.held E.faults files.old files.new out.old out.new err.old err.new) }
+    ensures same { (name : List ℕ) → F.bytes_of files.new name ≡ F.bytes_of files.old name }
+    ensures later { (name : List ℕ) → F.faults files.old name ≤ F.faults files.new name }
+    ensures out_later { O.faults out.old ≤ O.faults out.new }
+    ensures err_later { E.faults err.old ≤ E.faults err.new }
+{
+    let end = work_alone(alloc, command, files, out);
+    conclude(command, &end, err)
+}
