@@ -5,4 +5,3 @@ pub mod Printed
 pub mod Told
 pub mod Running
 pub mod Checking
-pub mod Sampling

@@ -232,6 +232,12 @@ is_plain (Check source) = true
 is_plain (Print source) = true
 is_plain (Sample number count) = false
 
+-- the command needs other threads, and nothing was read or written
+pub record NeedsOthers (command : Command) (outside : Outside) : Type 0 where
+  pub many : is_plain command ≡ false
+  pub out_same : outside.out.now ≡ outside.out.before
+  pub err_same : outside.err.now ≡ outside.err.before
+
 -- the status of what was done, and what `err` got of it
 abbrev pub end_status : Result (Unit {0}) Stop → Status
 end_status (Ok done) = status.Ok

@@ -1,7 +1,6 @@
 -- What is found of the built-in source and the records of a number.
 use Rattle.std.specs.Prelude.{◌≡◌, ◌≤◌, ◌<◌, ◌+◌, ℕ, Bool, true, List, [], ◌∷◌, codes, length, map, not, Option, None, Some, option_map}
 use Rattle.std.specs.List.{position}
-use Rattle.sn_record.specs.declared.item.Fault.{Fault}
 use Rattle.sn_record.specs.declared.item.Item.{Item}
 use Rattle.sn_record.specs.declared.item.Item.TheVariants as item
 use Rattle.sn_record.specs.LabelSet.{Labels}
@@ -9,17 +8,10 @@ use Rattle.sn_names.specs.Names.{all_entered}
 use Rattle.sn_net.specs.declared.net.Claim.{Claim}
 use Rattle.sn_net.specs.Item.{ModelItem, modelled}
 use Rattle.sn_model.specs.Meaning.{one_list}
-use Rattle.sn_output.specs.Printed.{ending}
 use Rattle.sn_sample.specs.Records.{sample_items}
-use Rattle.sn_sample.specs.Tally.{Counts, counted}
 use Rattle.sn_load.specs.declared.load.Program.{Program}
 use Rattle.sn_load.specs.declared.status.LineFault.{LineFault}
 use Rattle.sn_load.specs.declared.status.LineFault.TheVariants as line
-use Rattle.sn_load.specs.declared.status.Refusal.{Refusal}
-use Rattle.sn_load.specs.declared.status.Refusal.TheVariants as refusal
-use Rattle.sn_load.specs.declared.status.Stop.{Stop}
-use Rattle.sn_load.specs.declared.status.Stop.TheVariants as stop
-use Rattle.sn_plain.specs.declared.sample.Samples.{Samples}
 use Rattle.sn_words.specs.declared.numbers.TheConstants.{DEFAULT_FUEL, DEFAULT_DEPTH}
 use Rattle.sn_load.specs.Load.{Limits, is_of_type, limits_of, setting}
 
@@ -48,14 +40,6 @@ first_untyped variants items = position (λ x. not (is_item_of_type variants x))
 abbrev pub HasNoRoom : List (List ℕ) → Type 0
 HasNoRoom names = 4096 < length (names_with names)
 
--- why the names of the labels were not entered
-abbrev pub IsWrongEntry : List (List ℕ) → Stop → Type 0
-IsWrongEntry names (stop.Refused why) = (why ≡ refusal.TooManyNames) × HasNoRoom names
-IsWrongEntry names (stop.Faulted fault) = ⊥
-IsWrongEntry names (stop.Unread which) = ⊥
-IsWrongEntry names stop.Memory = Unit {0}
-IsWrongEntry names stop.Write = ⊥
-
 -- the names find room, and the records are of the claim's input type
 pub record AreTypedSamples (names : List (List ℕ)) (claim : Claim) (number count : ℕ) : Type 0 where
   pub room : length (names_with names) ≤ 4096
@@ -73,41 +57,9 @@ IsWrongSample (line.Twice n kind name) names claim number count = ⊥
 IsWrongSample (line.Untyped n) names claim number count = HasUntypedSample n names claim number count
 IsWrongSample (line.TooMany n) names claim number count = ⊥
 
--- why a number gives a net no records to run on
-abbrev pub IsRefusedSample : List (List ℕ) → Claim → ℕ → ℕ → Refusal → Type 0
-IsRefusedSample names claim number count (refusal.TooLarge which) = ⊥
-IsRefusedSample names claim number count (refusal.Source fault at) = ⊥
-IsRefusedSample names claim number count refusal.NoMain = ⊥
-IsRefusedSample names claim number count (refusal.TooDeep at) = ⊥
-IsRefusedSample names claim number count (refusal.LargeTree at) = ⊥
-IsRefusedSample names claim number count refusal.TooManyNames = HasNoRoom names
-IsRefusedSample names claim number count (refusal.IllTyped fault at variant) = ⊥
-IsRefusedSample names claim number count (refusal.Variants at) = ⊥
-IsRefusedSample names claim number count (refusal.Line fault) = IsWrongSample fault names claim number count
-
--- why records were not made
-abbrev pub WhyNoSamples : List (List ℕ) → Claim → ℕ → ℕ → Stop → Type 0
-WhyNoSamples names claim number count (stop.Refused why) = IsRefusedSample names claim number count why
-WhyNoSamples names claim number count (stop.Faulted fault) = ⊥
-WhyNoSamples names claim number count (stop.Unread which) = ⊥
-WhyNoSamples names claim number count stop.Memory = Unit {0}
-WhyNoSamples names claim number count stop.Write = ⊥
-
--- what was made
-pub record AreSamples (names : List (List ℕ)) (claim : Claim) (number count : ℕ) (made : Samples) : Type 0 where
-  pub names_are : made.names ≡ names_with names
-  pub items_are : made.items ≡ records_of names number count
-  pub typed : AreTypedSamples names claim number count
-
 -- what a program answers to the records on one thread, and so with workers where each merge is in order, within the limits that hold where no word says others
 abbrev pub default_limits : Limits
 default_limits = limits_of DEFAULT_FUEL DEFAULT_DEPTH
 
 abbrev pub answers_to : Program → ℕ → ℕ → List ModelItem
 answers_to program number count = one_list (setting program default_limits) program.claim.net (map modelled (records_of program.names number count))
-
--- what was counted of them: the counters, and the fault that ends them
-pub record HasCounted (program : Program) (number count : ℕ) (counts : Counts) (fault : Option Fault) : Type 0 where
-  pub typed : AreTypedSamples program.names program.claim number count
-  pub counts_are : counts ≡ counted (names_with program.names) (answers_to program number count)
-  pub fault_is : fault ≡ ending (answers_to program number count)

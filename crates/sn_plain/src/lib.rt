@@ -4,11 +4,8 @@
 
 mod outside;
 mod ready;
-mod sample;
 mod serve;
 mod transcript;
 
-pub use outside::write_line;
 pub use ready::{Ready, prepare};
-pub use sample::{Samples, count_alone, count_items, make_samples};
-pub use serve::{conclude, is_plain, serve_plain};
+pub use serve::{conclude, is_plain, serve_alone, serve_plain, tell_memory, tell_usage};

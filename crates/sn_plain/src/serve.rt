@@ -1,12 +1,14 @@
 //! The commands that the calling thread does alone.
-ghost use Rattle.std.specs.Prelude.{◌≡◌, ◌≢◌, ◌≤◌, ℕ, List, Ok, IfErr, OnOk, false, true};
+ghost use Rattle.std.specs.Prelude.{◌≡◌, ◌≢◌, ◌≤◌, ℕ, List, Ok, Some, None, IfErr, IfSome, OnOk, codes, false, map, true};
+ghost use Rattle.std.specs.String.{string_bytes};
 ghost use Rattle.sn_io.specs.Told.{appended};
 ghost use Rattle.sn_load.specs.Load.{AreLimits, limits_of};
 ghost use Rattle.sn_plain.specs.Seen.{GotLine, seen_file, seen_sink};
 ghost use Rattle.sn_load.specs.Status.{stop_line};
-ghost use Rattle.sn_plain.specs.Answer.{GotEnd, end_status, is_plain, seen, Finds, FindsFor, FindsText, FindsTypes, WhyEnded, WhyStopped, WhyUnchecked, WhyUnprinted, IsAnswered, HasUnread, IsCutShort, IsUnwritten};
+ghost use Rattle.sn_plain.specs.Answer.{GotEnd, end_status, is_plain, seen, Finds, FindsFor, FindsText, FindsTypes, WhyEnded, WhyStopped, WhyUnchecked, WhyUnprinted, IsAnswered, HasUnread, IsCutShort, IsUnwritten, IsAnsweredFor, IsCutShortFor, NeedsOthers, OfCommand};
 ghost use Rattle.sn_plain.specs.Runs.{OnOneThread, whole};
-ghost use Rattle.sn_words.specs.Command.{IsInRange, input_of, source_of};
+ghost use Rattle.sn_words.specs.Command.{IsInRange, input_of, source_of, usage_text};
+ghost use Rattle.sn_words.specs.Words.{command_of};
 
 use crate::outside::{read_file, write_line};
 use crate::ready::prepare;
@@ -15,7 +17,7 @@ use itoa::Buffer;
 use sn_io::{Files, Sink, write_whole};
 use sn_list::Held;
 use sn_load::{SOURCE_LIMIT, Status, Stop, Which, canonical_text, flows_text, load_source};
-use sn_words::Command;
+use sn_words::{Command, WordsFault, read_words, usage_line};
 use std::alloc::Global;
 
 /// Runs a source over the records of an input on one thread, and prints what comes out.
@@ -196,4 +198,85 @@ pub fn serve_plain<F: Files, O: Sink, E: Sink>(
 {
     let end = work_alone(alloc, command, files, out);
     conclude(command, &end, err)
+}
+
+/// Says on `err` which words are known.
+pub fn tell_usage<E: Sink>(err: &mut E) -> Status
+    ensures status { result ≡ Status.Usage }
+    ensures got { GotLine (seen_sink E.held E.faults err.old err.new) usage_text }
+    ensures err_later { E.faults err.old ≤ E.faults err.new }
+{
+    let _ = write_whole(err, usage_line());
+    Status::Usage
+}
+
+/// Says on `err` that there was no memory.
+pub fn tell_memory<E: Sink>(err: &mut E) -> Status
+    ensures status { result ≡ Status.Memory }
+    ensures got { GotLine (seen_sink E.held E.faults err.old err.new) (codes "memory\n") }
+    ensures err_later { E.faults err.old ≤ E.faults err.new }
+{
+    write_line(err, b"memory", b"", (b"", b"", b""));
+    Status::Memory
+}
+
+/// Does a command on the calling thread, or nothing where it needs others.
+fn serve_if_plain<F: Files, O: Sink, E: Sink>(
+    alloc: Global,
+    command: &Command,
+    files: &mut F,
+    out: &mut O,
+    err: &mut E,
+) -> Option<Status>
+    requires numbers { IsInRange command.now }
+    ensures answer { IfSome result (λ status. status ≢ Status.Read → status ≢ Status.Memory → status ≢ Status.Write
+        → IsAnswered command.now (seen F.bytes_of F.faults O.held O.faults E.held E.faults files.old files.new out.old out.new err.old err.new) status) }
+    ensures read { result ≡ Some Status.Read
+        → HasUnread command.now (seen F.bytes_of F.faults O.held O.faults E.held E.faults files.old files.new out.old out.new err.old err.new) }
+    ensures memory { result ≡ Some Status.Memory
+        → IsCutShort command.now (seen F.bytes_of F.faults O.held O.faults E.held E.faults files.old files.new out.old out.new err.old err.new) }
+    ensures write { result ≡ Some Status.Write
+        → IsUnwritten command.now (seen F.bytes_of F.faults O.held O.faults E.held E.faults files.old files.new out.old out.new err.old err.new) }
+    ensures others { result ≡ None → NeedsOthers command.now (seen F.bytes_of F.faults O.held O.faults E.held E.faults files.old files.new out.old out.new err.old err.new) }
+    ensures same { (name : List ℕ) → F.bytes_of files.new name ≡ F.bytes_of files.old name }
+    ensures later { (name : List ℕ) → F.faults files.old name ≤ F.faults files.new name }
+    ensures out_later { O.faults out.old ≤ O.faults out.new }
+    ensures err_later { E.faults err.old ≤ E.faults err.new }
+{
+    if is_plain(command) {
+        Some(serve_plain(alloc, command, files, out, err))
+    } else {
+        None
+    }
+}
+
+/// Does the command that the words after the program's name ask for, or says on `err` which words are known. Where the command needs other
+/// threads, nothing is read or written, and there is no status.
+pub fn serve_alone<F: Files, O: Sink, E: Sink>(
+    alloc: Global,
+    words: &[String],
+    files: &mut F,
+    out: &mut O,
+    err: &mut E,
+) -> Option<Status>
+    ensures answer { IfSome result (λ status. status ≢ Status.Read → status ≢ Status.Memory → status ≢ Status.Write
+        → IsAnsweredFor (command_of (map string_bytes words.now)) (seen F.bytes_of F.faults O.held O.faults E.held E.faults files.old files.new out.old out.new err.old err.new) status) }
+    ensures read { result ≡ Some Status.Read
+        → OfCommand HasUnread (command_of (map string_bytes words.now)) (seen F.bytes_of F.faults O.held O.faults E.held E.faults files.old files.new out.old out.new err.old err.new) }
+    ensures memory { result ≡ Some Status.Memory
+        → IsCutShortFor (command_of (map string_bytes words.now)) (seen F.bytes_of F.faults O.held O.faults E.held E.faults files.old files.new out.old out.new err.old err.new) }
+    ensures write { result ≡ Some Status.Write
+        → OfCommand IsUnwritten (command_of (map string_bytes words.now)) (seen F.bytes_of F.faults O.held O.faults E.held E.faults files.old files.new out.old out.new err.old err.new) }
+    ensures others { result ≡ None
+        → OfCommand NeedsOthers (command_of (map string_bytes words.now)) (seen F.bytes_of F.faults O.held O.faults E.held E.faults files.old files.new out.old out.new err.old err.new) }
+    ensures same { (name : List ℕ) → F.bytes_of files.new name ≡ F.bytes_of files.old name }
+    ensures later { (name : List ℕ) → F.faults files.old name ≤ F.faults files.new name }
+    ensures out_later { O.faults out.old ≤ O.faults out.new }
+    ensures err_later { E.faults err.old ≤ E.faults err.new }
+{
+    match read_words(alloc, words) {
+        Ok(command) => serve_if_plain(alloc, &command, files, out, err),
+        Err(WordsFault::Usage) => Some(tell_usage(err)),
+        Err(WordsFault::Memory) => Some(tell_memory(err)),
+    }
 }

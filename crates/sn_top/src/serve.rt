@@ -16,9 +16,9 @@ use crate::workers::{Setup, print_with_workers};
 use sn_io::{Files, Gate, Sink, write_whole};
 use sn_list::Seq;
 use sn_load::{Status, Stop, load_source};
-use sn_plain::{conclude, is_plain, prepare, serve_plain, write_line};
+use sn_plain::{conclude, is_plain, prepare, serve_plain, tell_memory, tell_usage};
 use sn_sample::sample_source;
-use sn_words::{Command, WordsFault, read_words, usage_line};
+use sn_words::{Command, WordsFault, read_words};
 use std::alloc::Global;
 use std::sync::Wait;
 use std::thread::Threads;
@@ -219,13 +219,7 @@ pub fn serve_words<R: Threads + Wait + Sync, F: Files, O: Sink, E: Sink, G: Gate
 {
     match read_words(alloc, words) {
         Ok(command) => serve(rt, alloc, &command, gate, files, out, err),
-        Err(WordsFault::Usage) => {
-            let _ = write_whole(err, usage_line());
-            Status::Usage
-        }
-        Err(WordsFault::Memory) => {
-            write_line(err, b"memory", b"", (b"", b"", b""));
-            Status::Memory
-        }
+        Err(WordsFault::Usage) => tell_usage(err),
+        Err(WordsFault::Memory) => tell_memory(err),
     }
 }

@@ -1,6 +1,6 @@
 use Rattle.std.proofs.Common.{arith, ◌≡◌, ap, ◌∙◌}
 use Rattle.sn_model.specs.Run.{boxes_of, depth_of, fuel_of, items_of, net_of}
-use Rattle.sn_plain.proofs.Sampling.{has_counted, not_finished, samples_typed}
+use Rattle.sn_counts.proofs.Sampling.{has_counted, not_finished, samples_typed}
 use Rattle.sn_top.proofs.sample.count_sample.Goals as goal
 
 pub new-run-requires-clause-fuel : goal.new-run-requires-clause-fuel

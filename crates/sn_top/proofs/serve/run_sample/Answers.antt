@@ -6,7 +6,7 @@ use Rattle.sn_sample.specs.Tally.{counts_line}
 use Rattle.sn_sample.specs.Source.{source_text}
 use Rattle.sn_load.specs.Load.{IsLoaded}
 use Rattle.sn_plain.specs.Seen.{Sink, seen_sink}
-use Rattle.sn_plain.proofs.Sampling.{finds_line, line_cut, not_counted, not_loaded, source_short}
+use Rattle.sn_counts.proofs.Sampling.{finds_line, line_cut, not_counted, not_loaded, source_short}
 use Rattle.sn_top.proofs.serve.run_sample.Goals as goal
 
 pub load_source-requires : goal.load_source-requires

@@ -7,7 +7,8 @@ ghost use Rattle.sn_sample.specs.Counts.{counts_of};
 ghost use Rattle.sn_sample.specs.Records.{HasLabels};
 ghost use Rattle.sn_sample.specs.Tally.{counted};
 ghost use Rattle.sn_model.specs.Run.{given};
-ghost use Rattle.sn_plain.specs.Sample.{AreSamples, IsWrongEntry, WhyNoSamples, first_untyped, is_item_of_type, label_names};
+ghost use Rattle.sn_plain.specs.Sample.{first_untyped, is_item_of_type, label_names};
+ghost use Rattle.sn_counts.specs.Samples.{AreSamples, IsWrongEntry, WhyNoSamples};
 
 use sn_list::Memory;
 use sn_load::{LineFault, Refusal, Stop, is_of_type};

@@ -2,10 +2,10 @@ use Rattle.std.proofs.Common.{◌≡◌, ◌<◌, List, None, Some, refl, sym, a
 use Rattle.std.proofs.lemmas.Result.{err_from_is_err_and}
 use Rattle.sn_record.specs.LabelSet.{Labels}
 use Rattle.sn_record.specs.declared.item.Item.{Item}
-use Rattle.sn_plain.specs.declared.sample.Samples.{Samples}
+use Rattle.sn_counts.specs.declared.sample.Samples.{Samples}
 use Rattle.sn_plain.specs.Sample.{first_untyped}
-use Rattle.sn_plain.proofs.Sampling.{no_room, one_untyped, samples, untyped_below}
-use Rattle.sn_plain.proofs.sample.make_samples.Goals as goal
+use Rattle.sn_counts.proofs.Sampling.{no_room, one_untyped, samples, untyped_below}
+use Rattle.sn_counts.proofs.sample.make_samples.Goals as goal
 
 pub returns-in_err-enter_labels-clause-ended : goal.returns-in_err-enter_labels-clause-ended
 returns-in_err-enter_labels-clause-ended c =

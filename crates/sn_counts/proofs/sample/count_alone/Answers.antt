@@ -4,7 +4,7 @@ use Rattle.sn_net.specs.Item.{ModelItem, modelled}
 use Rattle.sn_model.specs.Run.{given}
 use Rattle.sn_output.specs.Printed.{ending}
 use Rattle.sn_sample.specs.Tally.{counted}
-use Rattle.sn_plain.proofs.sample.count_alone.Goals as goal
+use Rattle.sn_counts.proofs.sample.count_alone.Goals as goal
 
 pub returns-clause-counters : goal.returns-clause-counters
 returns-clause-counters c =

@@ -4,7 +4,7 @@ use Rattle.sn_record.specs.declared.item.Item.TheVariants as item
 use Rattle.std.specs.FinMap as finite
 use Rattle.sn_plain.specs.Sample.{is_item_of_type}
 use Rattle.sn_load.proofs.Loading.{first_at, none_at}
-use Rattle.sn_plain.proofs.sample.first_untyped.Goals as goal
+use Rattle.sn_counts.proofs.sample.first_untyped.Goals as goal
 
 pub returns-then-not-is_item_of_type : goal.returns-then-not-is_item_of_type
 returns-then-not-is_item_of_type c =

@@ -1,7 +1,7 @@
 use Rattle.std.proofs.Common.{[], ◌∷◌, codes, refl}
 use Rattle.std.proofs.lemmas.Result.{err_from_is_err_and}
-use Rattle.sn_plain.proofs.Sampling.{not_entered}
-use Rattle.sn_plain.proofs.sample.enter_labels.Goals as goal
+use Rattle.sn_counts.proofs.Sampling.{not_entered}
+use Rattle.sn_counts.proofs.sample.enter_labels.Goals as goal
 
 pub returns-in_err-number_of-clause-refused : goal.returns-in_err-number_of-clause-refused
 returns-in_err-number_of-clause-refused c =

@@ -37,8 +37,9 @@ use Rattle.sn_load.specs.declared.load.TheConstants.{SOURCE_LIMIT}
 use Rattle.sn_plain.specs.Seen.{Sink, SinkFailed}
 use Rattle.sn_load.specs.Load.{IsLoaded, names_stop}
 use Rattle.sn_load.specs.Scope.{WhyUnloaded}
-use Rattle.sn_plain.specs.declared.sample.Samples.{Samples}
-use Rattle.sn_plain.specs.Sample.{AreSamples, HasCounted, IsWrongEntry, WhyNoSamples, answers_to, default_limits, first_untyped, is_item_of_type, label_names, names_with, records_of}
+use Rattle.sn_counts.specs.declared.sample.Samples.{Samples}
+use Rattle.sn_plain.specs.Sample.{answers_to, default_limits, first_untyped, is_item_of_type, label_names, names_with, records_of}
+use Rattle.sn_counts.specs.Samples.{AreSamples, HasCounted, IsWrongEntry, WhyNoSamples}
 use Rattle.sn_plain.specs.Answer.{FindsSample, WhyUncounted}
 use Rattle.sn_plain.specs.Runs.{ended}
 use Rattle.sn_load.proofs.Loading.{all_pass}

@@ -3,7 +3,7 @@ use Rattle.sn_net.specs.Item.{modelled}
 use Rattle.sn_output.specs.Printed.{ending}
 use Rattle.sn_sample.specs.Counts.{counts_of}
 use Rattle.sn_sample.specs.Tally.{counted, counted_on}
-use Rattle.sn_plain.proofs.sample.count_items.Given as goal
+use Rattle.sn_counts.proofs.sample.count_items.Given as goal
 
 -- what is still to come, counted on, gives what the whole does
 abbrev pub invariant-loop-item : goal.invariant-loop-item
