@@ -1,11 +1,11 @@
 //! Why no picture is printed, as it is told on standard error.
 use itoa::Buffer;
+use sn_ast::ParseFault;
+use sn_label_scope::ScopeFault;
 use sn_lexer::LexFault;
 use sn_list::{Memory, Seq};
-use sn_load::Stop;
-use sn_parser::ParseFault;
 use sn_record::Text;
-use sn_scope::ScopeFault;
+use sn_stop::Stop;
 use std::alloc::{AllocError, Global};
 use std::io::ErrorKind;
 use std::{fmt, io};

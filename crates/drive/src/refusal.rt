@@ -1,5 +1,5 @@
 use sn_list::Memory;
-use sn_load::{Status, Stop};
+use sn_stop::{Status, Stop};
 use std::alloc::AllocError;
 use std::fmt;
 

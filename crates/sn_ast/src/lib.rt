@@ -5,6 +5,7 @@
 
 mod box_expr;
 mod declaration;
+mod fault;
 mod label;
 pub mod laws;
 pub mod measure;
@@ -14,6 +15,7 @@ mod terminal;
 
 pub use box_expr::{BExpr, BForm};
 pub use declaration::{BoxDecl, Decl, FunDecl, NetDecl, Program};
+pub use fault::ParseFault;
 pub use label::{Ident, LabelAt, Sig, Text, Tuple, TypePart, Variant};
 pub use measure::{Kept, Measured};
 pub use network::{ItemAt, ItemSource, NetExpr, NetForm, TemplateAt};

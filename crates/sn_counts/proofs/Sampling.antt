@@ -29,13 +29,14 @@ use Rattle.sn_sample.specs.Records.{HasLabels, sample_items}
 use Rattle.sn_sample.specs.Source.{source_text}
 use Rattle.sn_sample.specs.Tally.{Counts, counted, counts_line}
 use Rattle.sn_load.specs.declared.load.Program.{Program}
-use Rattle.sn_load.specs.declared.status.LineFault.TheVariants as wrong
-use Rattle.sn_load.specs.declared.status.Refusal.TheVariants.{TooLarge, Source as SourceAt, NoMain, TooDeep, LargeTree, TooManyNames, IllTyped, Variants, Line}
-use Rattle.sn_load.specs.declared.status.Stop.{Stop}
-use Rattle.sn_load.specs.declared.status.Stop.TheVariants.{Refused, Faulted, Unread, Memory, Write}
+use Rattle.sn_stop.specs.declared.refusal.LineFault.TheVariants as wrong
+use Rattle.sn_stop.specs.declared.refusal.Refusal.TheVariants.{TooLarge, Source as SourceAt, NoMain, TooDeep, LargeTree, TooManyNames, IllTyped, Variants, Line}
+use Rattle.sn_stop.specs.declared.stop.Stop.{Stop}
+use Rattle.sn_stop.specs.declared.stop.Stop.TheVariants.{Refused, Faulted, Unread, Memory, Write}
 use Rattle.sn_load.specs.declared.load.TheConstants.{SOURCE_LIMIT}
 use Rattle.sn_plain.specs.Seen.{Sink, SinkFailed}
-use Rattle.sn_load.specs.Load.{IsLoaded, names_stop}
+use Rattle.sn_load.specs.Load.{IsLoaded}
+use Rattle.sn_stop.specs.Stops.{names_stop}
 use Rattle.sn_load.specs.Scope.{WhyUnloaded}
 use Rattle.sn_counts.specs.declared.sample.Samples.{Samples}
 use Rattle.sn_plain.specs.Sample.{answers_to, default_limits, first_untyped, is_item_of_type, label_names, names_with, records_of}

@@ -5,10 +5,10 @@ use Rattle.sn_net.specs.declared.net.Claim.{Claim}
 use Rattle.sn_output.specs.Printed.{ending}
 use Rattle.sn_sample.specs.Tally.{Counts, counted}
 use Rattle.sn_load.specs.declared.load.Program.{Program}
-use Rattle.sn_load.specs.declared.status.Refusal.{Refusal}
-use Rattle.sn_load.specs.declared.status.Refusal.TheVariants as refusal
-use Rattle.sn_load.specs.declared.status.Stop.{Stop}
-use Rattle.sn_load.specs.declared.status.Stop.TheVariants as stop
+use Rattle.sn_stop.specs.declared.refusal.Refusal.{Refusal}
+use Rattle.sn_stop.specs.declared.refusal.Refusal.TheVariants as refusal
+use Rattle.sn_stop.specs.declared.stop.Stop.{Stop}
+use Rattle.sn_stop.specs.declared.stop.Stop.TheVariants as stop
 use Rattle.sn_plain.specs.Sample.{AreTypedSamples, HasNoRoom, IsWrongSample, answers_to, names_with, records_of}
 use Rattle.sn_counts.specs.declared.sample.Samples.{Samples}
 

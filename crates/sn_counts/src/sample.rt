@@ -11,13 +11,14 @@ ghost use Rattle.sn_plain.specs.Sample.{first_untyped, is_item_of_type, label_na
 ghost use Rattle.sn_counts.specs.Samples.{AreSamples, IsWrongEntry, WhyNoSamples};
 
 use sn_list::Memory;
-use sn_load::{LineFault, Refusal, Stop, is_of_type};
+use sn_load::is_of_type;
 use sn_model::Run;
 use sn_names::Names;
 use sn_net::Claim;
 use sn_once::run_once;
 use sn_record::{Fault, Item, Items, LabelSet};
 use sn_sample::{Tally, sample_records};
+use sn_stop::{LineFault, Refusal, Stop};
 use std::alloc::Global;
 
 /// Enters the names of the records' labels, where they are new.

@@ -16,8 +16,8 @@ use Rattle.sn_lexer.specs.declared.token.LexFault.{LexFault}
 use Rattle.sn_lexer.specs.declared.token.LexFault.TheVariants as lex_fault
 use Rattle.sn_lexer.specs.declared.token.Token.{Token}
 use Rattle.sn_parser.specs.Answer.{Faults}
-use Rattle.sn_parser.specs.declared.parsing.ParseFault.{ParseFault}
-use Rattle.sn_parser.specs.declared.parsing.ParseFault.TheVariants as parse_fault
+use Rattle.sn_ast.specs.declared.fault.ParseFault.{ParseFault}
+use Rattle.sn_ast.specs.declared.fault.ParseFault.TheVariants as parse_fault
 use Rattle.sn_record.specs.LabelSet.{Labels}
 use Rattle.sn_record.specs.Record.{Entries, Matches, is_match}
 use Rattle.sn_record.proofs.Scores.{is_match-Matches}
@@ -33,16 +33,17 @@ use Rattle.sn_input.specs.declared.input.InputFault.{InputFault}
 use Rattle.sn_input.specs.declared.input.InputFault.TheVariants as input_fault
 use Rattle.sn_scope.specs.Resolution.{resolution}
 use Rattle.sn_scope.specs.declared.resolved.Parts.{Parts}
-use Rattle.sn_scope.specs.declared.resolution.ScopeFault.{ScopeFault}
-use Rattle.sn_scope.specs.declared.resolution.ScopeFault.TheVariants as scope
+use Rattle.sn_label_scope.specs.declared.fault.ScopeFault.{ScopeFault}
+use Rattle.sn_label_scope.specs.declared.fault.ScopeFault.TheVariants as scope
 use Rattle.sn_load.specs.declared.load.Program.{Program}
-use Rattle.sn_load.specs.declared.status.Refusal.TheVariants.{TooLarge, Source as SourceAt, NoMain, TooDeep, LargeTree, TooManyNames, IllTyped, Variants, Line}
-use Rattle.sn_load.specs.declared.status.LineFault.TheVariants as wrong
-use Rattle.sn_load.specs.declared.status.Stop.{Stop}
-use Rattle.sn_load.specs.declared.status.Stop.TheVariants.{Refused, Faulted, Unread, Memory, Write}
-use Rattle.sn_load.specs.Source.{IsSource, lex_stop, parse_stop}
-use Rattle.sn_load.specs.Scope.{IsMain, RefusesClaim, TellsRefusal, WhyRefused, WhyUnloaded, scope_stop}
-use Rattle.sn_load.specs.Load.{IsLoaded, IsTypedFile, WhyUnreadable, input_stop, is_of_type}
+use Rattle.sn_stop.specs.declared.refusal.Refusal.TheVariants.{TooLarge, Source as SourceAt, NoMain, TooDeep, LargeTree, TooManyNames, IllTyped, Variants, Line}
+use Rattle.sn_stop.specs.declared.refusal.LineFault.TheVariants as wrong
+use Rattle.sn_stop.specs.declared.stop.Stop.{Stop}
+use Rattle.sn_stop.specs.declared.stop.Stop.TheVariants.{Refused, Faulted, Unread, Memory, Write}
+use Rattle.sn_load.specs.Source.{IsSource}
+use Rattle.sn_load.specs.Scope.{IsMain, RefusesClaim, TellsRefusal, WhyRefused, WhyUnloaded}
+use Rattle.sn_load.specs.Load.{IsLoaded, IsTypedFile, WhyUnreadable, is_of_type}
+use Rattle.sn_stop.specs.Stops.{input_stop, lex_stop, parse_stop, scope_stop}
 
 -- the first claim that is refused
 module _ (parts : Parts) (i : ℕ) (claim : Claim) (here : claim ≡ get_or parts.claims i claim) (below : i < length parts.claims) (earlier : All (IsAccepted parts.boxes) (take i parts.claims)) where

@@ -5,9 +5,10 @@ use Rattle.sn_lexer.specs.declared.token.LexFault.{LexFault}
 use Rattle.sn_lexer.specs.declared.token.LexFault.TheVariants as lex_fault
 use Rattle.sn_lexer.specs.declared.token.Token.{Token}
 use Rattle.sn_parser.specs.Answer.{Faults}
-use Rattle.sn_parser.specs.declared.parsing.ParseFault.{ParseFault}
-use Rattle.sn_parser.specs.declared.parsing.ParseFault.TheVariants as parse_fault
-use Rattle.sn_load.specs.Source.{WhyNoText, lex_stop, parse_stop}
+use Rattle.sn_ast.specs.declared.fault.ParseFault.{ParseFault}
+use Rattle.sn_ast.specs.declared.fault.ParseFault.TheVariants as parse_fault
+use Rattle.sn_load.specs.Source.{WhyNoText}
+use Rattle.sn_stop.specs.Stops.{lex_stop, parse_stop}
 
 pub not_lexed : (bytes : List ℕ) (fault : LexFault) → IsFault bytes fault → WhyNoText bytes (lex_stop fault)
 not_lexed bytes (lex_fault.BadUtf8 at) h = h

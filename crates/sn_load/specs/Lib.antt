@@ -1,4 +1,3 @@
-pub mod Status
 pub mod Load
 pub mod Source
 pub mod Scope

@@ -17,29 +17,15 @@ use Rattle.sn_typing.specs.Accepted.{IsAccepted}
 use Rattle.sn_typing.specs.Typed.{IsTyped}
 use Rattle.sn_input.specs.Reading.{ReadsFile}
 use Rattle.sn_input.specs.declared.input.Input.{Input}
-use Rattle.sn_input.specs.declared.input.InputFault.{InputFault}
 use Rattle.sn_input.specs.declared.input.InputFault.TheVariants as input_fault
-use Rattle.sn_names.specs.declared.fault.NamesFault.{NamesFault}
-use Rattle.sn_names.specs.declared.fault.NamesFault.TheVariants as names_fault
 use Rattle.sn_load.specs.declared.load.Program.{Program}
-use Rattle.sn_load.specs.declared.status.LineFault.{LineFault}
-use Rattle.sn_load.specs.declared.status.LineFault.TheVariants as line
-use Rattle.sn_load.specs.declared.status.Refusal.{Refusal}
-use Rattle.sn_load.specs.declared.status.Refusal.TheVariants as refusal
-use Rattle.sn_load.specs.declared.status.Stop.{Stop}
-use Rattle.sn_load.specs.declared.status.Stop.TheVariants as stop
+use Rattle.sn_stop.specs.declared.refusal.LineFault.{LineFault}
+use Rattle.sn_stop.specs.declared.refusal.LineFault.TheVariants as line
+use Rattle.sn_stop.specs.declared.refusal.Refusal.{Refusal}
+use Rattle.sn_stop.specs.declared.refusal.Refusal.TheVariants as refusal
+use Rattle.sn_stop.specs.declared.stop.Stop.{Stop}
+use Rattle.sn_stop.specs.declared.stop.Stop.TheVariants as stop
 use Rattle.sn_load.specs.Scope.{IsProgram}
-
-abbrev pub names_stop : NamesFault → Stop
-names_stop names_fault.TooMany = stop.Refused refusal.TooManyNames
-names_stop names_fault.Memory = stop.Memory
-
-abbrev pub input_stop : InputFault → Stop
-input_stop (input_fault.BadLine n) = stop.Refused (refusal.Line (line.BadLine n))
-input_stop (input_fault.Twice n kind name) = stop.Refused (refusal.Line (line.Twice n kind name))
-input_stop (input_fault.TooMany n) = stop.Refused (refusal.Line (line.TooMany n))
-input_stop input_fault.TooManyNames = stop.Refused refusal.TooManyNames
-input_stop input_fault.Memory = stop.Memory
 
 -- the program is that of the source, and can be run
 pub record IsLoaded (bytes : List ℕ) (program : Program) : Type 0 where

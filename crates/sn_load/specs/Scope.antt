@@ -11,29 +11,19 @@ use Rattle.sn_flow.specs.declared.fault.FlowFault.{FlowFault}
 use Rattle.sn_flow.specs.declared.fault.FlowFault.TheVariants as flow_fault
 use Rattle.sn_scope.specs.Resolution.{resolution}
 use Rattle.sn_scope.specs.declared.resolved.Parts.{Parts}
-use Rattle.sn_scope.specs.declared.resolution.ScopeFault.{ScopeFault}
-use Rattle.sn_scope.specs.declared.resolution.ScopeFault.TheVariants as scope
+use Rattle.sn_label_scope.specs.declared.fault.ScopeFault.{ScopeFault}
+use Rattle.sn_label_scope.specs.declared.fault.ScopeFault.TheVariants as scope
 use Rattle.sn_load.specs.Source.{IsRefused, IsSource, IsWrong}
-use Rattle.sn_parser.specs.declared.parsing.ParseFault.TheVariants as parse_fault
+use Rattle.sn_ast.specs.declared.fault.ParseFault.TheVariants as parse_fault
 use Rattle.sn_load.specs.declared.load.Program.{Program}
-use Rattle.sn_load.specs.declared.status.Refusal.{Refusal}
-use Rattle.sn_load.specs.declared.status.Refusal.TheVariants.{TooLarge, Source as SourceAt, NoMain, TooDeep, LargeTree, TooManyNames, IllTyped, Variants, Line}
-use Rattle.sn_load.specs.declared.status.SourceFault.{SourceFault}
-use Rattle.sn_load.specs.declared.status.SourceFault.TheVariants.{BadUtf8, BadChar, NumberTooWide, TextOpen, Unexpected, Unknown, Twice, Arity, GuardTag}
-use Rattle.sn_load.specs.declared.status.TypeFault.{TypeFault}
-use Rattle.sn_load.specs.declared.status.TypeFault.TheVariants as type
-use Rattle.sn_load.specs.declared.status.Stop.{Stop}
-use Rattle.sn_load.specs.declared.status.Stop.TheVariants as stop
-
-abbrev pub scope_stop : ScopeFault → Stop
-scope_stop (scope.Unknown at) = stop.Refused (SourceAt Unknown at)
-scope_stop (scope.Twice at) = stop.Refused (SourceAt Twice at)
-scope_stop (scope.Arity at) = stop.Refused (SourceAt Arity at)
-scope_stop (scope.GuardTag at) = stop.Refused (SourceAt GuardTag at)
-scope_stop scope.NoMain = stop.Refused NoMain
-scope_stop (scope.TooLarge at) = stop.Refused (LargeTree at)
-scope_stop scope.TooManyNames = stop.Refused TooManyNames
-scope_stop scope.Memory = stop.Memory
+use Rattle.sn_stop.specs.declared.refusal.Refusal.{Refusal}
+use Rattle.sn_stop.specs.declared.refusal.Refusal.TheVariants.{TooLarge, Source as SourceAt, NoMain, TooDeep, LargeTree, TooManyNames, IllTyped, Variants, Line}
+use Rattle.sn_stop.specs.declared.refusal.SourceFault.{SourceFault}
+use Rattle.sn_stop.specs.declared.refusal.SourceFault.TheVariants.{BadUtf8, BadChar, NumberTooWide, TextOpen, Unexpected, Unknown, Twice, Arity, GuardTag}
+use Rattle.sn_stop.specs.declared.refusal.TypeFault.{TypeFault}
+use Rattle.sn_stop.specs.declared.refusal.TypeFault.TheVariants as type
+use Rattle.sn_stop.specs.declared.stop.Stop.{Stop}
+use Rattle.sn_stop.specs.declared.stop.Stop.TheVariants as stop
 
 -- the bytes spell a program whose names are not resolved
 pub record IsUnresolved (bytes : List ℕ) (fault : ScopeFault) : Type 0 where

@@ -2,19 +2,18 @@
 use Rattle.std.specs.Prelude.{◌≡◌, ℕ, List, Result, Ok, Err}
 use Rattle.sn_ast.specs.declared.declaration.Program.{Program}
 use Rattle.sn_lexer.specs.Answer.{LexesAs, IsFault}
-use Rattle.sn_lexer.specs.declared.token.LexFault.{LexFault}
 use Rattle.sn_lexer.specs.declared.token.LexFault.TheVariants as lex_fault
 use Rattle.sn_lexer.specs.declared.token.Token.{Token}
 use Rattle.sn_parser.specs.Answer.{Faults, Spell}
-use Rattle.sn_parser.specs.declared.parsing.ParseFault.{ParseFault}
-use Rattle.sn_parser.specs.declared.parsing.ParseFault.TheVariants as parse_fault
+use Rattle.sn_ast.specs.declared.fault.ParseFault.{ParseFault}
+use Rattle.sn_ast.specs.declared.fault.ParseFault.TheVariants as parse_fault
 use Rattle.sn_print.specs.Declarations.{program_text}
-use Rattle.sn_load.specs.declared.status.Refusal.{Refusal}
-use Rattle.sn_load.specs.declared.status.Refusal.TheVariants.{TooLarge, Source as SourceAt, NoMain, TooDeep, LargeTree, TooManyNames, IllTyped, Variants, Line}
-use Rattle.sn_load.specs.declared.status.SourceFault.{SourceFault}
-use Rattle.sn_load.specs.declared.status.SourceFault.TheVariants.{BadUtf8, BadChar, NumberTooWide, TextOpen, Unexpected, Unknown, Twice, Arity, GuardTag}
-use Rattle.sn_load.specs.declared.status.Stop.{Stop}
-use Rattle.sn_load.specs.declared.status.Stop.TheVariants as stop
+use Rattle.sn_stop.specs.declared.refusal.Refusal.{Refusal}
+use Rattle.sn_stop.specs.declared.refusal.Refusal.TheVariants.{TooLarge, Source as SourceAt, NoMain, TooDeep, LargeTree, TooManyNames, IllTyped, Variants, Line}
+use Rattle.sn_stop.specs.declared.refusal.SourceFault.{SourceFault}
+use Rattle.sn_stop.specs.declared.refusal.SourceFault.TheVariants.{BadUtf8, BadChar, NumberTooWide, TextOpen, Unexpected, Unknown, Twice, Arity, GuardTag}
+use Rattle.sn_stop.specs.declared.stop.Stop.{Stop}
+use Rattle.sn_stop.specs.declared.stop.Stop.TheVariants as stop
 
 -- the bytes are the text of tokens, and those are the program
 pub record IsSource (bytes : List ℕ) (program : Program) : Type 0 where
@@ -66,15 +65,3 @@ WhyNoText bytes (stop.Faulted fault) = ⊥
 WhyNoText bytes (stop.Unread which) = ⊥
 WhyNoText bytes stop.Memory = Unit {0}
 WhyNoText bytes stop.Write = ⊥
-
-abbrev pub lex_stop : LexFault → Stop
-lex_stop (lex_fault.BadUtf8 at) = stop.Refused (SourceAt BadUtf8 at)
-lex_stop (lex_fault.BadChar at) = stop.Refused (SourceAt BadChar at)
-lex_stop (lex_fault.NumberTooWide at) = stop.Refused (SourceAt NumberTooWide at)
-lex_stop (lex_fault.TextOpen at) = stop.Refused (SourceAt TextOpen at)
-lex_stop lex_fault.Memory = stop.Memory
-
-abbrev pub parse_stop : ParseFault → Stop
-parse_stop (parse_fault.Unexpected at) = stop.Refused (SourceAt Unexpected at)
-parse_stop (parse_fault.TooDeep at) = stop.Refused (TooDeep at)
-parse_stop parse_fault.Memory = stop.Memory

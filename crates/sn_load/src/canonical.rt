@@ -3,11 +3,11 @@ ghost use Rattle.std.specs.Prelude.{◌≤◌, length, MatchResult};
 ghost use Rattle.sn_load.specs.Source.{HasText, WhyNoText};
 ghost use Rattle.sn_load.specs.declared.load.TheConstants.{SOURCE_LIMIT};
 
-use crate::status::Stop;
 use sn_lexer::lex;
 use sn_parser::parse;
 use sn_print::print;
 use sn_record::Text;
+use sn_stop::Stop;
 use std::alloc::Global;
 
 /// The canonical text of a source.

@@ -1,11 +1,10 @@
 //! Sources and inputs loaded: from the bytes of a source to a program whose claims are accepted, and from those of an input to records of its
-//! input type. What is refused is told by a line and an exit status.
+//! input type.
 #![tactic(auto)]
 
 mod canonical;
 mod items;
 mod load;
-mod status;
 mod types;
 
 pub use canonical::canonical_text;
@@ -13,5 +12,4 @@ pub use items::items_of;
 pub use load::{
     INPUT_LIMIT, Program, SOURCE_LIMIT, is_of_type, load_source, read_input, tell_fault,
 };
-pub use status::{LineFault, Refusal, SourceFault, Status, Stop, TypeFault, Which};
 pub use types::flows_text;

@@ -9,7 +9,6 @@ ghost use Rattle.sn_load.specs.Load.{AreTypedRecords, IsLoaded, IsTypedFile, Why
 ghost use Rattle.sn_load.specs.Scope.{IsMain, TellsRefusal, TellsType, WhyRefused, WhyUnloaded};
 ghost use Rattle.sn_load.specs.declared.load.TheConstants.{SOURCE_LIMIT, INPUT_LIMIT};
 
-use crate::status::{LineFault, Refusal, Stop, TypeFault};
 use sn_flow::{FlowFault, check};
 use sn_input::{Input, read_records};
 use sn_lexer::lex;
@@ -20,6 +19,7 @@ use sn_output::push_variant;
 use sn_parser::parse;
 use sn_record::{LabelSet, Record};
 use sn_scope::{Parts, Resolved, resolve};
+use sn_stop::{LineFault, Refusal, Stop, TypeFault};
 use std::alloc::Global;
 
 /// The most bytes of a source.

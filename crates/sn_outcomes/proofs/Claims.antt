@@ -16,10 +16,10 @@ use Rattle.sn_output.specs.Types.{variant_text}
 use Rattle.sn_scope.specs.declared.resolved.Parts.{Parts}
 use Rattle.sn_load.specs.Scope.{IsIllTyped, IsMain, RefusesClaim}
 use Rattle.sn_load.specs.declared.load.Program.{Program}
-use Rattle.sn_load.specs.declared.status.Refusal.{Refusal}
-use Rattle.sn_load.specs.declared.status.Refusal.TheVariants.{NoMain, IllTyped, Variants}
-use Rattle.sn_load.specs.declared.status.TypeFault.{TypeFault}
-use Rattle.sn_load.specs.declared.status.TypeFault.TheVariants as type
+use Rattle.sn_stop.specs.declared.refusal.Refusal.{Refusal}
+use Rattle.sn_stop.specs.declared.refusal.Refusal.TheVariants.{NoMain, IllTyped, Variants}
+use Rattle.sn_stop.specs.declared.refusal.TypeFault.{TypeFault}
+use Rattle.sn_stop.specs.declared.refusal.TypeFault.TheVariants as type
 
 -- what all claims have, each has; and what the first n have, each of them has
 element_has : (P : Claim → Type 0) (claims : List Claim) (i : ℕ) (claim : Claim) → slice_get claims i ≡ Some claim → All P claims → P claim

@@ -21,11 +21,11 @@ use Rattle.sn_plain.specs.Seen.{File}
 use Rattle.sn_load.specs.Source.{FindsSource}
 use Rattle.sn_load.specs.declared.load.Program.{Program}
 use Rattle.sn_load.specs.declared.load.TheConstants.{SOURCE_LIMIT, INPUT_LIMIT}
-use Rattle.sn_load.specs.declared.status.LineFault.TheVariants as wrong
-use Rattle.sn_load.specs.declared.status.Refusal.{Refusal}
-use Rattle.sn_load.specs.declared.status.Refusal.TheVariants.{TooLarge, Source as SourceAt, NoMain, TooDeep, LargeTree, TooManyNames, IllTyped, Variants, Line}
-use Rattle.sn_load.specs.declared.status.Status.{Status}
-use Rattle.sn_load.specs.declared.status.Which.TheVariants.{Source, Input as InputFile}
+use Rattle.sn_stop.specs.declared.refusal.LineFault.TheVariants as wrong
+use Rattle.sn_stop.specs.declared.refusal.Refusal.{Refusal}
+use Rattle.sn_stop.specs.declared.refusal.Refusal.TheVariants.{TooLarge, Source as SourceAt, NoMain, TooDeep, LargeTree, TooManyNames, IllTyped, Variants, Line}
+use Rattle.sn_stop.specs.declared.status.Status.{Status}
+use Rattle.sn_stop.specs.declared.refusal.Which.TheVariants.{Source, Input as InputFile}
 use Rattle.sn_words.specs.declared.command.Command.{Command}
 use Rattle.sn_words.specs.declared.command.Command.TheVariants.{Run, Once, Check, Print, Sample}
 

@@ -16,9 +16,9 @@ use Rattle.sn_plain.specs.Sample.{AreTypedSamples, answers_to}
 use Rattle.sn_load.specs.Source.{HasText}
 use Rattle.sn_load.specs.declared.load.Program.{Program}
 use Rattle.sn_load.specs.declared.load.TheConstants.{INPUT_LIMIT, SOURCE_LIMIT}
-use Rattle.sn_load.specs.declared.status.Refusal.{Refusal}
-use Rattle.sn_load.specs.declared.status.Status.{Status}
-use Rattle.sn_load.specs.declared.status.Status.TheVariants as status
+use Rattle.sn_stop.specs.declared.refusal.Refusal.{Refusal}
+use Rattle.sn_stop.specs.declared.status.Status.{Status}
+use Rattle.sn_stop.specs.declared.status.Status.TheVariants as status
 use Rattle.sn_words.specs.declared.command.Command.TheVariants.{Check, Once, Print, Run, Sample}
 
 -- what an accepted source and a typed record file print is found

@@ -13,10 +13,10 @@ use Rattle.sn_input.specs.declared.input.InputFault.{InputFault}
 use Rattle.sn_input.specs.declared.input.InputFault.TheVariants as input_fault
 use Rattle.sn_outcomes.proofs.RecordFiles.{file_read_once}
 use Rattle.sn_load.specs.Load.{HasWrongLine, IsTypedFile, WhyNoRecords, is_of_type, untyped_line}
-use Rattle.sn_load.specs.declared.status.LineFault.{LineFault}
-use Rattle.sn_load.specs.declared.status.LineFault.TheVariants as line
-use Rattle.sn_load.specs.declared.status.Refusal.{Refusal}
-use Rattle.sn_load.specs.declared.status.Refusal.TheVariants.{TooLarge, Source, NoMain, TooDeep, LargeTree, TooManyNames, IllTyped, Variants, Line}
+use Rattle.sn_stop.specs.declared.refusal.LineFault.{LineFault}
+use Rattle.sn_stop.specs.declared.refusal.LineFault.TheVariants as line
+use Rattle.sn_stop.specs.declared.refusal.Refusal.{Refusal}
+use Rattle.sn_stop.specs.declared.refusal.Refusal.TheVariants.{TooLarge, Source, NoMain, TooDeep, LargeTree, TooManyNames, IllTyped, Variants, Line}
 
 -- the refusal of a record file; want of memory is none
 abbrev file_refusal : InputFault → Refusal

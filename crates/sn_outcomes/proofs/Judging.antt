@@ -6,9 +6,9 @@ use Rattle.sn_plain.specs.Answer.{IsAccepted, IsRefusedSource}
 use Rattle.sn_plain.specs.Runs.{Printout}
 use Rattle.sn_load.specs.declared.load.Program.{Program}
 use Rattle.sn_load.specs.declared.load.TheConstants.{SOURCE_LIMIT}
-use Rattle.sn_load.specs.declared.status.Refusal.{Refusal}
-use Rattle.sn_load.specs.declared.status.Refusal.TheVariants.{TooLarge}
-use Rattle.sn_load.specs.declared.status.Which.TheVariants.{Source}
+use Rattle.sn_stop.specs.declared.refusal.Refusal.{Refusal}
+use Rattle.sn_stop.specs.declared.refusal.Refusal.TheVariants.{TooLarge}
+use Rattle.sn_stop.specs.declared.refusal.Which.TheVariants.{Source}
 
 abbrev pub Found : Type 0
 Found = Result Printout Refusal

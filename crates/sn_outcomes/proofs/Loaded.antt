@@ -5,11 +5,11 @@ use Rattle.sn_outcomes.proofs.Claims.{IsJudged, judged_once, types_judged, varia
 use Rattle.sn_outcomes.proofs.Resolved.{AreParts, parts_once, resolved_parts, unresolved_parts, wrong_at, wrong_parts}
 use Rattle.sn_outcomes.proofs.Sources.{deep_read}
 use Rattle.sn_scope.specs.declared.resolved.Parts.{Parts}
-use Rattle.sn_scope.specs.declared.resolution.ScopeFault.TheVariants as scope
+use Rattle.sn_label_scope.specs.declared.fault.ScopeFault.TheVariants as scope
 use Rattle.sn_load.specs.Scope.{IsProgram, WhyNoProgram}
 use Rattle.sn_load.specs.declared.load.Program.{Program}
-use Rattle.sn_load.specs.declared.status.Refusal.{Refusal}
-use Rattle.sn_load.specs.declared.status.Refusal.TheVariants.{TooLarge, Source as SourceAt, NoMain, TooDeep, LargeTree, TooManyNames, IllTyped, Variants, Line}
+use Rattle.sn_stop.specs.declared.refusal.Refusal.{Refusal}
+use Rattle.sn_stop.specs.declared.refusal.Refusal.TheVariants.{TooLarge, Source as SourceAt, NoMain, TooDeep, LargeTree, TooManyNames, IllTyped, Variants, Line}
 
 -- what the bytes are found to be: refused before types are asked, or what the check of their claims finds
 pub data IsFound (bytes : List ℕ) : Result Program Refusal → Type 0 where

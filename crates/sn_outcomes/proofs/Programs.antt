@@ -10,8 +10,8 @@ use Rattle.sn_ast.specs.declared.terminal.Terminal.{Terminal}
 use Rattle.sn_lexer.specs.declared.token.Token.{Token}
 use Rattle.sn_outcomes.proofs.DeclarationOnce.{declarations_once}
 use Rattle.sn_parser.specs.Answer.{AreWithin, Faults, IsFault, IsProgram, IsTooDeep, IsUnexpected, IsViable, Spell, Spells, StopsAt, program_of}
-use Rattle.sn_parser.specs.declared.parsing.ParseFault.{ParseFault}
-use Rattle.sn_parser.specs.declared.parsing.ParseFault.TheVariants.{Unexpected, TooDeep, Memory}
+use Rattle.sn_ast.specs.declared.fault.ParseFault.{ParseFault}
+use Rattle.sn_ast.specs.declared.fault.ParseFault.TheVariants.{Unexpected, TooDeep, Memory}
 use Rattle.sn_terminal.proofs.Saying.{say_once}
 
 abbrev Measures : Type 0

@@ -5,13 +5,13 @@ use Rattle.sn_ast.specs.declared.declaration.Program.{Program as Tree}
 use Rattle.sn_outcomes.proofs.Sources.{IsRead, read_once, wrong_read}
 use Rattle.sn_scope.specs.Resolution.{resolution}
 use Rattle.sn_scope.specs.declared.resolved.Parts.{Parts}
-use Rattle.sn_scope.specs.declared.resolution.ScopeFault.{ScopeFault}
-use Rattle.sn_scope.specs.declared.resolution.ScopeFault.TheVariants as scope
+use Rattle.sn_label_scope.specs.declared.fault.ScopeFault.{ScopeFault}
+use Rattle.sn_label_scope.specs.declared.fault.ScopeFault.TheVariants as scope
 use Rattle.sn_load.specs.Scope.{IsResolved, IsUnresolved, IsWrongAt}
-use Rattle.sn_load.specs.declared.status.Refusal.{Refusal}
-use Rattle.sn_load.specs.declared.status.Refusal.TheVariants.{Source as SourceAt, NoMain, LargeTree, TooManyNames}
-use Rattle.sn_load.specs.declared.status.SourceFault.{SourceFault}
-use Rattle.sn_load.specs.declared.status.SourceFault.TheVariants.{BadUtf8, BadChar, NumberTooWide, TextOpen, Unexpected, Unknown, Twice, Arity, GuardTag}
+use Rattle.sn_stop.specs.declared.refusal.Refusal.{Refusal}
+use Rattle.sn_stop.specs.declared.refusal.Refusal.TheVariants.{Source as SourceAt, NoMain, LargeTree, TooManyNames}
+use Rattle.sn_stop.specs.declared.refusal.SourceFault.{SourceFault}
+use Rattle.sn_stop.specs.declared.refusal.SourceFault.TheVariants.{BadUtf8, BadChar, NumberTooWide, TextOpen, Unexpected, Unknown, Twice, Arity, GuardTag}
 
 -- the refusal of a name; want of memory is none
 abbrev scope_refusal : ScopeFault → Refusal

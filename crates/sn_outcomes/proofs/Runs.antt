@@ -15,7 +15,7 @@ use Rattle.sn_plain.specs.Answer.{Finds, IsAccepted}
 use Rattle.sn_load.specs.Load.{Limits, setting}
 use Rattle.sn_plain.specs.Runs.{OnOneThread, Printout, Prints, WithWorkers}
 use Rattle.sn_load.specs.declared.load.Program.{Program}
-use Rattle.sn_load.specs.declared.status.Refusal.{Refusal}
+use Rattle.sn_stop.specs.declared.refusal.Refusal.{Refusal}
 
 bytes_set : IsSet (List ℕ)
 bytes_set = List-set ℕ_set

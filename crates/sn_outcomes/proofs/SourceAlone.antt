@@ -7,9 +7,9 @@ use Rattle.sn_plain.specs.Answer.{Finds}
 use Rattle.sn_load.specs.Load.{Limits}
 use Rattle.sn_plain.specs.Runs.{Manner}
 use Rattle.sn_load.specs.declared.load.Program.{Program}
-use Rattle.sn_load.specs.declared.status.Refusal.{Refusal}
-use Rattle.sn_load.specs.declared.status.Refusal.TheVariants.{TooLarge, Source as SourceAt, NoMain, TooDeep, LargeTree, TooManyNames, IllTyped, Variants, Line}
-use Rattle.sn_load.specs.declared.status.Which.TheVariants.{Source, Input}
+use Rattle.sn_stop.specs.declared.refusal.Refusal.{Refusal}
+use Rattle.sn_stop.specs.declared.refusal.Refusal.TheVariants.{TooLarge, Source as SourceAt, NoMain, TooDeep, LargeTree, TooManyNames, IllTyped, Variants, Line}
+use Rattle.sn_stop.specs.declared.refusal.Which.TheVariants.{Source, Input}
 
 -- of a program anything may be found, or nothing
 abbrev Anything : Program → Found → Type 0

@@ -8,14 +8,14 @@ use Rattle.sn_lexer.specs.declared.token.LexFault.TheVariants as lex
 use Rattle.sn_outcomes.proofs.Programs.{same_spelled, same_refused, spelled_or_refused}
 use Rattle.sn_outcomes.proofs.Tokens.{same_tokens, same_refusal, tokens_or_refusal}
 use Rattle.sn_parser.specs.Answer.{Faults, Spell}
-use Rattle.sn_parser.specs.declared.parsing.ParseFault.{ParseFault}
-use Rattle.sn_parser.specs.declared.parsing.ParseFault.TheVariants as parse
+use Rattle.sn_ast.specs.declared.fault.ParseFault.{ParseFault}
+use Rattle.sn_ast.specs.declared.fault.ParseFault.TheVariants as parse
 use Rattle.sn_print.specs.Declarations.{program_text}
 use Rattle.sn_load.specs.Source.{IsSource, IsRefused, IsWrong, FindsSource}
-use Rattle.sn_load.specs.declared.status.Refusal.{Refusal}
-use Rattle.sn_load.specs.declared.status.Refusal.TheVariants.{TooLarge, Source as SourceAt, NoMain, TooDeep, LargeTree, TooManyNames, IllTyped, Variants, Line}
-use Rattle.sn_load.specs.declared.status.SourceFault.{SourceFault}
-use Rattle.sn_load.specs.declared.status.SourceFault.TheVariants.{BadUtf8, BadChar, NumberTooWide, TextOpen, Unexpected, Unknown, Twice, Arity, GuardTag}
+use Rattle.sn_stop.specs.declared.refusal.Refusal.{Refusal}
+use Rattle.sn_stop.specs.declared.refusal.Refusal.TheVariants.{TooLarge, Source as SourceAt, NoMain, TooDeep, LargeTree, TooManyNames, IllTyped, Variants, Line}
+use Rattle.sn_stop.specs.declared.refusal.SourceFault.{SourceFault}
+use Rattle.sn_stop.specs.declared.refusal.SourceFault.TheVariants.{BadUtf8, BadChar, NumberTooWide, TextOpen, Unexpected, Unknown, Twice, Arity, GuardTag}
 
 pub same_source : (bytes : List ℕ) (program other : Program) → IsSource bytes program → IsSource bytes other → program ≡ other
 same_source bytes program other p q =

@@ -4,9 +4,9 @@ use Rattle.sn_net.specs.Net.{all_deterministic}
 use Rattle.sn_plain.specs.Answer.{IsAccepted}
 use Rattle.sn_load.specs.declared.load.Program.{Program}
 use Rattle.sn_plain.specs.Seen.{File}
-use Rattle.sn_load.specs.declared.status.Refusal.{Refusal}
-use Rattle.sn_load.specs.declared.status.Refusal.TheVariants.{TooLarge, Source as SourceAt, NoMain, TooDeep, LargeTree, TooManyNames, IllTyped, Variants, Line}
-use Rattle.sn_load.specs.declared.status.Which.TheVariants.{Source, Input}
+use Rattle.sn_stop.specs.declared.refusal.Refusal.{Refusal}
+use Rattle.sn_stop.specs.declared.refusal.Refusal.TheVariants.{TooLarge, Source as SourceAt, NoMain, TooDeep, LargeTree, TooManyNames, IllTyped, Variants, Line}
+use Rattle.sn_stop.specs.declared.refusal.Which.TheVariants.{Source, Input}
 use Rattle.sn_words.specs.declared.command.Command.{Command}
 use Rattle.sn_words.specs.declared.command.Command.TheVariants.{Run, Once, Check, Print, Sample}
 

@@ -15,8 +15,8 @@ use Rattle.sn_parser.proofs.Reaching.{as_kept, as_measured}
 use Rattle.sn_parser.specs.Answer.{AreWithin, Faults, IsFault, IsProgram, IsTooDeep, IsUnexpected, IsViable, Spell, Spells, StopsAt, program_of}
 use Rattle.sn_parser.specs.Scopes.{Decls}
 use Rattle.sn_parser.specs.Whole.{AreExactly, AreWhole, FirstLost, IsAnswer, IsWhole, Reads, WholeOf, all_whole, whole_of}
-use Rattle.sn_parser.specs.declared.parsing.ParseFault.{ParseFault}
-use Rattle.sn_parser.specs.declared.parsing.ParseFault.TheVariants.{Unexpected, TooDeep, Memory}
+use Rattle.sn_ast.specs.declared.fault.ParseFault.{ParseFault}
+use Rattle.sn_ast.specs.declared.fault.ParseFault.TheVariants.{Unexpected, TooDeep, Memory}
 use Rattle.sn_terminal.proofs.Saying.{placed_say}
 use Rattle.sn_terminal.specs.Words.{Say}
 

@@ -20,8 +20,8 @@ use Rattle.sn_parser.specs.Scopes.{Decls}
 use Rattle.sn_parser.specs.Whole.{AreExactly, Goes, Reaches, Reads}
 use Rattle.sn_parser.specs.declared.machine.Parser.{Parser}
 use Rattle.sn_parser.specs.declared.machine.Stop.TheVariants.{Refused}
-use Rattle.sn_parser.specs.declared.parsing.ParseFault.{ParseFault}
-use Rattle.sn_parser.specs.declared.parsing.ParseFault.TheVariants.{Unexpected, TooDeep, Memory}
+use Rattle.sn_ast.specs.declared.fault.ParseFault.{ParseFault}
+use Rattle.sn_ast.specs.declared.fault.ParseFault.TheVariants.{Unexpected, TooDeep, Memory}
 use Rattle.sn_terminal.proofs.Saying.{placed_in, say_split, says_once, says_place}
 use Rattle.sn_terminal.specs.Words.{Say, Says}
 

@@ -8,8 +8,8 @@ use Rattle.sn_ast.specs.declared.declaration.Program.{Program}
 use Rattle.sn_ast.specs.declared.measure.Measured.{Measured}
 use Rattle.sn_ast.specs.declared.terminal.Terminal.{Terminal}
 use Rattle.sn_lexer.specs.declared.token.Token.{Token}
-use Rattle.sn_parser.specs.declared.parsing.ParseFault.{ParseFault}
-use Rattle.sn_parser.specs.declared.parsing.ParseFault.TheVariants.{Unexpected, TooDeep, Memory}
+use Rattle.sn_ast.specs.declared.fault.ParseFault.{ParseFault}
+use Rattle.sn_ast.specs.declared.fault.ParseFault.TheVariants.{Unexpected, TooDeep, Memory}
 use Rattle.sn_terminal.specs.Words.{Say}
 
 -- the tokens are these declarations, each with the place of its name and with its measures

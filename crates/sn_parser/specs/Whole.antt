@@ -10,8 +10,8 @@ use Rattle.sn_parser.specs.Answer.{IsUnexpected}
 use Rattle.sn_parser.specs.Residual.{Completes}
 use Rattle.sn_parser.specs.Scopes.{Decls}
 use Rattle.sn_parser.specs.declared.machine.Parser.{Parser}
-use Rattle.sn_parser.specs.declared.parsing.ParseFault.{ParseFault}
-use Rattle.sn_parser.specs.declared.parsing.ParseFault.TheVariants.{Unexpected, TooDeep, Memory}
+use Rattle.sn_ast.specs.declared.fault.ParseFault.{ParseFault}
+use Rattle.sn_ast.specs.declared.fault.ParseFault.TheVariants.{Unexpected, TooDeep, Memory}
 
 -- the parser's state after the tokens: what completes it is what follows them in a source
 pub record Reaches (tokens : List Terminal) (s : Parser) : Type 0 where

@@ -13,6 +13,6 @@ mod parsing;
 mod tokens;
 mod type_decl;
 
-pub use parsing::{ParseFault, parse};
+pub use parsing::parse;
 pub use sn_ast::Program;
 pub use sn_lexer::Token;

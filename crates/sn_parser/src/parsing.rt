@@ -4,38 +4,15 @@ ghost use Rattle.sn_ast.specs.declared.terminal.Terminal.{Terminal as SomeTermin
 ghost use Rattle.sn_lexer.specs.Placed.{ArePlaced, IsPlaced, spelling};
 ghost use Rattle.sn_parser.specs.Answer.{Faults, Spell};
 ghost use Rattle.sn_parser.specs.Whole.{Goes, IsAnswer, Reads, WholeOf};
-ghost use Rattle.sn_parser.specs.declared.parsing.ParseFault.{ParseFault as SomeFault};
-ghost use Rattle.sn_parser.specs.declared.parsing.ParseFault.TheVariants as some_fault;
+ghost use Rattle.sn_ast.specs.declared.fault.ParseFault.{ParseFault as SomeFault};
+ghost use Rattle.sn_ast.specs.declared.fault.ParseFault.TheVariants as some_fault;
 ghost use Rattle.sn_terminal.specs.Words.{Say, Says};
 
 use crate::machine::{Outermost, Parser, Stop};
-use sn_ast::{Program, Seq};
+use sn_ast::{ParseFault, Program, Seq};
 use sn_lexer::Token;
-use sn_list::Memory as WantedMemory;
 use sn_terminal::terminal;
 use std::alloc::Global;
-
-/// Why a source is refused, with the place in its bytes.
-#[derive(Clone, Copy, Debug, PartialEq, Eq)]
-pub enum ParseFault {
-    /// The first token that no program goes on with, or the source's length where all its tokens begin one.
-    Unexpected(u32),
-    /// The name of the first declaration of the outermost scope that is higher than 64, or has more than 128 counted
-    /// parentheses open at once.
-    TooDeep(u32),
-    Memory,
-}
-
-impl From<WantedMemory> for ParseFault {
-    ghost use Rattle.std.specs.Prelude.{◌≡◌};
-    ghost use Rattle.sn_parser.specs.declared.parsing.ParseFault.TheVariants.{Memory};
-
-    ghost from_gives = { λ _ e. e ≡ Memory };
-
-    fn from(_: WantedMemory) -> ParseFault {
-        ParseFault::Memory
-    }
-}
 
 /// Goes on with a token of the source.
 fn next(alloc: Global, source: &[u8], parser: Parser, token: Token) -> Result<Parser, ParseFault>

@@ -3,11 +3,11 @@ use Rattle.std.proofs.Common.{◌≡◌, ℕ, List, None, refl, inl}
 use Rattle.std.specs.Prelude.{Ok, IfSome}
 use Rattle.sn_io.specs.Told.{AppendsPrefix}
 use Rattle.sn_load.specs.declared.load.Program.{Program}
-use Rattle.sn_load.specs.declared.status.Which.TheVariants.{Source, Input}
-use Rattle.sn_load.specs.declared.status.Refusal.TheVariants.{TooLarge, Source as SourceAt, NoMain, TooDeep, LargeTree, TooManyNames, IllTyped, Variants, Line}
-use Rattle.sn_load.specs.declared.status.Refusal.{Refusal}
-use Rattle.sn_load.specs.declared.status.Stop.{Stop}
-use Rattle.sn_load.specs.declared.status.Stop.TheVariants.{Refused, Faulted, Unread, Memory, Write}
+use Rattle.sn_stop.specs.declared.refusal.Which.TheVariants.{Source, Input}
+use Rattle.sn_stop.specs.declared.refusal.Refusal.TheVariants.{TooLarge, Source as SourceAt, NoMain, TooDeep, LargeTree, TooManyNames, IllTyped, Variants, Line}
+use Rattle.sn_stop.specs.declared.refusal.Refusal.{Refusal}
+use Rattle.sn_stop.specs.declared.stop.Stop.{Stop}
+use Rattle.sn_stop.specs.declared.stop.Stop.TheVariants.{Refused, Faulted, Unread, Memory, Write}
 use Rattle.sn_load.specs.declared.load.TheConstants.{SOURCE_LIMIT}
 use Rattle.sn_plain.specs.Seen.{Sink, File, SinkFailed, WhyUnread}
 use Rattle.sn_load.specs.Load.{IsLoaded}

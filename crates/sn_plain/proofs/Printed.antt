@@ -3,11 +3,11 @@ use Rattle.std.proofs.Common.{◌≡◌, ℕ, ◌≤◌, List, length, None, ref
 use Rattle.std.specs.Prelude.{Ok, Err, Result}
 use Rattle.sn_io.specs.Told.{AppendsPrefix}
 use Rattle.sn_load.specs.declared.load.TheConstants.{SOURCE_LIMIT}
-use Rattle.sn_load.specs.declared.status.Which.TheVariants.{Source, Input}
-use Rattle.sn_load.specs.declared.status.Refusal.{Refusal}
-use Rattle.sn_load.specs.declared.status.Refusal.TheVariants.{TooLarge, Source as SourceAt, NoMain, TooDeep, LargeTree, TooManyNames, IllTyped, Variants, Line}
-use Rattle.sn_load.specs.declared.status.Stop.{Stop}
-use Rattle.sn_load.specs.declared.status.Stop.TheVariants.{Refused, Faulted, Unread, Memory, Write}
+use Rattle.sn_stop.specs.declared.refusal.Which.TheVariants.{Source, Input}
+use Rattle.sn_stop.specs.declared.refusal.Refusal.{Refusal}
+use Rattle.sn_stop.specs.declared.refusal.Refusal.TheVariants.{TooLarge, Source as SourceAt, NoMain, TooDeep, LargeTree, TooManyNames, IllTyped, Variants, Line}
+use Rattle.sn_stop.specs.declared.stop.Stop.{Stop}
+use Rattle.sn_stop.specs.declared.stop.Stop.TheVariants.{Refused, Faulted, Unread, Memory, Write}
 use Rattle.sn_plain.specs.Answer.{FindsText, WhyUnprinted}
 use Rattle.sn_plain.specs.Runs.{whole}
 use Rattle.sn_plain.specs.Seen.{File, Sink, SinkFailed, WhyUnread}

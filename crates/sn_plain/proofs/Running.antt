@@ -21,8 +21,8 @@ use Rattle.sn_io.specs.Told.{appended, AppendsPrefix}
 use Rattle.sn_io.proofs.Told.{appended_twice, prefix_after, prefix_before}
 use Rattle.sn_output.specs.Line.{line}
 use Rattle.sn_output.specs.Printed.{printed, ending}
-use Rattle.sn_load.specs.declared.status.Stop.{Stop}
-use Rattle.sn_load.specs.declared.status.Stop.TheVariants.{Refused, Faulted, Unread, Memory, Write}
+use Rattle.sn_stop.specs.declared.stop.Stop.{Stop}
+use Rattle.sn_stop.specs.declared.stop.Stop.TheVariants.{Refused, Faulted, Unread, Memory, Write}
 use Rattle.sn_load.specs.Load.{AreTypedRecords, Limits}
 use Rattle.sn_plain.specs.Ready.{setting_at}
 use Rattle.sn_plain.specs.Runs.{HasBegun, HasPrinted, OnOneThread, Printout, WhyCutOff, WhyUnfinished, ended}

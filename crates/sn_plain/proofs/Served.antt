@@ -4,13 +4,13 @@ use Rattle.std.specs.Prelude.{Result, Ok, Err, ◌⊎◌, OnOk, IfErr}
 use Rattle.sn_io.specs.Told.{appended}
 use Rattle.sn_io.proofs.Told.{appended_none}
 use Rattle.sn_words.specs.declared.command.Command.{Command}
-use Rattle.sn_load.specs.declared.status.Status.{Status}
-use Rattle.sn_load.specs.declared.status.Status.TheVariants as status
-use Rattle.sn_load.specs.declared.status.Refusal.TheVariants.{TooLarge, Source as SourceAt, NoMain, TooDeep, LargeTree, TooManyNames, IllTyped, Variants, Line}
-use Rattle.sn_load.specs.declared.status.Stop.{Stop}
-use Rattle.sn_load.specs.declared.status.Stop.TheVariants.{Refused, Faulted, Unread, Memory, Write}
-use Rattle.sn_load.specs.declared.status.LineFault.TheVariants as wrong
-use Rattle.sn_load.specs.Status.{stop_status, stop_line}
+use Rattle.sn_stop.specs.declared.status.Status.{Status}
+use Rattle.sn_stop.specs.declared.status.Status.TheVariants as status
+use Rattle.sn_stop.specs.declared.refusal.Refusal.TheVariants.{TooLarge, Source as SourceAt, NoMain, TooDeep, LargeTree, TooManyNames, IllTyped, Variants, Line}
+use Rattle.sn_stop.specs.declared.stop.Stop.{Stop}
+use Rattle.sn_stop.specs.declared.stop.Stop.TheVariants.{Refused, Faulted, Unread, Memory, Write}
+use Rattle.sn_stop.specs.declared.refusal.LineFault.TheVariants as wrong
+use Rattle.sn_stop.specs.Status.{stop_status, stop_line}
 use Rattle.sn_words.specs.Command.{source_of, input_of}
 use Rattle.sn_plain.specs.Runs.{ended, whole}
 use Rattle.sn_plain.specs.Seen.{GotLine}

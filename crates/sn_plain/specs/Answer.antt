@@ -4,17 +4,17 @@ use Rattle.sn_io.specs.Told.{appended}
 use Rattle.sn_words.specs.Command.{usage_text, source_of, input_of}
 use Rattle.sn_words.specs.declared.command.Command.{Command}
 use Rattle.sn_words.specs.declared.command.Command.TheVariants.{Run, Once, Check, Print, Sample}
-use Rattle.sn_load.specs.declared.status.Status.{Status}
-use Rattle.sn_load.specs.declared.status.Status.TheVariants as status
-use Rattle.sn_load.specs.declared.status.Which.{Which}
-use Rattle.sn_load.specs.declared.status.Which.TheVariants.{Source, Input}
-use Rattle.sn_load.specs.declared.status.Refusal.{Refusal}
-use Rattle.sn_load.specs.declared.status.Refusal.TheVariants.{TooLarge, Source as SourceAt, NoMain, TooDeep, LargeTree, TooManyNames, IllTyped, Variants, Line}
-use Rattle.sn_load.specs.declared.status.Stop.{Stop}
-use Rattle.sn_load.specs.declared.status.Stop.TheVariants as stop
+use Rattle.sn_stop.specs.declared.status.Status.{Status}
+use Rattle.sn_stop.specs.declared.status.Status.TheVariants as status
+use Rattle.sn_stop.specs.declared.refusal.Which.{Which}
+use Rattle.sn_stop.specs.declared.refusal.Which.TheVariants.{Source, Input}
+use Rattle.sn_stop.specs.declared.refusal.Refusal.{Refusal}
+use Rattle.sn_stop.specs.declared.refusal.Refusal.TheVariants.{TooLarge, Source as SourceAt, NoMain, TooDeep, LargeTree, TooManyNames, IllTyped, Variants, Line}
+use Rattle.sn_stop.specs.declared.stop.Stop.{Stop}
+use Rattle.sn_stop.specs.declared.stop.Stop.TheVariants as stop
 use Rattle.sn_load.specs.declared.load.TheConstants.{SOURCE_LIMIT, INPUT_LIMIT}
 use Rattle.sn_load.specs.Source.{FindsSource}
-use Rattle.sn_load.specs.Status.{refusal_status, stop_line, stop_status}
+use Rattle.sn_stop.specs.Status.{refusal_status, stop_line, stop_status}
 use Rattle.sn_plain.specs.Seen.{Sink, File, seen_sink, seen_file, SinkFailed, FileFailed, GotLine}
 use Rattle.sn_record.specs.declared.item.Fault.{Fault}
 use Rattle.sn_net.specs.declared.net.Claim.{Claim}

@@ -5,8 +5,8 @@ use Rattle.sn_model.specs.Meaning.{Setting}
 use Rattle.sn_load.specs.declared.load.Program.{Program}
 use Rattle.sn_plain.specs.declared.ready.Ready.{Ready}
 use Rattle.sn_load.specs.declared.load.TheConstants.{INPUT_LIMIT}
-use Rattle.sn_load.specs.declared.status.Stop.{Stop}
-use Rattle.sn_load.specs.declared.status.Stop.TheVariants as stop
+use Rattle.sn_stop.specs.declared.stop.Stop.{Stop}
+use Rattle.sn_stop.specs.declared.stop.Stop.TheVariants as stop
 use Rattle.sn_plain.specs.Answer.{IsAccepted, IsRefused, IsUnread}
 use Rattle.sn_load.specs.Load.{IsTypedFile, Limits}
 use Rattle.sn_plain.specs.Seen.{File}

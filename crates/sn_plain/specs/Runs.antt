@@ -13,8 +13,8 @@ use Rattle.sn_load.specs.Load.{IsTypedFile, Limits, setting}
 use Rattle.sn_plain.specs.Seen.{Sink, SinkFailed}
 use Rattle.sn_load.specs.declared.load.Program.{Program}
 use Rattle.sn_load.specs.declared.load.TheConstants.{INPUT_LIMIT}
-use Rattle.sn_load.specs.declared.status.Stop.{Stop}
-use Rattle.sn_load.specs.declared.status.Stop.TheVariants as stop
+use Rattle.sn_stop.specs.declared.stop.Stop.{Stop}
+use Rattle.sn_stop.specs.declared.stop.Stop.TheVariants as stop
 
 -- what a command prints, and the fault that ends it, if there is one
 pub record Printout : Type 0 where

@@ -10,8 +10,8 @@ use Rattle.sn_net.specs.Item.{ModelItem, modelled}
 use Rattle.sn_model.specs.Meaning.{one_list}
 use Rattle.sn_sample.specs.Records.{sample_items}
 use Rattle.sn_load.specs.declared.load.Program.{Program}
-use Rattle.sn_load.specs.declared.status.LineFault.{LineFault}
-use Rattle.sn_load.specs.declared.status.LineFault.TheVariants as line
+use Rattle.sn_stop.specs.declared.refusal.LineFault.{LineFault}
+use Rattle.sn_stop.specs.declared.refusal.LineFault.TheVariants as line
 use Rattle.sn_words.specs.declared.numbers.TheConstants.{DEFAULT_FUEL, DEFAULT_DEPTH}
 use Rattle.sn_load.specs.Load.{Limits, is_of_type, limits_of, setting}
 

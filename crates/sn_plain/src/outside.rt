@@ -6,7 +6,7 @@ ghost use Rattle.sn_io.specs.Told.{appended, AppendsPrefix};
 ghost use Rattle.sn_plain.specs.Seen.{seen_file, seen_sink, GotLine, WhyUnread};
 
 use sn_io::{Bytes, Files, FilesFault, Sink, WriteFault, write_whole};
-use sn_load::{Refusal, Stop, Which};
+use sn_stop::{Refusal, Stop, Which};
 use std::alloc::Global;
 
 /// All bytes of one of a command's files.

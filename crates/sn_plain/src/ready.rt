@@ -9,10 +9,11 @@ use crate::outside::read_file;
 use sn_input::Input;
 use sn_io::Files;
 use sn_list::{Held, Seq};
-use sn_load::{INPUT_LIMIT, Program, SOURCE_LIMIT, Stop, Which, load_source, read_input};
+use sn_load::{INPUT_LIMIT, Program, SOURCE_LIMIT, load_source, read_input};
 use sn_names::Names;
 use sn_net::{Boxes, Claim, Net};
 use sn_record::Record;
+use sn_stop::{Stop, Which};
 use std::alloc::Global;
 
 /// The main network of a source with its boxes, and the records of an input with the names of their labels.

@@ -4,7 +4,7 @@ ghost use Rattle.std.specs.String.{string_bytes};
 ghost use Rattle.sn_io.specs.Told.{appended};
 ghost use Rattle.sn_load.specs.Load.{AreLimits, limits_of};
 ghost use Rattle.sn_plain.specs.Seen.{GotLine, seen_file, seen_sink};
-ghost use Rattle.sn_load.specs.Status.{stop_line};
+ghost use Rattle.sn_stop.specs.Status.{stop_line};
 ghost use Rattle.sn_plain.specs.Answer.{GotEnd, end_status, is_plain, seen, Finds, FindsFor, FindsText, FindsTypes, WhyEnded, WhyStopped, WhyUnchecked, WhyUnprinted, IsAnswered, HasUnread, IsCutShort, IsUnwritten, IsAnsweredFor, IsCutShortFor, NeedsOthers, OfCommand};
 ghost use Rattle.sn_plain.specs.Runs.{OnOneThread, whole};
 ghost use Rattle.sn_words.specs.Command.{IsInRange, input_of, source_of, usage_text};
@@ -16,7 +16,8 @@ use crate::transcript::print_once;
 use itoa::Buffer;
 use sn_io::{Files, Sink, write_whole};
 use sn_list::Held;
-use sn_load::{SOURCE_LIMIT, Status, Stop, Which, canonical_text, flows_text, load_source};
+use sn_load::{SOURCE_LIMIT, canonical_text, flows_text, load_source};
+use sn_stop::{Status, Stop, Which};
 use sn_words::{Command, WordsFault, read_words, usage_line};
 use std::alloc::Global;
 

@@ -16,12 +16,12 @@ ghost use Rattle.sn_plain.specs.Shown.{Shows};
 use crate::ready::Ready;
 use sn_io::{Sink, write_whole};
 use sn_list::{Held, Memory, Seq};
-use sn_load::Stop;
 use sn_model::Run;
 use sn_names::Names;
 use sn_once::Once;
 use sn_output::push_line;
 use sn_record::{Fault, Item, Items, Record, Text};
+use sn_stop::Stop;
 use sn_words::DEFAULT_QUEUE;
 use std::alloc::Global;
 

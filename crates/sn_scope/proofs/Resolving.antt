@@ -17,8 +17,8 @@ use Rattle.sn_scope.specs.declared.declarations.Declarations.{Declarations}
 use Rattle.sn_scope.specs.declared.declarations.Pending.{Pending}
 use Rattle.sn_label_scope.specs.declared.refusal.Refusal.{Refusal}
 use Rattle.sn_scope.specs.declared.resolved.Parts.{Parts}
-use Rattle.sn_scope.specs.declared.resolution.ScopeFault.{ScopeFault}
-use Rattle.sn_scope.specs.declared.resolution.ScopeFault.TheVariants as cause
+use Rattle.sn_label_scope.specs.declared.fault.ScopeFault.{ScopeFault}
+use Rattle.sn_label_scope.specs.declared.fault.ScopeFault.TheVariants as cause
 use Rattle.sn_scope.proofs.SoundTrees.{trees_are_sound}
 
 -- what is decided where the names and the declarations are known

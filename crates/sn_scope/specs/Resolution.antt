@@ -12,8 +12,8 @@ use Rattle.sn_label_scope.specs.declared.refusal.Reason.TheVariants as reason
 use Rattle.sn_label_scope.specs.declared.refusal.Refusal.{Refusal}
 use Rattle.sn_scope.specs.declared.resolved.Parts.{Parts}
 use Rattle.sn_scope.specs.declared.resolved.Resolved.{Resolved}
-use Rattle.sn_scope.specs.declared.resolution.ScopeFault.{ScopeFault}
-use Rattle.sn_scope.specs.declared.resolution.ScopeFault.TheVariants.{Unknown, Twice, Arity, NoMain, GuardTag, TooLarge, TooManyNames}
+use Rattle.sn_label_scope.specs.declared.fault.ScopeFault.{ScopeFault}
+use Rattle.sn_label_scope.specs.declared.fault.ScopeFault.TheVariants.{Unknown, Twice, Arity, NoMain, GuardTag, TooLarge, TooManyNames}
 
 -- a resolved program, part by part
 abbrev pub parts_of : Resolved → Parts

@@ -14,5 +14,5 @@ mod trees;
 mod types;
 mod variants;
 
-pub use resolution::{ScopeFault, resolve};
+pub use resolution::resolve;
 pub use resolved::{Parts, Resolved};

@@ -3,14 +3,14 @@ ghost use Rattle.std.specs.Prelude.{◌≡◌, ◌⊎◌, ◌<◌, ◌≤◌, �
 ghost use Rattle.sn_scope.specs.Claims.{IsClaim};
 ghost use Rattle.sn_scope.specs.Resolution.{fault_at, most_names, parts_of, resolution, resolved, with_main};
 ghost use Rattle.sn_scope.specs.Trees.{claims_within, most_nodes, signature_at};
-ghost use Rattle.sn_scope.specs.declared.resolution.ScopeFault.TheVariants as cause;
+ghost use Rattle.sn_label_scope.specs.declared.fault.ScopeFault.TheVariants as cause;
 
 use crate::declarations::{Declarations, Pending};
 use crate::numbering::enter_decls;
 use crate::resolved::{Parts, Resolved};
 use crate::trees::tree;
 use sn_ast::Program;
-use sn_label_scope::{Reason, Refusal};
+use sn_label_scope::{Reason, Refusal, ScopeFault};
 use sn_list::{Held, Memory, Seq};
 use sn_names::{NameTable, Names};
 use sn_net::{Boxes, Claim, copy_sets};
@@ -23,41 +23,6 @@ const MOST_LEVELS: u32 = 256;
 
 /// How many nodes all trees may have together.
 const MOST_NODES: usize = 65_536;
-
-/// Why a program is not resolved. A place is a byte offset in the source.
-#[derive(Clone, Copy, Debug)]
-pub enum ScopeFault {
-    /// A name that isn't visible or isn't of the kind wanted, or a label that its pattern doesn't have. In a box: a name that is
-    /// no variable there, or a call of no function.
-    Unknown(u32),
-    /// A second declaration of a name in one scope, or a second equal label. In a box: a second function of one name, one with
-    /// the name of a built-in function, or a second equal parameter.
-    Twice(u32),
-    /// A number of templates, patterns or branches that is not allowed. In a box: more than 8 parameters, arguments in another
-    /// number than the function takes, or an output tuple that is not there or has more or fewer labels.
-    Arity(u32),
-    /// No outermost net `main` with a signature.
-    NoMain,
-    /// A tag of a guard that its exit pattern doesn't have.
-    GuardTag(u32),
-    /// The name of the first claim whose tree is too high, has too wide a face, or with which all trees have too many
-    /// nodes.
-    TooLarge(u32),
-    Memory,
-    /// The labels have more than 4,096 different names.
-    TooManyNames,
-}
-
-impl From<Memory> for ScopeFault {
-    ghost use Rattle.std.specs.Prelude.{◌≡◌};
-    ghost use Rattle.sn_scope.specs.declared.resolution.ScopeFault.{ScopeFault};
-
-    ghost from_gives = { λ _ e. e ≡ ScopeFault.Memory };
-
-    fn from(_: Memory) -> ScopeFault {
-        ScopeFault::Memory
-    }
-}
 
 fn fault_of(refusal: Refusal) -> ScopeFault
     ensures { result ≡ fault_at refusal.reason refusal.at }

@@ -14,8 +14,8 @@ use Rattle.sn_scope.specs.Resolution.{fault_at, most_names, resolution, resolved
 use Rattle.sn_scope.specs.Trees.{claims_within, most_nodes}
 use Rattle.sn_scope.specs.declared.declarations.Declarations.{Declarations}
 use Rattle.sn_scope.specs.declared.resolved.Parts.{Parts}
-use Rattle.sn_scope.specs.declared.resolution.ScopeFault.{ScopeFault}
-use Rattle.sn_scope.specs.declared.resolution.ScopeFault.TheVariants.{Unknown, Twice, Arity, Memory, NoMain, GuardTag, TooLarge, TooManyNames}
+use Rattle.sn_label_scope.specs.declared.fault.ScopeFault.{ScopeFault}
+use Rattle.sn_label_scope.specs.declared.fault.ScopeFault.TheVariants.{Unknown, Twice, Arity, Memory, NoMain, GuardTag, TooLarge, TooManyNames}
 use Rattle.sn_scope_rules.specs.Programs.{ProgramBreaks}
 use Rattle.sn_scope_rules.specs.Refusals.{IsFirst, arity, guard_tag, twice, unknown}
 use Rattle.sn_scope_rules.proofs.Checks.{IsLeast}

@@ -8,8 +8,9 @@ mod shared;
 mod workers;
 
 pub use serve::serve_words;
-pub use sn_load::{INPUT_LIMIT, SOURCE_LIMIT, Status};
+pub use sn_load::{INPUT_LIMIT, SOURCE_LIMIT};
 pub use sn_plain::serve_plain;
+pub use sn_stop::Status;
 pub use sn_words::{
     Command, DEFAULT_DEPTH, DEFAULT_FUEL, DEFAULT_QUEUE, DEFAULT_WORKERS, WordsFault, read_words,
 };

@@ -4,7 +4,7 @@ use mathlib.Core.Logic.{inr}
 use Rattle.sn_scope.specs.Declarations.{declarations_of}
 use Rattle.sn_scope.specs.Numbering.{names_of}
 use Rattle.sn_scope.specs.Resolution.{resolution, with_main}
-use Rattle.sn_scope.specs.declared.resolution.ScopeFault.TheVariants as cause
+use Rattle.sn_label_scope.specs.declared.fault.ScopeFault.TheVariants as cause
 use Rattle.sn_scope.proofs.Resolving.{all_formed, has_main, not_refused, refused_at}
 use Rattle.sn_scope.proofs.resolution.resolve.Goals as goal
 

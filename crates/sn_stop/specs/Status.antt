@@ -4,20 +4,20 @@ use Rattle.std.specs.Fmt.{decimal}
 use Rattle.sn_record.specs.declared.item.FaultKind.{FaultKind}
 use Rattle.sn_record.specs.declared.item.FaultKind.TheVariants as kind
 use Rattle.sn_output.specs.Line.{printed_label}
-use Rattle.sn_load.specs.declared.status.Status.{Status}
-use Rattle.sn_load.specs.declared.status.Status.TheVariants as status
-use Rattle.sn_load.specs.declared.status.Which.{Which}
-use Rattle.sn_load.specs.declared.status.Which.TheVariants.{Source, Input}
-use Rattle.sn_load.specs.declared.status.Refusal.{Refusal}
-use Rattle.sn_load.specs.declared.status.Refusal.TheVariants.{TooLarge, Source as SourceAt, NoMain, TooDeep, LargeTree, TooManyNames, IllTyped, Variants, Line}
-use Rattle.sn_load.specs.declared.status.LineFault.{LineFault}
-use Rattle.sn_load.specs.declared.status.LineFault.TheVariants as line
-use Rattle.sn_load.specs.declared.status.SourceFault.{SourceFault}
-use Rattle.sn_load.specs.declared.status.TypeFault.{TypeFault}
-use Rattle.sn_load.specs.declared.status.TypeFault.TheVariants as type
-use Rattle.sn_load.specs.declared.status.SourceFault.TheVariants.{BadUtf8, BadChar, NumberTooWide, TextOpen, Unexpected, Unknown, Twice, Arity, GuardTag}
-use Rattle.sn_load.specs.declared.status.Stop.{Stop}
-use Rattle.sn_load.specs.declared.status.Stop.TheVariants as stop
+use Rattle.sn_stop.specs.declared.status.Status.{Status}
+use Rattle.sn_stop.specs.declared.status.Status.TheVariants as status
+use Rattle.sn_stop.specs.declared.refusal.Which.{Which}
+use Rattle.sn_stop.specs.declared.refusal.Which.TheVariants.{Source, Input}
+use Rattle.sn_stop.specs.declared.refusal.Refusal.{Refusal}
+use Rattle.sn_stop.specs.declared.refusal.Refusal.TheVariants.{TooLarge, Source as SourceAt, NoMain, TooDeep, LargeTree, TooManyNames, IllTyped, Variants, Line}
+use Rattle.sn_stop.specs.declared.refusal.LineFault.{LineFault}
+use Rattle.sn_stop.specs.declared.refusal.LineFault.TheVariants as line
+use Rattle.sn_stop.specs.declared.refusal.SourceFault.{SourceFault}
+use Rattle.sn_stop.specs.declared.refusal.TypeFault.{TypeFault}
+use Rattle.sn_stop.specs.declared.refusal.TypeFault.TheVariants as type
+use Rattle.sn_stop.specs.declared.refusal.SourceFault.TheVariants.{BadUtf8, BadChar, NumberTooWide, TextOpen, Unexpected, Unknown, Twice, Arity, GuardTag}
+use Rattle.sn_stop.specs.declared.stop.Stop.{Stop}
+use Rattle.sn_stop.specs.declared.stop.Stop.TheVariants as stop
 
 abbrev pub status_code : Status → ℕ
 status_code status.Ok = 0

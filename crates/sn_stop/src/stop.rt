@@ -1,175 +1,18 @@
-//! How a call ends: its status, and what it writes on `err`.
+//! Why a command stops: its status, and what it writes on `err`.
 ghost use Rattle.std.specs.Prelude.{◌≡◌, ◌++◌};
 ghost use Rattle.std.specs.Fmt.{decimal};
-ghost use Rattle.sn_load.specs.Status.{ending_label, fault_label, line_label, line_number, line_status, status_code, stop_detail, stop_label, stop_name, stop_place, stop_status, type_label};
+ghost use Rattle.sn_stop.specs.Status.{ending_label, stop_detail, stop_label, stop_name, stop_place, stop_status};
 
+use crate::refusal::{LineFault, Refusal, SourceFault, Which};
+use crate::status::Status;
+use sn_ast::ParseFault;
 use sn_input::InputFault;
 use sn_io::WriteFault;
+use sn_label_scope::ScopeFault;
 use sn_lexer::LexFault;
 use sn_list::Memory;
 use sn_names::NamesFault;
-use sn_parser::ParseFault;
-use sn_record::{Fault, FaultKind, Kind, Text};
-use sn_scope::ScopeFault;
-
-/// How a command ended. Its number is the exit status of the program.
-#[derive(Clone, Copy, PartialEq, Eq)]
-pub enum Status {
-    /// The command was done.
-    Ok,
-    /// The words are no command.
-    Usage,
-    /// A file was not read.
-    Read,
-    /// The source is none.
-    Source,
-    /// The types of a net are wrong.
-    IllTyped,
-    /// The input is no record file, or not of the input type.
-    Input,
-    /// What was printed ends at a fault.
-    Fault,
-    /// Memory was wanted and not had.
-    Memory,
-    /// The output was not all written.
-    Write,
-    /// A file is past its limit.
-    TooLarge,
-    /// Another limit is passed.
-    Limit,
-}
-
-impl Status {
-    /// The exit status of the program.
-    pub fn code(self) -> u8
-        ensures { result ≡ status_code self }
-    {
-        match self {
-            Status::Ok => 0,
-            Status::Usage => 2,
-            Status::Read => 3,
-            Status::Source => 4,
-            Status::IllTyped => 5,
-            Status::Input => 6,
-            Status::Fault => 7,
-            Status::Memory => 8,
-            Status::Write => 9,
-            Status::TooLarge => 10,
-            Status::Limit => 11,
-        }
-    }
-}
-
-/// Which of a command's files.
-#[derive(Clone, Copy)]
-pub enum Which {
-    Source,
-    Input,
-}
-
-/// What is wrong in a source.
-#[derive(Clone, Copy)]
-pub enum SourceFault {
-    BadUtf8,
-    BadChar,
-    NumberTooWide,
-    TextOpen,
-    Unexpected,
-    Unknown,
-    Twice,
-    Arity,
-    GuardTag,
-}
-
-impl SourceFault {
-    /// What the line on `err` says before the place.
-    pub fn label(&self) -> &'static [u8]
-        ensures { result.now ≡ fault_label self.now }
-    {
-        match self {
-            SourceFault::BadUtf8 => b"source: BadUtf8 at ",
-            SourceFault::BadChar => b"source: BadChar at ",
-            SourceFault::NumberTooWide => b"source: NumberTooWide at ",
-            SourceFault::TextOpen => b"source: TextOpen at ",
-            SourceFault::Unexpected => b"source: Unexpected at ",
-            SourceFault::Unknown => b"source: Unknown at ",
-            SourceFault::Twice => b"source: Twice at ",
-            SourceFault::Arity => b"source: Arity at ",
-            SourceFault::GuardTag => b"source: GuardTag at ",
-        }
-    }
-}
-
-/// What is wrong with the types of a net.
-#[derive(Clone, Copy)]
-pub enum TypeFault {
-    /// A record has no route at a part of the net.
-    NoRoute,
-    /// A record may leave the net that is not of its output type.
-    BadOutput,
-}
-
-impl TypeFault {
-    /// What the line on `err` says before the place.
-    fn label(&self) -> &'static [u8]
-        ensures { result.now ≡ type_label self.now }
-    {
-        match self {
-            TypeFault::NoRoute => b"type: NoRoute at ",
-            TypeFault::BadOutput => b"type: BadOutput at ",
-        }
-    }
-}
-
-/// What is wrong in a line of an input. Lines are counted from 1.
-#[derive(Drop)]
-pub enum LineFault {
-    /// It is no record.
-    BadLine(u32),
-    /// A label repeats an earlier one, by its kind and name.
-    Twice(u32, Kind, Text),
-    /// Its record is not of the input type.
-    Untyped(u32),
-    /// Its record is one too many.
-    TooMany(u32),
-}
-
-impl LineFault {
-    fn status(&self) -> Status
-        ensures { result ≡ line_status self.now }
-    {
-        match self {
-            LineFault::BadLine(_) | LineFault::Twice(_, _, _) | LineFault::Untyped(_) => {
-                Status::Input
-            }
-            LineFault::TooMany(_) => Status::Limit,
-        }
-    }
-
-    /// The number of the line.
-    fn number(&self) -> u32
-        ensures { result ≡ line_number self.now }
-    {
-        match self {
-            LineFault::BadLine(n)
-            | LineFault::Twice(n, _, _)
-            | LineFault::Untyped(n)
-            | LineFault::TooMany(n) => *n,
-        }
-    }
-
-    /// What the line on `err` says before the number.
-    fn label(&self) -> &'static [u8]
-        ensures { result.now ≡ line_label self.now }
-    {
-        match self {
-            LineFault::BadLine(_) => b"input: BadLine ",
-            LineFault::Twice(_, _, _) => b"input: Twice ",
-            LineFault::Untyped(_) => b"input: Untyped ",
-            LineFault::TooMany(_) => b"limit: Records at line ",
-        }
-    }
-}
+use sn_record::{Fault, FaultKind, Kind};
 
 /// What the line on `err` says before the place of a fault that ends the output.
 fn ending_label(kind: FaultKind) -> &'static [u8]
@@ -185,26 +28,6 @@ fn ending_label(kind: FaultKind) -> &'static [u8]
     }
 }
 
-/// What the checks of a command refuse. A place is an offset in the source's bytes.
-#[derive(Drop)]
-pub enum Refusal {
-    TooLarge(Which),
-    Source(SourceFault, u32),
-    /// No outermost net `main` has a signature.
-    NoMain,
-    TooDeep(u32),
-    /// The tree of the net whose name stands there is too large.
-    LargeTree(u32),
-    /// The labels have too many different names.
-    TooManyNames,
-    /// The types of a net are wrong at the place, for records of the variant, which is printed.
-    IllTyped(TypeFault, u32, Text),
-    /// Too many variants flow in the net whose name stands there.
-    Variants(u32),
-    /// A line of the input is wrong.
-    Line(LineFault),
-}
-
 /// Why a command ends otherwise than with its whole output.
 #[derive(Drop)]
 pub enum Stop {
@@ -218,7 +41,7 @@ pub enum Stop {
 
 impl From<Memory> for Stop {
     ghost use Rattle.std.specs.Prelude.{◌≡◌};
-    ghost use Rattle.sn_load.specs.declared.status.Stop.{Stop};
+    ghost use Rattle.sn_stop.specs.declared.stop.Stop.{Stop};
 
     ghost from_gives = { λ _ e. e ≡ Stop.Memory };
 
@@ -229,7 +52,7 @@ impl From<Memory> for Stop {
 
 impl From<WriteFault> for Stop {
     ghost use Rattle.std.specs.Prelude.{◌≡◌};
-    ghost use Rattle.sn_load.specs.declared.status.Stop.{Stop};
+    ghost use Rattle.sn_stop.specs.declared.stop.Stop.{Stop};
 
     ghost from_gives = { λ _ e. e ≡ Stop.Write };
 
@@ -240,7 +63,7 @@ impl From<WriteFault> for Stop {
 
 impl From<NamesFault> for Stop {
     ghost use Rattle.std.specs.Prelude.{◌≡◌};
-    ghost use Rattle.sn_load.specs.Load.{names_stop};
+    ghost use Rattle.sn_stop.specs.Stops.{names_stop};
 
     ghost from_gives = { λ f e. e ≡ names_stop f };
 
@@ -254,7 +77,7 @@ impl From<NamesFault> for Stop {
 
 impl From<InputFault> for Stop {
     ghost use Rattle.std.specs.Prelude.{◌≡◌};
-    ghost use Rattle.sn_load.specs.Load.{input_stop};
+    ghost use Rattle.sn_stop.specs.Stops.{input_stop};
 
     ghost from_gives = { λ f e. e ≡ input_stop f };
 
@@ -273,7 +96,7 @@ impl From<InputFault> for Stop {
 
 impl From<LexFault> for Stop {
     ghost use Rattle.std.specs.Prelude.{◌≡◌};
-    ghost use Rattle.sn_load.specs.Source.{lex_stop};
+    ghost use Rattle.sn_stop.specs.Stops.{lex_stop};
 
     ghost from_gives = { λ f e. e ≡ lex_stop f };
 
@@ -292,7 +115,7 @@ impl From<LexFault> for Stop {
 
 impl From<ParseFault> for Stop {
     ghost use Rattle.std.specs.Prelude.{◌≡◌};
-    ghost use Rattle.sn_load.specs.Source.{parse_stop};
+    ghost use Rattle.sn_stop.specs.Stops.{parse_stop};
 
     ghost from_gives = { λ f e. e ≡ parse_stop f };
 
@@ -309,7 +132,7 @@ impl From<ParseFault> for Stop {
 
 impl From<ScopeFault> for Stop {
     ghost use Rattle.std.specs.Prelude.{◌≡◌};
-    ghost use Rattle.sn_load.specs.Scope.{scope_stop};
+    ghost use Rattle.sn_stop.specs.Stops.{scope_stop};
 
     ghost from_gives = { λ f e. e ≡ scope_stop f };
 
