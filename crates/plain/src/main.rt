@@ -33,7 +33,10 @@ fn main(rt: HostRuntime) -> ExitCode {
         &mut err,
     );
     let Some(status) = status else {
-        let _ = write_whole(&mut err, b"plain: run and sample need workers, which snet has\n");
+        let _ = write_whole(
+            &mut err,
+            b"plain: run and sample need workers, which snet has\n",
+        );
         return ExitCode::from(NO_WORKERS);
     };
     let code = status.code();

@@ -244,11 +244,10 @@ fn serve_if_plain<F: Files, O: Sink, E: Sink>(
     ensures out_later { O.faults out.old ≤ O.faults out.new }
     ensures err_later { E.faults err.old ≤ E.faults err.new }
 {
-    if is_plain(command) {
-        Some(serve_plain(alloc, command, files, out, err))
-    } else {
-        None
+    if !is_plain(command) {
+        return None;
     }
+    Some(serve_plain(alloc, command, files, out, err))
 }
 
 /// Does the command that the words after the program's name ask for, or says on `err` which words are known. Where the command needs other
