@@ -1,7 +1,6 @@
 //! Records, sets of labels and declarations from their text, so that a test says what it means in a line. Where memory is wanted, or a
 //! text is none that it should be, the test ends there: so a value that is alive has one end, and its proof stays short.
-use sn_ast::ParseFault;
-use sn_ast::Program;
+use sn_ast::{ParseFault, Program};
 use sn_input::{Input, InputFault, read_records};
 use sn_lexer::lex;
 use sn_list::Seq;
