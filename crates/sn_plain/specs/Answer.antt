@@ -232,7 +232,7 @@ is_plain (Check source) = true
 is_plain (Print source) = true
 is_plain (Sample number count) = false
 
--- the command needs other threads, and nothing was read or written
+-- the command needs other threads, and nothing was written
 pub record NeedsOthers (command : Command) (outside : Outside) : Type 0 where
   pub many : is_plain command ≡ false
   pub out_same : outside.out.now ≡ outside.out.before
