@@ -12,6 +12,7 @@ use sn_list::{Memory, Seq};
 use sn_names::Names;
 use sn_net::{Merge, Net};
 use sn_output::{name_at_number, push_label};
+use sn_place::Places;
 use sn_record::{Kind, Text};
 use sn_stack::append;
 use std::alloc::Global;
@@ -29,18 +30,25 @@ struct Drawing<'a> {
     alloc: Global,
     names: &'a Names,
     texts: &'a Texts,
+    places: &'a Places<'a>,
     statements: Seq<Statement>,
     /// The numbers of the next node and of the next cluster.
     node: u64,
     cluster: u64,
 }
 
-/// A text, and behind it a place.
-fn placed(text: Text, between: &[u8], place: u32) -> Result<Text, Memory> {
+/// A text, and behind it a place of the source by its line and column.
+fn placed(places: &Places<'_>, text: Text, between: &[u8], place: u32) -> Result<Text, Memory> {
     let mut label = text;
-    let mut buffer = Buffer::new();
+    let Some(position) = places.at(place as usize) else {
+        return Ok(label);
+    };
+    let mut line = Buffer::new();
+    let mut column = Buffer::new();
     label.extend_from_slice(between)?;
-    label.extend_from_slice(buffer.format(place).as_bytes())?;
+    label.extend_from_slice(line.format(position.line).as_bytes())?;
+    label.extend_from_slice(b":")?;
+    label.extend_from_slice(column.format(position.column).as_bytes())?;
     Ok(label)
 }
 
@@ -156,7 +164,7 @@ impl Drawing<'_> {
     fn component(&mut self, shape: Shape, text: &[u8], place: u32) -> Result<Ends, Memory>
         ensures { OnOk result (count_nodes self.new.statements ≡ count_nodes self.old.statements + 1) }
     {
-        let label = placed(wrapped(self.alloc, text)?, b"\nat ", place)?;
+        let label = placed(self.places, wrapped(self.alloc, text)?, b"\nat ", place)?;
         let number = self.push_node(shape, label)?;
         Ok(Ends {
             entry: number,
@@ -228,7 +236,7 @@ impl Drawing<'_> {
         ensures { OnOk result (count_nodes self.new.statements ≡ count_nodes self.old.statements + (2 + sum (map drawn branches.now))) }
     {
         let text = Seq::from_slice(self.alloc, operator(merge, b"choice ||", b"choice |"))?;
-        let label = placed(text, b" at ", place)?;
+        let label = placed(self.places, text, b" at ", place)?;
         let ends = self.open_fork(label, b"best match", merge)?;
         for (i, branch) in branches.iter().enumerate() {
             let part = part_of(table, i);
@@ -254,7 +262,7 @@ impl Drawing<'_> {
         let mut text = Seq::from_slice(self.alloc, b"star")?;
         let texts = self.texts;
         text.extend_from_slice(texts.at(place))?;
-        let label = placed(text, b" at ", place)?;
+        let label = placed(self.places, text, b" at ", place)?;
         let ends = self.open_fork(label, b"exit?", merge)?;
         let part = part_of(table, 0);
         let inner = self.draw(body, part)?;
@@ -278,7 +286,7 @@ impl Drawing<'_> {
     {
         let mut text = Seq::from_slice(self.alloc, operator(merge, b"split !! ", b"split ! "))?;
         push_label(&mut text, Kind::Tag, name_at_number(self.names, tag))?;
-        let label = placed(text, b" at ", place)?;
+        let label = placed(self.places, text, b" at ", place)?;
         let mut fork = Seq::from_slice(self.alloc, b"by ")?;
         push_label(&mut fork, Kind::Tag, name_at_number(self.names, tag))?;
         let ends = self.open_fork(label, fork.as_slice(), merge)?;
@@ -303,12 +311,14 @@ impl Drawing<'_> {
 }
 
 /// The statements of a network's picture: of each box, filter and cell a node, of each choice, star and split two in a cluster, and one each
-/// where records come in and go out. Where a table of the network is given, edges tell the variants that flow there.
+/// where records come in and go out. Each part tells its place by line and column. Where a table of the network is given, edges tell the variants that
+/// flow there.
 pub fn draw_net(
     alloc: Global,
     net: &Net,
     names: &Names,
     texts: &Texts,
+    places: &Places<'_>,
     table: Option<&Table>,
 ) -> Result<Seq<Statement>, Memory>
     ensures { IfOk result (λ statements. count_nodes statements ≡ 2 + drawn net.now) }
@@ -317,6 +327,7 @@ pub fn draw_net(
         alloc,
         names,
         texts,
+        places,
         statements: Seq::new(alloc),
         node: 0,
         cluster: 0,

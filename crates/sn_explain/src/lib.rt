@@ -1,0 +1,19 @@
+//! What the lines that snet writes on standard error mean: where in its files the place is that a line names, the text around it, and a sentence on
+//! what would mend it.
+//!
+//! `explain_line` passes on what is no line of snet's, or does not fit the files.
+#![tactic(auto)]
+
+mod excerpt;
+mod explanation;
+mod kind;
+mod marks;
+mod notes;
+mod occurrences;
+mod part;
+mod reading;
+mod render;
+mod variant;
+
+pub use explanation::{File, Given, explain_line};
+pub use kind::Kind;
