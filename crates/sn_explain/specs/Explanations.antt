@@ -1,5 +1,5 @@
 -- What an explanation of a line says.
-use Rattle.std.specs.Prelude.{◌≡◌, ◌++◌, ◌∷◌, ◌⊎◌, [], ℕ, Bool, List, Option, IfSome, IsSomeAnd}
+use Rattle.std.specs.Prelude.{◌≡◌, ◌++◌, ◌∷◌, ◌⊎◌, [], ℕ, Bool, List, IfSome, IsSomeAnd}
 use Rattle.sn_place.specs.Place.{line_at}
 use Rattle.sn_explain.specs.declared.kind.Shape.{Shape}
 use Rattle.sn_explain.specs.declared.kind.Shape.TheVariants as shape

@@ -3,8 +3,7 @@ use Rattle.std.proofs.Common.{◌≡◌, ◌≤◌, ◌<◌, ◌+◌, ◌-◌, �
 use Rattle.std.proofs.lemmas.List.{drop-take, take-append-drop, take-take, drop-drop}
 use Rattle.std.specs.List.{suffix_len, position_or_len, slice_range}
 use Rattle.std.proofs.lemmas.List.Sums.{suffix_len_is, position_or_len_is}
-use Rattle.std.proofs.lemmas.List.Folds.{drop_split}
-use Rattle.sn_place.specs.Place.{is_line_feed, front_of, behind, line_of}
+use Rattle.sn_place.specs.Place.{is_line_feed, front_of, behind}
 
 abbrev is_other : ℕ → Bool
 is_other byte = not (is_line_feed byte)

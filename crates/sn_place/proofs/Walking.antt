@@ -1,7 +1,7 @@
 -- What one more byte does to a line and a column.
-use Rattle.std.proofs.Common.{◌≡◌, ◌≤◌, ◌<◌, ◌+◌, ◌-◌, ℕ, List, [], ◌∷◌, ◌++◌, Bool, true, false, cond, not, length, take, drop, get_or, refl, sym, ap, ◌∙◌, subst, suc, arith, length-append, length-drop}
+use Rattle.std.proofs.Common.{◌≡◌, ◌≤◌, ◌<◌, ◌+◌, ◌-◌, ℕ, List, [], ◌∷◌, ◌++◌, Bool, true, false, cond, not, length, take, drop, get_or, refl, ap, ◌∙◌, subst, suc, arith, length-append, length-drop}
 use Rattle.std.proofs.Math.Seq.{take-suc}
-use Rattle.std.specs.List.{count_by, after_last, suffix_len}
+use Rattle.std.specs.List.{count_by, suffix_len}
 use Rattle.std.proofs.lemmas.List.{drop-append-le, drop_all, length-take}
 use Rattle.std.proofs.lemmas.List.Sums.{count_by_more_yes, count_by_more_no, sum_by_push, suffix_len-take_yes, suffix_len-take_no, suffix_len-le-length, count_by-le-length}
 use Rattle.sn_place.specs.Place.{is_line_feed, begins_character, front_of, line_at, column_at}

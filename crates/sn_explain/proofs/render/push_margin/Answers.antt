@@ -1,4 +1,4 @@
-use Rattle.std.proofs.Common.{◌≡◌, ◌++◌, ◌∷◌, [], ◌∙◌, ap, sym, take, append_assoc}
+use Rattle.std.proofs.Common.{◌++◌, ◌∷◌, [], ◌∙◌, ap, sym, take, append_assoc}
 use Rattle.sn_explain.specs.Rendered.{margin}
 use Rattle.sn_explain.proofs.Digits.{margin_more}
 use Rattle.sn_explain.proofs.render.push_margin.Goals as goal

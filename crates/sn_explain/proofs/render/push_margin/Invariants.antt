@@ -1,4 +1,4 @@
-use Rattle.std.proofs.Common.{◌≡◌, ◌++◌, take, map}
+use Rattle.std.proofs.Common.{◌≡◌, ◌++◌, take}
 use Rattle.sn_explain.specs.Rendered.{margin}
 use Rattle.sn_explain.proofs.render.push_margin.Given as goal
 

@@ -1,4 +1,4 @@
-use Rattle.std.proofs.Common.{◌≡◌, ℕ, refl}
+use Rattle.std.proofs.Common.{refl}
 use Rattle.sn_place.proofs.Around.{joined}
 use Rattle.sn_place.proofs.line.line_around.Goals as goal
 

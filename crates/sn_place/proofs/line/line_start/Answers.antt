@@ -1,5 +1,4 @@
-use Rattle.std.proofs.Common.{◌≡◌, ◌<◌, ℕ, true, length, get_or, refl, arith}
-use Rattle.sn_place.specs.Place.{is_line_feed}
+use Rattle.std.proofs.Common.{arith}
 use Rattle.sn_place.proofs.Around.{front_is, feed}
 use Rattle.sn_place.proofs.line.line_start.Goals as goal
 

@@ -1,4 +1,4 @@
-use Rattle.std.proofs.Common.{◌≡◌, ◌≤◌, ◌<◌, ◌+◌, ℕ, length}
+use Rattle.std.proofs.Common.{◌≡◌}
 use Rattle.sn_place.specs.Place.{line_at, column_at}
 use Rattle.sn_place.proofs.position.walk.Given as goal
 
