@@ -1,5 +1,6 @@
 //! Texts of nodes, cut to a width.
 use sn_list::{Memory, Seq};
+use sn_place::begins_character;
 use sn_record::Text;
 use std::alloc::Global;
 
@@ -11,11 +12,6 @@ const MOST_WIDTH: usize = 52;
 
 /// Of so many characters a longer text shows its beginning.
 const MOST: usize = 192;
-
-/// Whether a character of UTF-8 begins at the byte.
-fn begins_character(byte: u8) -> bool {
-    byte & 0xc0 != 0x80
-}
 
 /// Whether a line may end between two bytes of which none is a blank.
 fn may_part(previous: u8, byte: u8) -> bool {

@@ -21,7 +21,7 @@ pub struct Places<'a> {
 }
 
 impl<'a> Places<'a> {
-    /// The places of a text.
+    /// The places of a text. Takes memory for one position in 256 bytes, and a walk over the text.
     pub fn of(alloc: Global, text: &'a [u8]) -> Result<Places<'a>, Memory>
         ensures { IfOk result (λ places. places.text.now ≡ text.now) }
     {

@@ -37,7 +37,7 @@ pub(crate) fn walk(text: &[u8], from: usize, to: usize, start: Position) -> Posi
     Position { line, column }
 }
 
-/// The position of a place.
+/// The position of a place, by a walk over all that stands in front of it. Who asks for many places of one text takes `Places`.
 pub fn position_at(text: &[u8], at: usize) -> Position
     requires { at ≤ length text.now }
     ensures { IsAt text.now at result }
