@@ -83,3 +83,11 @@ pub fn make_done(alloc: Global, run: &Arc<Run>, job: Job) -> Result<Done, Job>
         Err(_) => Err(job),
     }
 }
+
+fn may_cross<T: Send>(_: &T) {}
+
+/// A job may go to the thread that makes its call, and what that gave may come back.
+pub fn jobs_may_cross(job: &Job, done: &Done) {
+    may_cross(job);
+    may_cross(done);
+}

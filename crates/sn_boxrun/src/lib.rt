@@ -8,4 +8,4 @@ mod job;
 mod machine;
 
 pub use answer::{call, call_owned};
-pub use job::{Done, Job, make_done};
+pub use job::{Done, Job, jobs_may_cross, make_done};

@@ -19,8 +19,8 @@ use Rattle.sn_view.proofs.Came.{may_begins}
 use Rattle.sn_farm.specs.Farmed.{HasPrinted, IsFaulted, IsWhole}
 use Rattle.sn_farm.specs.Turns.{Goes, Writes, WritesPart, WritesUpTo, shows}
 use Rattle.sn_farm.specs.declared.desk.Turn.TheVariants.{Ended}
-use Rattle.sn_farm.specs.declared.outcome.Outcome.{Outcome}
-use Rattle.sn_farm.specs.declared.outcome.Outcome.TheVariants.{Whole, Faulted, WriteFault, Memory}
+use Rattle.sn_model.specs.declared.outcome.Outcome.{Outcome}
+use Rattle.sn_model.specs.declared.outcome.Outcome.TheVariants.{Whole, Faulted, WriteFault, Memory}
 use Rattle.sn_farm.proofs.Turning.{lines_more, none_more}
 
 -- records end without a fault, and a fault behind them ends them

@@ -15,8 +15,8 @@ use Rattle.sn_farm.specs.Events.{Emits}
 use Rattle.sn_farm.specs.Turns.{EndsAs, Goes, IsOver, Shown, TurnsAs, Writes, WritesPart, WritesUpTo, shows}
 use Rattle.sn_farm.specs.declared.desk.Turn.{Turn}
 use Rattle.sn_farm.specs.declared.desk.Turn.TheVariants.{Went, Idle, Ended}
-use Rattle.sn_farm.specs.declared.outcome.Outcome.{Outcome}
-use Rattle.sn_farm.specs.declared.outcome.Outcome.TheVariants.{Whole, Faulted, WriteFault, Memory}
+use Rattle.sn_model.specs.declared.outcome.Outcome.{Outcome}
+use Rattle.sn_model.specs.declared.outcome.Outcome.TheVariants.{Whole, Faulted, WriteFault, Memory}
 
 -- nothing is appended
 pub none_more : (held : Option (List ℕ)) → held ≡ appended held []

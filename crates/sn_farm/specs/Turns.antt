@@ -11,8 +11,8 @@ use Rattle.sn_view.specs.Placed.{AtRest}
 use Rattle.sn_view.specs.View.{View}
 use Rattle.sn_farm.specs.declared.desk.Turn.{Turn}
 use Rattle.sn_farm.specs.declared.desk.Turn.TheVariants.{Went, Idle, Ended}
-use Rattle.sn_farm.specs.declared.outcome.Outcome.{Outcome}
-use Rattle.sn_farm.specs.declared.outcome.Outcome.TheVariants.{Whole, Faulted, WriteFault, Memory}
+use Rattle.sn_model.specs.declared.outcome.Outcome.{Outcome}
+use Rattle.sn_model.specs.declared.outcome.Outcome.TheVariants.{Whole, Faulted, WriteFault, Memory}
 
 -- a graph, what a sink holds, and the sink's count of faults
 pub record Shown : Type 0 where

@@ -7,11 +7,11 @@ ghost use Rattle.sn_farm.specs.Desks.{IsDeskOf};
 ghost use Rattle.sn_farm.specs.Turns.{Goes, shows};
 
 use crate::apply::apply;
-use crate::outcome::Outcome;
 use sn_boxrun::{Done, Job};
 use sn_graph::{ApplyCause, Event, Graph};
 use sn_io::Gate;
 use sn_jobs::{JobHand, JobOwner};
+use sn_model::Outcome;
 use sn_workers::Hall;
 use std::sync::Wait;
 

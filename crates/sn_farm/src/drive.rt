@@ -11,9 +11,9 @@ ghost use Rattle.sn_farm.specs.declared.desk.Turn.TheVariants.{Ended};
 
 use crate::apply::apply;
 use crate::desk::{Desk, Turn, call_here, finish};
-use crate::outcome::Outcome;
 use sn_graph::{ApplyCause, Effect, Event, Graph};
 use sn_io::{Gate, Sink};
+use sn_model::Outcome;
 use sn_output::{LineFault, LineSink};
 use sn_record::Item;
 use sn_workers::{Hall, Patience};

@@ -14,16 +14,15 @@ ghost use Rattle.sn_farm.specs.Desks.{IsDeskOf};
 ghost use Rattle.sn_farm.specs.Farmed.{HasPrinted, IsFaulted, IsWhole};
 ghost use Rattle.sn_farm.specs.Turns.{Goes, shows};
 ghost use Rattle.sn_farm.specs.declared.desk.Turn.TheVariants.{Ended};
-ghost use Rattle.sn_farm.specs.declared.outcome.Outcome.TheVariants as outcome;
+ghost use Rattle.sn_model.specs.declared.outcome.Outcome.TheVariants as outcome;
 
 use crate::desk::Desk;
 use crate::drive::drive;
-use crate::outcome::Outcome;
 use sn_graph::Graph;
 use sn_io::{Gate, Sink};
 use sn_jobs::{JobHand, make};
 use sn_list::Memory;
-use sn_model::Run;
+use sn_model::{Outcome, Run};
 use sn_output::LineSink;
 use sn_workers::{Hall, Signals, help};
 use std::alloc::Global;

@@ -7,7 +7,5 @@ mod apply;
 mod desk;
 mod drive;
 mod farm;
-mod outcome;
 
 pub use farm::{farm_drive, farm_run};
-pub use outcome::Outcome;

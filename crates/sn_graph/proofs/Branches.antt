@@ -11,7 +11,7 @@ use Rattle.sn_net.specs.declared.net.Merge.{Merge}
 use Rattle.sn_net.specs.declared.net.Merge.TheVariants as kind
 use Rattle.sn_view.specs.View.{Child}
 use Rattle.sn_view.specs.Parts.{Plan, branch_children, new_fork}
-use Rattle.sn_view.specs.declared.step.Step.{Step}
+use Rattle.sn_model.specs.declared.step.Step.{Step}
 use Rattle.sn_view.specs.View.{Node, Target}
 use Rattle.sn_view.specs.Parts.{dispatcher}
 use Rattle.sn_streams.specs.Keys.{Key}

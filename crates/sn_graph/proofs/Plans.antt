@@ -5,8 +5,8 @@ use Rattle.sn_net.specs.declared.net.Net.{Net}
 use Rattle.sn_net.specs.declared.net.Net.TheOpen.{Net-F}
 use Rattle.sn_net.specs.declared.net.Net.TheFolds.{fold-roll-Net, ind-Net, map-Net}
 use Rattle.sn_net.specs.declared.net.Net.TheViews.{roll-Net}
-use Rattle.sn_view.specs.declared.step.Step.{Step}
-use Rattle.sn_view.specs.declared.step.Step.TheVariants as step
+use Rattle.sn_model.specs.declared.step.Step.{Step}
+use Rattle.sn_model.specs.declared.step.Step.TheVariants as step
 use Rattle.sn_view.specs.View.{Target, ToChild}
 use Rattle.sn_view.specs.Parts.{Plan, plan, plan_step, branch_nodes, serial_plan}
 

@@ -4,8 +4,8 @@ use Rattle.std.proofs.lemmas.List.{map-append, length-map}
 use Rattle.std.proofs.lemmas.List.Elements.{All-same, All-push}
 use Rattle.sn_net.specs.declared.net.Merge.{Merge}
 use Rattle.sn_model.specs.declared.run.Run.{Run}
-use Rattle.sn_view.specs.declared.step.Step.{Step}
-use Rattle.sn_view.specs.declared.step.Step.TheVariants as step
+use Rattle.sn_model.specs.declared.step.Step.{Step}
+use Rattle.sn_model.specs.declared.step.Step.TheVariants as step
 use Rattle.sn_view.specs.Parts.{Plan, branch_children, branch_nodes, choice_plan, dispatcher, own_child, serial_plan}
 use Rattle.sn_view.specs.View.{Node, Target, ToChild, ToNode}
 use Rattle.sn_node.specs.Seen.{node_of}

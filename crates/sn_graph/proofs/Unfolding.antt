@@ -17,7 +17,7 @@ use Rattle.sn_net.specs.WellFormed.{FitsBoxes, IsWellFormed}
 use Rattle.sn_net.proofs.Sound.{parts_formed}
 use Rattle.sn_model.specs.declared.run.Run.{Run}
 use Rattle.sn_model.specs.Run.{depth_of, net_of}
-use Rattle.sn_view.specs.declared.step.Step.TheVariants as step
+use Rattle.sn_model.specs.declared.step.Step.TheVariants as step
 use Rattle.sn_view.specs.View.{ToChild}
 use Rattle.sn_view.specs.Next.{new_nodes}
 use Rattle.sn_view.specs.Parts.{plan, part_at}

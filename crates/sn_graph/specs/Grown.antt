@@ -4,8 +4,8 @@ use Rattle.std.specs.List.{All}
 use Rattle.sn_net.specs.declared.net.Merge.{Merge}
 use Rattle.sn_net.specs.declared.net.Net.{Net}
 use Rattle.sn_model.specs.declared.run.Run.{Run}
-use Rattle.sn_view.specs.declared.step.Step.{Step}
-use Rattle.sn_view.specs.declared.step.Step.TheVariants as step
+use Rattle.sn_model.specs.declared.step.Step.{Step}
+use Rattle.sn_model.specs.declared.step.Step.TheVariants as step
 use Rattle.sn_view.specs.Parts.{dispatcher, new_fork, own_child, plan}
 use Rattle.sn_view.specs.View as view
 use Rattle.sn_view.specs.View.{Target, ToNode}

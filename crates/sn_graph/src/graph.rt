@@ -10,8 +10,7 @@ ghost use Rattle.sn_graph.specs.Tabled.{IsTabled};
 use crate::arena::Arena;
 use crate::event::{ApplyFault, Effect, Event};
 use sn_list::Memory;
-use sn_model::Run;
-use sn_node::Trail;
+use sn_model::{Run, Trail};
 use sn_record::Items;
 use std::alloc::Global;
 

@@ -12,13 +12,12 @@ ghost use Rattle.sn_model.specs.declared.run.Run.{Run};
 ghost use Rattle.sn_graph.specs.Grown.{IsForkWith, IsOfRun, Puts, next_of};
 
 use sn_list::{Memory, Seq};
-use sn_model::Run;
+use sn_model::{Run, Step, Trail};
 use sn_net::{Key, Merge, Net};
-use sn_node::{Made, Node, Target, Trail};
+use sn_node::{Made, Node, Target};
 use sn_record::LabelSet;
 use sn_stack::append;
 use sn_sync::Cell;
-use sn_view::Step;
 use std::alloc::Global;
 use std::snapshot::Snapshot;
 

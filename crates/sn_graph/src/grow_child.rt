@@ -3,7 +3,7 @@ ghost use Rattle.std.specs.Prelude.{◌≡◌, ◌++◌, ◌∷◌, [], IfOk, On
 ghost use Rattle.sn_net.specs.Dispatchers.{stream_key};
 ghost use Rattle.sn_net.specs.WellFormed.{FitsBoxes};
 ghost use Rattle.sn_model.specs.Run.{boxes_of, depth_of, net_of};
-ghost use Rattle.sn_view.specs.declared.step.Step.TheVariants as step;
+ghost use Rattle.sn_model.specs.declared.step.Step.TheVariants as step;
 ghost use Rattle.sn_view.specs.Next.{new_nodes};
 ghost use Rattle.sn_view.specs.Parts.{plan};
 ghost use Rattle.sn_node.specs.Answered.{form_at};
@@ -12,10 +12,9 @@ ghost use Rattle.sn_graph.specs.Grown.{Puts, level_nodes, next_of};
 
 use crate::grow::{NewNodes, grow, push_fork, sum, width, with_part, with_step};
 use sn_list::{Memory, Seq};
-use sn_model::Run;
+use sn_model::{Run, Step, Trail};
 use sn_net::{Key, Merge, Net};
-use sn_node::{Made, Node, Target, Trail, part_at};
-use sn_view::Step;
+use sn_node::{Made, Node, Target, part_at};
 use std::alloc::Global;
 
 /// The steps and two more.

@@ -23,4 +23,4 @@ mod unfold;
 pub use event::{ApplyCause, ApplyFault, Effect, Event};
 pub use graph::Graph;
 pub use sn_boxrun::{Done, Job, make_done};
-pub use sn_node::{Step, Trail};
+pub use sn_model::{Step, Trail};

@@ -13,15 +13,7 @@ use Rattle.crossbeam_queue.specs.contracts.array_queue.Slotted as slotted
 use Rattle.crossbeam_queue.specs.contracts.array_queue.Turns as turns
 use Rattle.crossbeam_queue.specs.contracts.array_queue.TurnsTableRuleOptionDoingUnit.TheImpl as rule
 use Rattle.crossbeam_queue.proofs.array_queue.Slotted.TheSendSync.{the_send, the_sync}
-use Rattle.sn_list.proofs.boxed.Boxed.TheSendSync as boxed
-use Rattle.sn_list.proofs.seq.Seq.TheSendSync as seq
-use Rattle.sn_record.proofs.label_map.LabelMap.TheSendSync as label_map
-use Rattle.sn_record.proofs.label_set.LabelSet.TheSendSync as label_set
-use Rattle.sn_record.proofs.value.Value.TheLaws.TheKnot as value
-use Rattle.sn_tagexpr.proofs.expr.TagExpr.TheLaws.TheKnot as tag_expr
-use Rattle.sn_net.proofs.expr.Expr.TheLaws.TheKnot as expr
-use Rattle.sn_net.proofs.net.Net.TheLaws.TheKnot as net
-use Rattle.sn_model.specs.contracts.run.Run as run
+use Rattle.sn_boxrun.proofs.Crossing.{done_send, job_send}
 use Rattle.sn_boxrun.specs.contracts.job.Done as done
 use Rattle.sn_boxrun.specs.contracts.job.Job as job
 use Rattle.sn_jobs.specs.contracts.ends.JobHand as hand
@@ -32,39 +24,6 @@ use Rattle.sn_jobs.specs.contracts.rule.DonesProtocolDoneKnownDone.TheImpl as do
 use Rattle.sn_jobs.specs.contracts.rule.Jobs as jobs
 use Rattle.sn_jobs.specs.contracts.rule.JobsProtocolJobKnownJob.TheImpl as job_rule
 use Rattle.sn_jobs.specs.contracts.rule.Known as known
-
-ruleset parts = (
-  sendable,
-  crosses,
-  boxed.the_send,
-  boxed.the_sync,
-  seq.the_send,
-  seq.the_sync,
-  label_map.the_send,
-  label_map.the_sync,
-  label_set.the_send,
-  label_set.the_sync,
-  value.send-Value,
-  value.sync-Value,
-  tag_expr.send-TagExpr,
-  tag_expr.sync-TagExpr,
-  expr.send-Expr,
-  expr.sync-Expr,
-  net.send-Net,
-  net.sync-Net,
-)
-
-pub run_send : IsSend run.the_row
-run_send = search parts depth 60 fits 100000
-
-pub run_sync : IsSync run.the_row
-run_sync = search parts depth 60 fits 100000
-
-pub job_send : IsSend job.the_row
-job_send = search parts depth 60 fits 100000
-
-pub done_send : IsSend done.the_row
-done_send = search (parts, run_send, run_sync) depth 60 fits 100000
 
 jobs_send : IsSend (slotted.the_row (option.the_row job.the_row) (doing.the_row job.the_row (known.the_row job.the_row)) (turns.the_row jobs.the_row) global.the_row (rule.ghosts job.the_row (known.the_row job.the_row) jobs.the_row job_rule.ghosts job_rule.dict) ghosts)
 jobs_send =

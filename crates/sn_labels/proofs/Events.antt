@@ -28,7 +28,7 @@ use Rattle.sn_view.specs.Epochs.{Epochs, closed, is_passed, marked, moved_on}
 use Rattle.sn_view.specs.Next.{after, answering_entry, both, box_gives, cell_after, decides, decision_of, det_merges, det_routes, emitted, first_called, form_of, free_merges, free_routes, gets_answer, Given, gives, group_gives, group_of, has_no_call, if_node, in_call, items, keeps, kept_of, key_of, local_of, local_step, local_then, mark_passes, merges_by, needs, new_nodes, Next, next_input, passed, plain, plain_entry, routed, router_of, routes_by, Routing, routing_of, send, start_view, takes_kept, to_all, to_entry, took, turn_of, unfolded, adds_child, with_answer, with_epoch}
 use Rattle.sn_view.specs.Parts.{dispatcher, own_child, part_at}
 use Rattle.sn_view.specs.View.{Entry, It, Mark, End, Waiting, Plain, InFlight, Finished, Turn, To, Own, State, Alone, Cell, InTurn, Freely, Child, Target, Out, ToNode, ToChild, Node, View, Happening, Take, Start, Finish, Local, Route, Unfold, Merge, Emit, at_node, changed_at, child_gives, first_of, keeps_more, rest_of, waits_more}
-use Rattle.sn_view.specs.declared.step.Step.{Step}
+use Rattle.sn_model.specs.declared.step.Step.{Step}
 use Rattle.sn_view.proofs.Orders.{Each as EachNode, each-append, each-changed, each-mapped}
 use Rattle.sn_view.proofs.Planned.{HoldsAnew, KeepsNone, all-made, all-planned}
 use Rattle.sn_labels.specs.Labels.{is_label_of, is_of_box, is_of_filter, is_of_item, is_of_net}

@@ -3,3 +3,4 @@ pub mod Meaning
 pub mod Ranges
 pub mod Run
 pub mod Typed
+pub mod Trail

@@ -2,6 +2,12 @@
 #![tactic(auto)]
 
 pub mod laws;
+mod outcome;
 mod run;
+mod step;
+mod trail;
 
-pub use run::{LONGEST_QUEUE, MOST_FUEL, MOST_REPLICAS, Run};
+pub use outcome::Outcome;
+pub use run::{LONGEST_QUEUE, MOST_FUEL, MOST_REPLICAS, Run, runs_may_cross};
+pub use step::Step;
+pub use trail::{Trail, trails_may_cross};

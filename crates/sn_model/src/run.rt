@@ -107,3 +107,10 @@ impl Run {
         &self.items
     }
 }
+
+fn may_cross<T: Send + Sync>(_: &T) {}
+
+/// A run may go to another thread, and threads may share one.
+pub fn runs_may_cross(run: &Run) {
+    may_cross(run);
+}

@@ -1,5 +1,5 @@
 -- The whole network as a place of its own.
-use Rattle.std.proofs.Common.{◌≡◌, ◌∙◌, ℕ, Bool, true, List, [], ◌∷◌, ◌++◌, map, refl, ap, ap₂}
+use Rattle.std.proofs.Common.{◌≡◌, ◌∙◌, ℕ, Bool, true, List, [], ◌∷◌, ◌++◌, map, refl, ap}
 use Rattle.sn_histories.proofs.Histories.{plain_end}
 use Rattle.sn_histories.specs.Entries.{Item, End}
 use Rattle.sn_histories.specs.Sites.{Step}
@@ -10,9 +10,8 @@ use Rattle.sn_net.specs.declared.net.Net.{Net}
 use Rattle.sn_net.specs.declared.net.Net.TheOpen.{Net-F}
 use Rattle.sn_net.specs.declared.net.Net.TheFolds.{fold_out-Net, map-Net}
 use Rattle.sn_net.specs.declared.net.Net.TheViews.{out-Net}
-use Rattle.sn_net_histories.specs.Histories.{history, leads_step, leads_somewhere}
-use Rattle.sn_net_histories.specs.Places.{history_at, tree_port, tree_step}
-use Rattle.sn_net_histories.specs.declared.place.Place.{Place}
+use Rattle.sn_net_histories.specs.Histories.{leads_step, leads_somewhere}
+use Rattle.sn_net_histories.specs.Places.{history_at, root_at}
 use Rattle.sn_net_histories.specs.declared.place.Port.TheVariants as port
 
 -- no steps stay at the network
@@ -29,9 +28,8 @@ pub root_leads : (depth : ℕ) (net : Net) → leads_somewhere depth net [] ≡ 
 root_leads depth net =
     ap (λ leads. leads []) (fold_out-Net (List Step → Bool) (leads_step depth) net) ∙ no_step depth (map-Net _ _ (leads_somewhere depth) (out-Net net))
 
-pub root_comes : (run : Run) (place : Place) → place.steps.items ≡ [] → place.port ≡ port.In → history_at run place ≡ map Item (input_of run) ++ (End ∷ [])
-root_comes run place steps is = ap₂ (λ ss p. history run (map tree_step ss) (tree_port p)) steps is
+pub root_comes : (run : Run) → history_at run (root_at port.In) ≡ map Item (input_of run) ++ (End ∷ [])
+root_comes run = refl
 
-pub root_leaves : (run : Run) (place : Place) → place.steps.items ≡ [] → place.port ≡ port.Out → history_at run place ≡ map Item (given run) ++ (End ∷ [])
-root_leaves run place steps is =
-    ap₂ (λ ss p. history run (map tree_step ss) (tree_port p)) steps is ∙ plain_end (tree (setting_of run) run.net) (input_of run)
+pub root_leaves : (run : Run) → history_at run (root_at port.Out) ≡ map Item (given run) ++ (End ∷ [])
+root_leaves run = plain_end (tree (setting_of run) run.net) (input_of run)

@@ -1,5 +1,4 @@
 pub mod Agenda
-pub mod Trail
 pub mod Waiting
 pub mod Queue
 pub mod Entry

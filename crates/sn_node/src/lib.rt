@@ -19,7 +19,6 @@ mod parts;
 mod queue;
 mod receive;
 mod route_free;
-mod trail;
 mod turns;
 mod unfold;
 
@@ -35,5 +34,3 @@ pub use node::{Made, Node, State, Target};
 pub use parts::part_at;
 pub use queue::Queue;
 pub use route_free::Sent;
-pub use sn_view::Step;
-pub use trail::Trail;

@@ -68,7 +68,7 @@ stated_at run place = map streamed (history_at run place)
 
 -- the steps reach a component of the run's network
 abbrev pub Leads : Run → Place → Type 0
-Leads run place = leads_somewhere run.depth run.net (map tree_step place.steps.items) ≡ true
+Leads run place = leads_somewhere run.depth run.net (map tree_step place.steps) ≡ true
 
 -- entries pass there from one thread to another
 abbrev pub is_open : Port → Bool

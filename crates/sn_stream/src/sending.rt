@@ -4,9 +4,10 @@ ghost use Rattle.sn_model.specs.Ranges.{IsWithin};
 ghost use Rattle.sn_model.specs.Run.{given, items_of};
 ghost use Rattle.sn_model.specs.declared.run.TheConstants.{LONGEST_QUEUE};
 ghost use Rattle.sn_net.specs.Item.{modelled};
+ghost use Rattle.sn_net_histories.specs.Places.{root_at};
 ghost use Rattle.sn_net_histories.specs.declared.place.Port.TheVariants as some_port;
 ghost use Rattle.sn_record.specs.declared.item.Item.{Item as SomeItem};
-ghost use Rattle.sn_stream.specs.Ends.{history_of, is_open, moves, passed, WasFull};
+ghost use Rattle.sn_stream.specs.Ends.{history_of, is_open, moves, new_end, passed, WasFull};
 ghost use Rattle.sn_stream.specs.Ended.{ended, numbered};
 
 use crate::ends::{GetEnd, PutEnd, make};
@@ -28,12 +29,15 @@ pub fn make_at_root(
 ) -> Result<(PutEnd, GetEnd), Memory>
     requires capacity { IsWithin capacity LONGEST_QUEUE }
     requires port { IsTrue (is_open port) }
-    ensures put { IfOk result (λ ends. ends.0.moved ≡ []) }
+    ensures put { IfOk result (λ ends. ends.0 ≡ new_end ends.0.made) }
     ensures get { IfOk result (λ ends. ends.1 ≡ ends.0) }
+    ensures run { IfOk result (λ ends. ends.0.made.run ≡ run.now.value) }
+    ensures place { IfOk result (λ ends. ends.0.made.place ≡ root_at port) }
+    ensures room { IfOk result (λ ends. ends.0.made.capacity ≡ capacity) }
     ensures comes { port ≡ some_port.In → IfOk result (λ ends. history_of ends.0 ≡ ended (items_of run.now.value)) }
     ensures leaves { port ≡ some_port.Out → IfOk result (λ ends. (ys : List SomeItem) → map modelled ys ≡ given run.now.value → history_of ends.0 ≡ ended ys) }
 {
-    make(alloc, run, &Place::root(alloc, port), capacity)
+    make(alloc, run, &Place::root(port), capacity)
 }
 
 /// The entry of this number, from 0, of the items and then the end.

@@ -11,12 +11,12 @@ ghost use Rattle.sn_counts.specs.Samples.{HasCounted, WhyNoSamples};
 
 use crate::shared::share;
 use sn_counts::{Samples, count_alone, count_items, make_samples};
-use sn_farm::{Outcome, farm_drive};
+use sn_farm::farm_drive;
 use sn_graph::Graph;
 use sn_io::{Gate, NullSink};
 use sn_list::{Held, Memory};
 use sn_load::Program;
-use sn_model::Run;
+use sn_model::{Outcome, Run};
 use sn_names::Names;
 use sn_net::{Claim, all_det};
 use sn_output::LineSink;

@@ -14,8 +14,8 @@ use Rattle.sn_net.specs.Cell.{new_cell}
 use Rattle.sn_net.specs.Item.{ModelItem}
 use Rattle.sn_model.specs.declared.run.Run.{Run}
 use Rattle.sn_model.specs.Run.{depth_of, net_of}
-use Rattle.sn_view.specs.declared.step.Step.{Step}
-use Rattle.sn_view.specs.declared.step.Step.TheVariants as step
+use Rattle.sn_model.specs.declared.step.Step.{Step}
+use Rattle.sn_model.specs.declared.step.Step.TheVariants as step
 use Rattle.sn_view.specs.Epochs.{Epochs, closed, is_passed, marked, moved_on}
 use Rattle.sn_view.specs.View.{Entry, It, Mark, End, Turn, To, Own, State, Alone, Cell, InTurn, Freely, Child, Target, Out, ToNode, ToChild, Node, View, Happening, Take, Start, Finish, Local, Route, Unfold, Merge, Emit, changed_at, at_node, first_of, rest_of, waits_more, child_gives, keeps_more}
 use Rattle.sn_view.specs.Next.{after, IsEnabled, start_view, if_node, form_of, took, next_input, first_called, gets_answer, Given, local_of, local_then, keeps, passed, gives, send, plain, Routing, routing_of, needs, routed, routes_by, det_routes, free_routes, decides, decision_of, group_of, unfolded, key_of, adds_child, with_epoch, more_children, new_nodes, may_unfold_then, is_fork, to_all, to_entry, merges_by, det_merges, free_merges, group_gives, mark_passes, kept_of, takes_kept, emitted}

@@ -11,8 +11,8 @@ use Rattle.sn_net.specs.declared.net.Merge.{Merge as MergeKind}
 use Rattle.sn_net.specs.declared.net.Merge.TheVariants as kind
 use Rattle.sn_net.specs.Dispatchers.{Network}
 use Rattle.sn_net.specs.Item.{ModelItem}
-use Rattle.sn_view.specs.declared.step.Step.{Step}
-use Rattle.sn_view.specs.declared.step.Step.TheVariants as step
+use Rattle.sn_model.specs.declared.step.Step.{Step}
+use Rattle.sn_model.specs.declared.step.Step.TheVariants as step
 use Rattle.sn_view.specs.View.{Child, Target, ToChild, Node}
 use Rattle.sn_view.specs.Parts.{Plan, own_child, dispatcher, unfolding_fork, branch_children, branch_nodes, choice_plan}
 use Rattle.sn_live.specs.Entries.{Entry as LiveEntry}

@@ -10,7 +10,7 @@ use Rattle.sn_net.specs.declared.net.Merge.TheVariants as kind
 use Rattle.sn_net.specs.Item.{ModelItem, Rec, Fault, Stuck}
 use Rattle.sn_model.specs.declared.run.Run.{Run}
 use Rattle.sn_model.specs.Run.{depth_of, net_of}
-use Rattle.sn_view.specs.declared.step.Step.{Step}
+use Rattle.sn_model.specs.declared.step.Step.{Step}
 use Rattle.sn_view.specs.Epochs.{Epochs, closed, is_passed, marked, moved_on}
 use Rattle.sn_view.specs.View.{Entry, It, Mark, End, Waiting, Plain, InFlight, Finished, Turn, To, Own, State, Alone, Cell, InTurn, Freely, Child, Target, Out, ToNode, ToChild, Node, View, Happening, Take, Start, Finish, Local, Route, Unfold, Merge, Emit, changed_at, at_node, first_of, rest_of, waits_more, child_gives}
 use Rattle.sn_view.specs.Next.{after, if_node, form_of, took, next_input, has_no_call, in_call, first_called, with_answer, gets_answer, finished, Given, local_of, local_then, keeps, passed, gives, send, plain, Routing, routing_of, needs, routed, routes_by, det_routes, free_routes, decides, decision_of, group_of, unfolded, key_of, adds_child, with_epoch, new_nodes, to_all, to_entry, merges_by, det_merges, free_merges, group_gives, mark_passes, kept_of, takes_kept, emitted, start_view}

@@ -27,8 +27,8 @@ use Rattle.sn_net.specs.Item.{ModelItem, Rec, Fault, Stuck}
 use Rattle.sn_net.specs.Route.{of_record, exit_key, guarded, tap_key, split_key, replica_key}
 use Rattle.sn_model.specs.Meaning.{Setting, tree}
 use Rattle.sn_model.specs.Run.{depth_of, setting_of}
-use Rattle.sn_view.specs.declared.step.Step.{Step}
-use Rattle.sn_view.specs.declared.step.Step.TheVariants as step
+use Rattle.sn_model.specs.declared.step.Step.{Step}
+use Rattle.sn_model.specs.declared.step.Step.TheVariants as step
 use Rattle.sn_view.specs.View.{Child, ToNode, ToChild, Node, View}
 use Rattle.sn_view.specs.Parts.{plan, dispatcher, own_child}
 use Rattle.sn_view.specs.Next.{router_of, new_nodes}

@@ -13,7 +13,7 @@ use Rattle.sn_net.specs.declared.net.Net.TheViews.{roll-Net}
 use Rattle.sn_net.specs.Cell.{new_cell}
 use Rattle.sn_net.specs.Item.{ModelItem}
 use Rattle.sn_view.specs.Epochs.{Epochs, marked, is_passed, moved_on, closed, counted_at}
-use Rattle.sn_view.specs.declared.step.Step.{Step}
+use Rattle.sn_model.specs.declared.step.Step.{Step}
 use Rattle.sn_view.specs.View.{Entry, It, Mark, End, Waiting, Plain, InFlight, Finished, Turn, To, Own, State, Alone, Cell, InTurn, Freely, Child, Target, Out, ToNode, ToChild, Node, View, changed_at, rest_of, waits_more, child_gives}
 use Rattle.sn_view.specs.Next.{send, plain, passed, keeps, takes_kept, to_all, to_entry, with_epoch, new_nodes}
 use Rattle.sn_view.specs.Parts.{Plan, alone, new_node, own_child, new_fork, dispatcher, unfolding_fork, branch_nodes, plan, plan_step}

@@ -9,8 +9,8 @@ use Rattle.sn_net.specs.declared.net.Net.TheOpen.{Net-F}
 use Rattle.sn_net.specs.declared.net.Net.TheFolds.{fold-roll-Net, ind-Net, map-Net}
 use Rattle.sn_net.specs.declared.net.Net.TheViews.{roll-Net}
 use Rattle.sn_net.specs.Cell.{new_cell}
-use Rattle.sn_view.specs.declared.step.Step.{Step}
-use Rattle.sn_view.specs.declared.step.Step.TheVariants as step
+use Rattle.sn_model.specs.declared.step.Step.{Step}
+use Rattle.sn_model.specs.declared.step.Step.TheVariants as step
 use Rattle.sn_view.specs.View.{Alone, Cell, State, Child, Target, ToChild, Node}
 use Rattle.sn_view.specs.Next.{new_nodes}
 use Rattle.sn_view.specs.Parts.{Plan, alone, new_node, own_child, dispatcher, unfolding_fork, branch_children, branch_nodes, plan, plan_step}

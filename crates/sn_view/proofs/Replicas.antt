@@ -18,8 +18,8 @@ use Rattle.sn_net.specs.Dispatchers.{Network, merge_of, level}
 use Rattle.sn_net.specs.Item.{ModelItem}
 use Rattle.sn_model.specs.Meaning.{tree}
 use Rattle.sn_model.specs.Run.{depth_of, net_of, setting_of}
-use Rattle.sn_view.specs.declared.step.Step.{Step}
-use Rattle.sn_view.specs.declared.step.Step.TheVariants as step
+use Rattle.sn_model.specs.declared.step.Step.{Step}
+use Rattle.sn_model.specs.declared.step.Step.TheVariants as step
 use Rattle.sn_view.specs.View.{Child, Target, ToNode, ToChild, Node, View, changed_at}
 use Rattle.sn_view.specs.Parts.{plan, part_at, part_below, dispatcher, own_child}
 use Rattle.sn_view.specs.Next.{form_of}

@@ -5,8 +5,8 @@ use Rattle.std.specs.Prelude.{slice_get}
 use Rattle.sn_streams.specs.Keys.{Key, is_among}
 use Rattle.sn_streams.specs.Trees.{Series}
 use Rattle.sn_net.specs.Dispatchers.{Network}
-use Rattle.sn_view.specs.declared.step.Step.{Step}
-use Rattle.sn_view.specs.declared.step.Step.TheVariants as step
+use Rattle.sn_model.specs.declared.step.Step.{Step}
+use Rattle.sn_model.specs.declared.step.Step.TheVariants as step
 use Rattle.sn_view.specs.View.{Target, ToNode, Node}
 use Rattle.sn_view.specs.Parts.{Plan, serial_plan}
 use Rattle.sn_live.specs.Live.{Step as LiveStep, Left, Right, At}

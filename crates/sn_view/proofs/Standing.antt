@@ -23,8 +23,8 @@ use Rattle.sn_net.specs.Route.{of_record, choice_key}
 use Rattle.sn_model.specs.declared.run.Run.{Run}
 use Rattle.sn_model.specs.Meaning.{Setting, tree, tree_step}
 use Rattle.sn_model.specs.Run.{net_of, setting_of}
-use Rattle.sn_view.specs.declared.step.Step.{Step}
-use Rattle.sn_view.specs.declared.step.Step.TheVariants as step
+use Rattle.sn_model.specs.declared.step.Step.{Step}
+use Rattle.sn_model.specs.declared.step.Step.TheVariants as step
 use Rattle.sn_view.specs.View.{State, Alone, Cell, Child, Target, Out, ToNode, ToChild, Node}
 use Rattle.sn_view.specs.Parts.{Plan, part_at, part_below, alone, new_node, own_child, new_fork, dispatcher, unfolding_fork, branch_children, branch_nodes, choice_plan, serial_plan, plan, plan_step}
 use Rattle.sn_live.specs.Live.{Step as LiveStep, Left, Right, At, Target as LiveTarget, Out as LiveOut, ToNode as LiveToNode, ToKept}

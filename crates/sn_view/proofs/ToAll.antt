@@ -8,8 +8,8 @@ use Rattle.sn_streams.specs.Trees.{Fork}
 use Rattle.sn_net.specs.Cell.{Passing}
 use Rattle.sn_net.specs.Dispatchers.{Network}
 use Rattle.sn_net.specs.Item.{ModelItem}
-use Rattle.sn_view.specs.declared.step.Step.{Step}
-use Rattle.sn_view.specs.declared.step.Step.TheVariants as step
+use Rattle.sn_model.specs.declared.step.Step.{Step}
+use Rattle.sn_model.specs.declared.step.Step.TheVariants as step
 use Rattle.sn_view.specs.View.{Entry, Child, ToNode, Node, View, at_node, waits_more}
 use Rattle.sn_view.specs.Next.{send, plain, to_all}
 use Rattle.sn_live.specs.Entries.{Entry as LiveEntry}

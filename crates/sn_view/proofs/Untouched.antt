@@ -15,7 +15,7 @@ use Rattle.sn_net.specs.declared.net.Net.TheViews.{out-Net}
 use Rattle.sn_net.specs.Item.{ModelItem}
 use Rattle.sn_model.specs.declared.run.Run.{Run}
 use Rattle.sn_model.specs.Run.{depth_of, net_of}
-use Rattle.sn_view.specs.declared.step.Step.{Step}
+use Rattle.sn_model.specs.declared.step.Step.{Step}
 use Rattle.sn_view.specs.Epochs.{Epochs, is_passed, marked, moved_on, stands_at_output}
 use Rattle.sn_view.specs.View.{Entry, It, Mark, End, Waiting, Plain, InFlight, Finished, Turn, To, Own, State, Alone, Cell, InTurn, Freely, Child, Target, Out, ToNode, ToChild, Node, View, Happening, Take, Start, Finish, Local, Route, Unfold, Merge, Emit, changed_at, at_node, first_of, rest_of, waits_more, child_gives}
 use Rattle.sn_view.specs.Next.{after, Next, enabled, if_node, form_of, took, next_input, has_no_call, with_answer, gets_answer, Given, local_step, local_of, local_then, keeps, passed, gives, send, plain, Routing, routing_of, router_of, both, plain_entry, needs, routed, routes_by, det_routes, free_routes, decides, decision_of, group_of, unfolded, key_of, adds_child, new_nodes, to_all, to_entry, merges_by, det_merges, free_merges, group_gives, mark_passes, kept_of, takes_kept, emitted, is_box, may_route, may_unfold_then, may_merge, may_merge_by}

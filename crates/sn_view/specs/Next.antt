@@ -18,7 +18,7 @@ use Rattle.sn_net.specs.Route.{of_record, choice_key, split_key}
 use Rattle.sn_model.specs.declared.run.Run.{Run}
 use Rattle.sn_model.specs.Components.{filter_item, box_item}
 use Rattle.sn_model.specs.Run.{boxes_of, depth_of, fuel_of, input_of, net_of}
-use Rattle.sn_view.specs.declared.step.Step.TheVariants as step
+use Rattle.sn_model.specs.declared.step.Step.TheVariants as step
 use Rattle.sn_view.specs.View.{Entry, It, Mark, End, Waiting, Plain, InFlight, Finished, Turn, To, Own, State, Alone, Cell, InTurn, Freely, Child, Target, Out, ToNode, ToChild, Node, View, Happening, Take, Start, Finish, Local, Route, Unfold, Merge, Emit, changed_at, at_node, first_of, rest_of, waits_more, child_gives}
 use Rattle.sn_view.specs.Parts.{part_at, plan, dispatcher, own_child}
 

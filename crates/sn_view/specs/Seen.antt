@@ -8,8 +8,8 @@ use Rattle.sn_net.specs.Item.{ModelItem, Rec}
 use Rattle.sn_view.specs.Epochs.{Epochs}
 use Rattle.sn_model.specs.Meaning.{tree}
 use Rattle.sn_model.specs.Run.{input_of, net_of, setting_of}
-use Rattle.sn_view.specs.declared.step.Step.{Step}
-use Rattle.sn_view.specs.declared.step.Step.TheVariants as step
+use Rattle.sn_model.specs.declared.step.Step.{Step}
+use Rattle.sn_model.specs.declared.step.Step.TheVariants as step
 use Rattle.sn_view.specs.View.{Entry, It, Mark, End, Waiting, Plain, InFlight, Finished, Turn, To, Own, State, Alone, Cell, InTurn, Freely, Child, Node, View}
 use Rattle.sn_live.specs.Entries.{Entry as LiveEntry, It as LiveIt, Mark as LiveMark}
 use Rattle.sn_live.specs.Live.{Step as LiveStep, Left, Right, At, Node as LiveNode, Live}

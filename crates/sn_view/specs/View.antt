@@ -7,7 +7,7 @@ use Rattle.sn_net.specs.Cell.{CellState}
 use Rattle.sn_net.specs.Item.{ModelItem}
 use Rattle.sn_view.specs.Epochs.{Epochs}
 use Rattle.sn_model.specs.declared.run.Run.{Run}
-use Rattle.sn_view.specs.declared.step.Step.{Step}
+use Rattle.sn_model.specs.declared.step.Step.{Step}
 
 -- What stands in a stream between two nodes: an item, a border of an enclosing deterministic dispatcher, or the end.
 pub data Entry (A : Type 0) : Type 0 where

@@ -2,6 +2,3 @@
 #![tactic(auto)]
 
 pub mod laws;
-mod step;
-
-pub use step::Step;

@@ -3,7 +3,7 @@ use denote.RattleType.{RattleType}
 use denote.Ref.{NamedLft}
 use denote.Param.Send.{IsSync, sendable}
 use Rattle.std.proofs.Crossing.{crosses}
-use Rattle.sn_jobs.proofs.Crossing.{run_send, run_sync}
+use Rattle.sn_model.proofs.Crossing.{run_send, run_sync}
 use Rattle.sn_workers.specs.contracts.hall.Hall as hall
 
 pub hall_sync : (κ : NamedLft) (G : RattleType) → IsSync G → IsSync (hall.the_row κ G)

@@ -3,7 +3,7 @@ use Rattle.sn_view.specs.View.{View}
 use Rattle.sn_graph.specs.Graph.{seen}
 use Rattle.sn_farm.specs.Turns.{Goes, shows}
 use Rattle.sn_farm.specs.declared.desk.Turn.TheVariants.{Ended}
-use Rattle.sn_farm.specs.declared.outcome.Outcome.{Outcome}
+use Rattle.sn_model.specs.declared.outcome.Outcome.{Outcome}
 use Rattle.sn_farm.proofs.Ending.{drive_faulted, drive_first, drive_written}
 use Rattle.sn_farm.proofs.farm.farm_drive.Goals as goal
 

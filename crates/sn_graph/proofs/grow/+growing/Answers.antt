@@ -7,7 +7,7 @@ use Rattle.sn_model.specs.Run.{boxes_of, depth_of}
 use Rattle.sn_net.specs.declared.net.Net.TheViews.{the_lemmas}
 use Rattle.sn_net.specs.WellFormed.{FitsBoxes}
 use Rattle.sn_net.proofs.net.Net.TheLaws.{the_size}
-use Rattle.sn_view.specs.declared.step.Step.TheVariants as step
+use Rattle.sn_model.specs.declared.step.Step.TheVariants as step
 use Rattle.sn_view.specs.View as view
 use Rattle.sn_view.specs.Parts.{Plan, plan, branch_nodes}
 use Rattle.sn_node.specs.Seen.{target_of}

@@ -1,17 +1,18 @@
 //! The steps from a network to a part of it.
 ghost use Rattle.std.specs.Prelude.{[], ◌∷◌, ◌++◌, ◌≡◌, IfOk, MatchOption, length};
 
+use crate::step::Step;
 use sn_list::Memory;
-use sn_view::Step;
 use std::alloc::Global;
 use std::marker::Model;
-use std::rc::Rc;
+use std::sync::Arc;
 
-/// The steps from a network to a part of it. Trails share their beginnings, so those to all levels of a star take memory in its depth.
+/// The steps from a network to a part of it, seen as a list. Trails share their beginnings, also between threads, so those to all levels of a
+/// star take memory in its depth.
 #[derive(Drop)]
 #[cycle(trail)]
 pub struct Trail {
-    last: Option<Rc<Link>>,
+    last: Option<Arc<Link>>,
 }
 
 #[derive(Drop)]
@@ -24,14 +25,14 @@ struct Link {
 impl Model for Trail {
     ghost use Rattle.std.specs.Prelude.{List, length};
     ghost use Rattle.std.specs.Coded.{coded_list};
-    ghost use Rattle.sn_view.specs.declared.step.Step.{Step};
-    ghost use Rattle.sn_view.specs.contracts.step.Step as step;
+    ghost use Rattle.sn_model.specs.declared.step.Step.{Step};
+    ghost use Rattle.sn_model.specs.contracts.step.Step as step;
 
     ghost Value = { List Step };
 
     ghost coded = { coded_list step.the_row.coded };
 
-    ghost use Rattle.sn_node.specs.Trail.{steps_of};
+    ghost use Rattle.sn_model.specs.Trail.{steps_of};
 
     ghost view = { λ trail. steps_of trail.last };
 
@@ -67,7 +68,7 @@ impl Trail {
         match &self.last {
             None => Ok(Trail { last: None }),
             Some(link) => {
-                let link = link.clone()?;
+                let link = Arc::try_clone(link)?;
                 Ok(Trail { last: Some(link) })
             }
         }
@@ -77,7 +78,14 @@ impl Trail {
     pub fn further(self, alloc: Global, step: Step) -> Result<Trail, Memory>
         ensures { IfOk result (λ longer. longer ≡ self ++ step ∷ []) }
     {
-        let link = Rc::new(alloc, Link { above: self, step })?;
+        let link = Arc::new(alloc, Link { above: self, step })?;
         Ok(Trail { last: Some(link) })
     }
+}
+
+fn may_cross<T: Send + Sync>(_: &T) {}
+
+/// A trail may go to another thread, and threads may share one, as they may share beginnings of it.
+pub fn trails_may_cross(trail: &Trail) {
+    may_cross(trail);
 }
