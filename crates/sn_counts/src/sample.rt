@@ -1,5 +1,5 @@
 //! The records of a number, and what comes of them on one thread, counted.
-ghost use Rattle.std.specs.Prelude.{◌≡◌, ◌<◌, ◌≤◌, length, map, IfOk, IfErr, OnOk};
+ghost use Rattle.std.specs.Prelude.{◌≡◌, ◌≤◌, length, map, IfOk, IfErr, OnOk};
 ghost use Rattle.sn_names.specs.Names.{all_entered};
 ghost use Rattle.sn_net.specs.Item.{modelled};
 ghost use Rattle.sn_output.specs.Printed.{ending};
@@ -86,7 +86,6 @@ pub fn make_samples(
     number: u32,
     count: u32,
 ) -> Result<Samples, Stop>
-    requires { number < 2_147_483_648 }
     ensures made { IfOk result (AreSamples names claim.now number count) }
     ensures ended { IfErr result (WhyNoSamples names claim.now number count) }
 {

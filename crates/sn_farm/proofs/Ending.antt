@@ -1,6 +1,7 @@
 -- What a driven graph came to, and what was printed of it.
-use Rattle.std.proofs.Common.{◌≡◌, ℕ, List, [], ◌∷◌, ◌++◌, map, refl, sym, ap, ◌∙◌, subst, append-nil, append_assoc}
+use Rattle.std.proofs.Common.{◌≡◌, ◌<◌, ℕ, List, [], ◌∷◌, ◌++◌, map, length, refl, sym, ap, ◌∙◌, subst, append-nil, append_assoc, arith, length-append, inl, inr}
 use Rattle.std.specs.Prelude.{Option, None, Some}
+use Rattle.std.proofs.lemmas.List.{map-append}
 use mathlib.Core.Logic.{∥∥₁_elim, ∥∥₁_map, ∥∥₁_map₂, ∥∥₁_prop}
 use Rattle.sn_record.specs.Record.{Entries}
 use Rattle.sn_record.specs.declared.item.Fault.{Fault as FaultAt}
@@ -13,11 +14,12 @@ use Rattle.sn_model.specs.Run.{MayGive, given}
 use Rattle.sn_model.specs.declared.run.Run.{Run}
 use Rattle.sn_live.specs.Runs.{IsPrefixOf}
 use Rattle.sn_view.specs.Coming.{MayCome}
+use Rattle.sn_view.specs.Placed.{AtRest}
 use Rattle.sn_view.specs.Seen.{Can}
 use Rattle.sn_view.specs.View.{View}
 use Rattle.sn_view.proofs.Came.{may_begins}
-use Rattle.sn_farm.specs.Farmed.{HasPrinted, IsFaulted, IsWhole}
-use Rattle.sn_farm.specs.Turns.{Goes, Writes, WritesPart, WritesUpTo, shows}
+use Rattle.sn_farm.specs.Farmed.{HasPrinted, IsAllWritten, IsFaulted, IsWhole}
+use Rattle.sn_farm.specs.Turns.{Goes, LacksLast, Writes, WritesPart, WritesUpTo, shows}
 use Rattle.sn_farm.specs.declared.desk.Turn.TheVariants.{Ended}
 use Rattle.sn_model.specs.declared.outcome.Outcome.{Outcome}
 use Rattle.sn_model.specs.declared.outcome.Outcome.TheVariants.{Whole, Faulted, WriteFault, Memory}
@@ -38,6 +40,16 @@ still_ends [] more fault ends = cc
 still_ends (Rec r ∷ items) more fault ends = still_ends items more fault ends
 still_ends (Fault at ∷ items) more fault ends = ends
 still_ends (Stuck place ∷ items) more fault ends = cc
+
+some_bytes : (xs ys : List ℕ) → Some xs ≡ Some ys → xs ≡ ys
+some_bytes xs ys is = cc
+
+-- what has more behind it is not the same
+longer : (told first more : List ℕ) → 0 < length more → told ++ (first ++ more) ≡ told ++ first → ⊥
+longer told first more some is =
+    let sizes = sym (length-append told (first ++ more)) ∙ ap length is ∙ length-append told first in
+    let inner = length-append first more in
+    omega (arith, sizes, inner, some)
 
 module _ (names : List (List ℕ)) where
   -- so no more is printed
@@ -84,7 +96,7 @@ module _ (names : List (List ℕ)) where
     drive_written Whole goes = whole_part before now (printed names new.out) (all_written goes.turns.1)
     drive_written (Faulted fault) goes = whole_part before now (printed names new.out) (before_fault fault goes.turns)
     drive_written WriteFault goes = some_written goes.turns.1
-    drive_written Memory goes = some_written goes.turns
+    drive_written Memory goes = some_written goes.turns.1
 
     pub drive_whole : Goes names (shows old before sooner) (shows new now faults) (Ended Whole) → IsWhole names new before now
     drive_whole goes = record { over = goes.turns.0; records = (goes.turns.1.records, records_out goes.turns.1.records goes.turns.1.out); all = all_written goes.turns.1 }
@@ -97,7 +109,27 @@ module _ (names : List (List ℕ)) where
     drive_first Whole fault goes ends = absurd (cc (ends, ap ending (records_out goes.turns.1.records goes.turns.1.out), none_ends goes.turns.1.records))
     drive_first (Faulted other) fault goes ends = cc (ends, ap ending (fault_out goes.turns.records other goes.turns.out), fault_ends goes.turns.records other)
     drive_first WriteFault fault goes ends = absurd (cc (ends, ap ending (records_out goes.turns.1.records goes.turns.1.out), none_ends goes.turns.1.records))
-    drive_first Memory fault goes ends = absurd (cc (ends, ap ending (records_out goes.turns.records goes.turns.out), none_ends goes.turns.records))
+    drive_first Memory fault goes ends = absurd (cc (ends, ap ending (records_out goes.turns.1.records goes.turns.1.out), none_ends goes.turns.1.records))
+
+    -- a line is at least a byte, so where the last one was not begun not all is written
+    lacks_some : IsAllWritten names new before now → LacksLast names (shows old before sooner) (shows new now faults) → ⊥
+    lacks_some written lacks =
+        let records = lacks.records in
+        let first = ap (λ h. appended h (printed names (map Rec records))) written.first in
+        let lines = ap (printed names) (records_out (records ++ lacks.last ∷ []) lacks.out ∙ map-append Rec records (lacks.last ∷ [])) ∙ lines_more names records (Rec lacks.last ∷ []) in
+        let bytes = some_bytes _ _ (sym written.all ∙ lacks.held ∙ first) in
+        longer written.told (printed names (map Rec records)) (printed names (Rec lacks.last ∷ [])) (omega arith) (ap (λ ps. written.told ++ ps) (sym lines) ∙ bytes)
+
+    -- where the graph is at rest, and all that came out is records and written, the drive ended whole, or at a fault of the sink
+    pub drive_last : (outcome : Outcome) → Goes names (shows old before sooner) (shows new now faults) (Ended outcome) → AtRest new → IsAllWritten names new before now → ending new.out ≡ None
+        → (outcome ≡ WriteFault → ⊥) → outcome ≡ Whole
+    drive_last Whole goes rest written ends unfailed = refl
+    drive_last (Faulted other) goes rest written ends unfailed = absurd (cc (ends, ap ending (fault_out goes.turns.records other goes.turns.out), fault_ends goes.turns.records other))
+    drive_last WriteFault goes rest written ends unfailed = absurd (unfailed refl)
+    drive_last Memory goes rest written ends unfailed = elim goes.turns.0 [
+      | inl unrested ↦ absurd (unrested rest)
+      | inr lacks ↦ absurd (lacks_some written lacks)
+    ]
 
   -- the run of which the graph was started
   module _ (run : Run) (graph : View) (before now : Option (List ℕ)) (allowed : (ys : List ModelItem) → MayCome graph ys → ∥ MayGive run ys ∥₁) (some : ∥ ((ys : List ModelItem) × Can graph ys) ∥₁) where

@@ -1,5 +1,5 @@
 -- How turns of the owner follow each other.
-use Rattle.std.proofs.Common.{◌≡◌, ◌≤◌, ℕ, List, [], ◌∷◌, ◌++◌, map, refl, sym, ap, ◌∙◌, subst, arith, append-nil, append_assoc}
+use Rattle.std.proofs.Common.{◌≡◌, ◌≤◌, ℕ, List, [], ◌∷◌, ◌++◌, map, refl, sym, ap, ◌∙◌, subst, arith, append-nil, append_assoc, inl, inr}
 use Rattle.std.specs.Prelude.{Option, None, Some}
 use Rattle.std.proofs.lemmas.List.{map-append}
 use Rattle.sn_record.specs.Record.{Entries}
@@ -10,9 +10,10 @@ use Rattle.sn_io.specs.Told.{AppendsPrefix, appended}
 use Rattle.sn_io.proofs.Told.{appended_twice, prefix_after}
 use Rattle.sn_output.specs.Line.{line}
 use Rattle.sn_output.specs.Printed.{printed}
+use Rattle.sn_view.specs.Placed.{AtRest}
 use Rattle.sn_view.specs.View.{View}
 use Rattle.sn_farm.specs.Events.{Emits}
-use Rattle.sn_farm.specs.Turns.{EndsAs, Goes, IsOver, Shown, TurnsAs, Writes, WritesPart, WritesUpTo, shows}
+use Rattle.sn_farm.specs.Turns.{EndsAs, Goes, IsEarly, IsOver, LacksLast, Shown, TurnsAs, Writes, WritesPart, WritesUpTo, shows}
 use Rattle.sn_farm.specs.declared.desk.Turn.{Turn}
 use Rattle.sn_farm.specs.declared.desk.Turn.TheVariants.{Went, Idle, Ended}
 use Rattle.sn_model.specs.declared.outcome.Outcome.{Outcome}
@@ -67,11 +68,23 @@ module _ (names : List (List ℕ)) where
       held = subst (AppendsPrefix a.held c.held) (lines_of w.records v.records) (prefix_after a.held b.held c.held (printed names (map Rec w.records)) (printed names (map Rec v.records)) w.held v.held);
     }
 
+    lacks_then : LacksLast names b c → LacksLast names a c
+    lacks_then v = record {
+      records = w.records ++ v.records;
+      last = v.last;
+      out = out_then (v.records ++ v.last ∷ []) v.out ∙ ap (λ rs. a.graph.out ++ map Rec rs) (sym (append_assoc w.records v.records (v.last ∷ [])));
+      held = held_then v.records v.held;
+    }
+
+    early_then : IsEarly names b c → IsEarly names a c
+    early_then (inl unrested) = inl unrested
+    early_then (inr lacks) = inr (lacks_then lacks)
+
     ends_then : a.faults ≤ b.faults → (outcome : Outcome) → EndsAs names b c outcome → EndsAs names a c outcome
     ends_then later Whole v = (v.0, writes_then v.1)
     ends_then later (Faulted fault) v = up_to_then fault v
     ends_then later WriteFault v = (rose_sooner a.faults b.faults c.faults later v.0, part_then v.1)
-    ends_then later Memory v = part_then v
+    ends_then later Memory v = (early_then v.0, part_then v.1)
 
     turns_then : a.faults ≤ b.faults → (turn : Turn) → TurnsAs names b c turn → TurnsAs names a c turn
     turns_then later Went v = writes_then v
@@ -94,13 +107,6 @@ module _ (names : List (List ℕ)) where
     pub nothing : Goes names (shows old held faults) (shows new held faults) Went
     nothing = record { before = emits.before; later = omega arith; turns = silent }
 
-    pub refused : Goes names (shows old held faults) (shows new held faults) (Ended Memory)
-    refused = record {
-      before = emits.before;
-      later = omega arith;
-      turns = record { records = []; out = emits.out; held = record { piece = []; rest = []; whole = refl; held = none_more held } };
-    }
-
   same : (g : View) → Emits [] g g
   same g = record { out = sym (append-nil g.out); before = λ ys may. may }
 
@@ -111,8 +117,12 @@ module _ (names : List (List ℕ)) where
   pub waits : (g : View) (held : Option (List ℕ)) (faults : ℕ) → Goes names (shows g held faults) (shows g held faults) Idle
   waits g held faults = record { before = λ ys may. may; later = omega arith; turns = silent g g held faults (same g) }
 
-  pub gives_up : (g : View) (held : Option (List ℕ)) (faults : ℕ) → Goes names (shows g held faults) (shows g held faults) (Ended Memory)
-  gives_up g held faults = refused g g held faults (same g)
+  pub gives_up : (g : View) (held : Option (List ℕ)) (faults : ℕ) → (AtRest g → ⊥) → Goes names (shows g held faults) (shows g held faults) (Ended Memory)
+  gives_up g held faults unrested = record {
+    before = λ ys may. may;
+    later = omega arith;
+    turns = (inl unrested, record { records = []; out = (same g).out; held = record { piece = []; rest = []; whole = refl; held = none_more held } });
+  }
 
   pub rests : (g : View) (held : Option (List ℕ)) (faults : ℕ) → IsOver g → Goes names (shows g held faults) (shows g held faults) (Ended Whole)
   rests g held faults over = record { before = λ ys may. may; later = omega arith; turns = (over, silent g g held faults (same g)) }
@@ -136,7 +146,7 @@ module _ (names : List (List ℕ)) where
     wrote_none r emits held = record {
       before = emits.before;
       later = later;
-      turns = part_of r emits (record { piece = []; rest = line names r; whole = refl; held = held ∙ none_more first });
+      turns = (inr (record { records = []; last = r; out = emits.out; held = held ∙ none_more first }), part_of r emits (record { piece = []; rest = line names r; whole = refl; held = held ∙ none_more first }));
     }
 
   pub fault_came : (old new : View) (held : Option (List ℕ)) (faults : ℕ) (fault : FaultAt) → Emits (Fault fault ∷ []) old new → Goes names (shows old held faults) (shows new held faults) (Ended (Faulted fault))

@@ -1,5 +1,5 @@
 -- What a run with workers printed.
-use Rattle.std.specs.Prelude.{◌≡◌, ℕ, List, Option, Some, map}
+use Rattle.std.specs.Prelude.{◌≡◌, ℕ, List, ◌++◌, Option, Some, map}
 use Rattle.sn_record.specs.Record.{Entries}
 use Rattle.sn_record.specs.declared.item.Fault.{Fault}
 use Rattle.sn_model.specs.Run.{MayGive}
@@ -20,6 +20,12 @@ module _ (names : List (List ℕ)) where
     pub over : IsOver graph
     pub records : AreRecords graph.out
     pub all : now ≡ appended before (printed names graph.out)
+
+  -- all that came out was written, to a sink that tells what it holds
+  pub record IsAllWritten (graph : View) (before now : Option (List ℕ)) : Type 0 where
+    pub told : List ℕ
+    pub first : before ≡ Some told
+    pub all : now ≡ Some (told ++ printed names graph.out)
 
   -- this fault came out first, and all that came out before it was written
   pub record IsFaulted (fault : Fault) (graph : View) (before now : Option (List ℕ)) : Type 0 where

@@ -1,5 +1,5 @@
 -- What comes of the owner's turns, for the graph and for the sink.
-use Rattle.std.specs.Prelude.{◌≡◌, ◌≤◌, ℕ, List, [], ◌∷◌, ◌++◌, Option, map}
+use Rattle.std.specs.Prelude.{◌≡◌, ◌⊎◌, ◌≤◌, ℕ, List, [], ◌∷◌, ◌++◌, Option, map}
 use Rattle.sn_record.specs.Record.{Entries}
 use Rattle.sn_record.specs.declared.item.Fault.{Fault as FaultAt}
 use Rattle.sn_net.specs.Item.{ModelItem, Rec, Fault}
@@ -47,11 +47,22 @@ module _ (names : List (List ℕ)) (old new : Shown) where
     pub out : new.graph.out ≡ old.graph.out ++ map Rec records
     pub held : AppendsPrefix old.held new.held (printed names (map Rec records))
 
+  -- the line of the last record that came out was not begun
+  pub record LacksLast : Type 0 where
+    pub records : List Entries
+    pub last : Entries
+    pub out : new.graph.out ≡ old.graph.out ++ map Rec (records ++ last ∷ [])
+    pub held : new.held ≡ appended old.held (printed names (map Rec records))
+
+  -- the graph is not at rest yet, or not all that came out was written
+  abbrev pub IsEarly : Type 0
+  IsEarly = (AtRest new.graph → ⊥) ⊎ LacksLast
+
   abbrev pub EndsAs : Outcome → Type 0
   EndsAs Whole = IsOver new.graph × Writes
   EndsAs (Faulted fault) = WritesUpTo fault
   EndsAs WriteFault = Rose old.faults new.faults × WritesPart
-  EndsAs Memory = WritesPart
+  EndsAs Memory = IsEarly × WritesPart
 
   abbrev pub TurnsAs : Turn → Type 0
   TurnsAs Went = Writes

@@ -5,6 +5,7 @@ ghost use Rattle.sn_graph.specs.Graph.{IsGraphOf, seen};
 ghost use Rattle.sn_jobs.specs.Queues.{IsDoneOf};
 ghost use Rattle.sn_farm.specs.Desks.{IsDeskOf};
 ghost use Rattle.sn_farm.specs.Turns.{Goes, shows};
+ghost use Rattle.sn_farm.specs.declared.desk.Turn.TheVariants.{Ended};
 
 use crate::apply::apply;
 use sn_boxrun::{Done, Job};
@@ -23,6 +24,17 @@ pub enum Turn {
     /// There is nothing to do until an answer comes.
     Idle,
     Ended(Outcome),
+}
+
+/// How a run ends where memory is refused: whole, if its end was got by then.
+pub fn end_at_refusal<G: Gate>(hall: &Hall<G>, graph: &Graph) -> Outcome
+    requires { IsGraphOf graph.now hall.now.run.now.value }
+    ensures { (names : List (List ℕ)) (held : Option (List ℕ)) (faults : ℕ) → Goes names (shows (seen graph.now) held faults) (shows (seen graph.now) held faults) (Ended result) }
+{
+    if graph.at_rest(hall.run) {
+        return Outcome::Whole;
+    }
+    Outcome::Memory
 }
 
 /// The owner's ends of both queues. With a hand of its own it takes a call back that no worker has taken yet, when there is nothing else
@@ -54,7 +66,7 @@ pub fn finish<R: Wait, G: Gate>(rt: &R, hall: &Hall<G>, graph: &mut Graph, done:
 {
     match apply(rt, hall.alloc, hall.run, graph, Event::Finish { done }) {
         Ok(_) | Err(ApplyCause::NotEnabled) => Turn::Went,
-        Err(ApplyCause::Memory) => Turn::Ended(Outcome::Memory),
+        Err(ApplyCause::Memory) => Turn::Ended(end_at_refusal(hall, graph)),
     }
 }
 
@@ -67,7 +79,7 @@ pub fn call_here<R: Wait, G: Gate>(rt: &R, hall: &Hall<G>, graph: &mut Graph, jo
 {
     match hall.make_call(job) {
         Ok(done) => finish(rt, hall, graph, done),
-        Err(_) => Turn::Ended(Outcome::Memory),
+        Err(_) => Turn::Ended(end_at_refusal(hall, graph)),
     }
 }
 
@@ -91,7 +103,10 @@ impl Desk {
             return call_here(rt, hall, graph, job);
         }
         match self.owner.give(rt, job) {
-            Ok(()) => Turn::Went,
+            Ok(()) => {
+                hall.signals.jobs.ring();
+                Turn::Went
+            }
             Err(job) => call_here(rt, hall, graph, job),
         }
     }

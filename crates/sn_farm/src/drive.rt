@@ -10,7 +10,7 @@ ghost use Rattle.sn_farm.specs.Turns.{Goes, shows};
 ghost use Rattle.sn_farm.specs.declared.desk.Turn.TheVariants.{Ended};
 
 use crate::apply::apply;
-use crate::desk::{Desk, Turn, call_here, finish};
+use crate::desk::{Desk, Turn, call_here, end_at_refusal, finish};
 use sn_graph::{ApplyCause, Effect, Event, Graph};
 use sn_io::{Gate, Sink};
 use sn_model::Outcome;
@@ -59,7 +59,7 @@ fn happen<R: Wait, S: Sink, G: Gate>(
         Ok(Effect::Moved) | Err(ApplyCause::NotEnabled) => Turn::Went,
         Ok(Effect::Call(job)) => desk.give(rt, hall, graph, job),
         Ok(Effect::Out(item)) => write(hall.alloc, out, &item),
-        Err(ApplyCause::Memory) => Turn::Ended(Outcome::Memory),
+        Err(ApplyCause::Memory) => Turn::Ended(end_at_refusal(hall, graph)),
     }
 }
 
@@ -74,7 +74,8 @@ fn rest_or_wait<G: Gate>(hall: &Hall<G>, graph: &Graph) -> Turn
     Turn::Idle
 }
 
-/// Applies an answer that has come, or else the next event. Where there is none a call is taken back, if one is left.
+/// Applies an answer that has come, or else the next event. Where there is none a call is taken back, if one is left. Where a worker was refused
+/// memory the run ends.
 fn turn<R: Wait, S: Sink, G: Gate>(
     rt: &R,
     hall: &Hall<G>,
@@ -90,7 +91,11 @@ fn turn<R: Wait, S: Sink, G: Gate>(
     ensures names { out.new.names.now ≡ out.old.names.now }
     ensures same_sink { out.new.sink.ghost_name ≡ out.old.sink.ghost_name }
 {
+    if hall.signals.is_refused() {
+        return Turn::Ended(end_at_refusal(hall, graph));
+    }
     if let Some(done) = desk.owner.collect(rt) {
+        hall.signals.room.ring();
         return finish(rt, hall, graph, done);
     }
     if let Some(event) = graph.next_event(hall.run) {
@@ -119,12 +124,10 @@ pub fn drive<R: Wait, S: Sink, G: Gate>(
 {
     let mut patience = Patience::new();
     for _ in rt.forever() {
-        if hall.signals.is_refused() {
-            return Outcome::Memory;
-        }
+        let rings = hall.signals.answers.rings();
         match turn(rt, hall, desk, graph, out) {
             Turn::Went => patience.renew(),
-            Turn::Idle => patience.wait(rt, hall.signals.bell()),
+            Turn::Idle => patience.wait(rt, &hall.signals.answers, rings),
             Turn::Ended(outcome) => return outcome,
         }
     }

@@ -1,5 +1,5 @@
 //! A graph driven to its end with workers.
-ghost use Rattle.std.specs.Prelude.{◌≡◌, ◌≤◌, IfOk, List, None, Some};
+ghost use Rattle.std.specs.Prelude.{◌≡◌, ◌≢◌, ◌≤◌, IfOk, List, None, Some};
 ghost use Rattle.sn_record.specs.declared.item.Fault.{Fault};
 ghost use Rattle.sn_net.specs.Item.{ModelItem};
 ghost use Rattle.sn_io.specs.Causes.{Rose};
@@ -8,15 +8,16 @@ ghost use Rattle.sn_output.specs.Printed.{ending, printed};
 ghost use Rattle.sn_model.specs.Run.{MayGive};
 ghost use Rattle.sn_view.specs.Coming.{MayCome};
 ghost use Rattle.sn_view.specs.Next.{start_view};
+ghost use Rattle.sn_view.specs.Placed.{AtRest};
 ghost use Rattle.sn_view.specs.Seen.{Can};
 ghost use Rattle.sn_graph.specs.Graph.{IsGraphOf, seen};
 ghost use Rattle.sn_farm.specs.Desks.{IsDeskOf};
-ghost use Rattle.sn_farm.specs.Farmed.{HasPrinted, IsFaulted, IsWhole};
+ghost use Rattle.sn_farm.specs.Farmed.{HasPrinted, IsAllWritten, IsFaulted, IsWhole};
 ghost use Rattle.sn_farm.specs.Turns.{Goes, shows};
 ghost use Rattle.sn_farm.specs.declared.desk.Turn.TheVariants.{Ended};
 ghost use Rattle.sn_model.specs.declared.outcome.Outcome.TheVariants as outcome;
 
-use crate::desk::Desk;
+use crate::desk::{Desk, end_at_refusal};
 use crate::drive::drive;
 use sn_graph::Graph;
 use sn_io::{Gate, Sink};
@@ -94,7 +95,7 @@ fn drive_all<R: Threads + Wait + Sync, S: Sink, G: Gate>(
 {
     let alone = workers < 2;
     let Ok((mut desk, mut theirs)) = open(hall.alloc, hall.run, alone) else {
-        return Outcome::Memory;
+        return end_at_refusal(hall, graph);
     };
     if alone {
         return drive(rt, hall, &mut desk, graph, out);
@@ -125,6 +126,8 @@ pub fn farm_drive<R: Threads + Wait + Sync, S: Sink, G: Gate>(
     ensures whole { result ≡ outcome.Whole → IsWhole out.old.names.now (seen graph.new) (S.held out.old.sink.now) (S.held out.new.sink.now) }
     ensures first { (fault : Fault) → ending (seen graph.new).out ≡ Some fault → result ≡ outcome.Faulted fault }
     ensures faulted { (fault : Fault) → result ≡ outcome.Faulted fault → IsFaulted out.old.names.now fault (seen graph.new) (S.held out.old.sink.now) (S.held out.new.sink.now) }
+    ensures last { AtRest (seen graph.new) → IsAllWritten out.old.names.now (seen graph.new) (S.held out.old.sink.now) (S.held out.new.sink.now)
+        → ending (seen graph.new).out ≡ None → result ≢ outcome.WriteFault → result ≡ outcome.Whole }
     ensures rose { result ≡ outcome.WriteFault → Rose (S.faults out.old.sink.now) (S.faults out.new.sink.now) }
     ensures later { S.faults out.old.sink.now ≤ S.faults out.new.sink.now }
     ensures names { out.new.names.now ≡ out.old.names.now }

@@ -8,7 +8,10 @@ use Rattle.sn_view.specs.Touched.{happens_at}
 use Rattle.sn_view.specs.View as view
 use Rattle.sn_view.specs.View.{Emit, Finish, Happening, Local, Merge, Route, Start, Take, Unfold, View}
 use Rattle.sn_node.specs.Agenda.{is_listed}
+use Rattle.sn_graph.specs.Event.{happening_of, is_finish}
 use Rattle.sn_graph.specs.Listed.{AreListed}
+use Rattle.sn_graph.specs.declared.event.Event.{Event}
+use Rattle.sn_graph.specs.declared.event.Event.TheVariants as event
 
 -- MERGES
 module _ (g : View) (i : ℕ) (n : view.Node) (there : node_at i g ≡ Some n) where
@@ -49,6 +52,17 @@ none_enabled g take emit none (Route i) = none (Route i) i refl
 none_enabled g take emit none (Unfold i) = none (Unfold i) i refl
 none_enabled g take emit none (Merge i c) = none (Merge i c) i refl
 none_enabled g take emit none Emit = emit
+
+-- what may happen in the words of `enabled` answers no call
+pub no_finish : (g : View) (e : Event) → enabled g (happening_of e) ≡ true → is_finish e ≡ false
+no_finish g event.Take is = refl
+no_finish g (event.Start i) is = refl
+no_finish g (event.Finish done) is = absurd (true≢false (sym is))
+no_finish g (event.Local i) is = refl
+no_finish g (event.Route i) is = refl
+no_finish g (event.Unfold i) is = refl
+no_finish g (event.Merge i c) is = refl
+no_finish g event.Emit is = refl
 
 -- what holds where there is none
 pub if_none : {X P : Type 0} (r : Option X) → is_some r ≡ false → IfNone r P → P

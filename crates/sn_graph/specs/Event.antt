@@ -30,6 +30,17 @@ happening_of (event.Unfold i) = view.Unfold i
 happening_of (event.Merge i c) = view.Merge i c
 happening_of event.Emit = view.Emit
 
+-- the event answers a call
+abbrev pub is_finish : Event → Bool
+is_finish event.Take = false
+is_finish (event.Start i) = false
+is_finish (event.Finish done) = true
+is_finish (event.Local i) = false
+is_finish (event.Route i) = false
+is_finish (event.Unfold i) = false
+is_finish (event.Merge i c) = false
+is_finish event.Emit = false
+
 -- a call began at node i, which was given the number of the next call
 pub record IsBegun (run : Run) (i : ℕ) (job : Job) (old new : View) : Type 0 where
   pub of : IsJobOf run job

@@ -41,7 +41,7 @@ impl Graph {
     ghost use Rattle.sn_view.specs.Placed.{AtRest};
     ghost use Rattle.sn_view.specs.View.{Happening};
     ghost use Rattle.sn_view.specs.Seen.{Can};
-    ghost use Rattle.sn_graph.specs.Event.{ComesOf, HasCallLabels, IsEventOf, happening_of};
+    ghost use Rattle.sn_graph.specs.Event.{ComesOf, HasCallLabels, IsEventOf, happening_of, is_finish};
     ghost use Rattle.sn_graph.specs.Graph.{IsGraphOf, seen};
     ghost use Rattle.sn_graph.specs.declared.event.ApplyCause.TheVariants as cause;
 
@@ -84,10 +84,11 @@ impl Graph {
         self.arena.apply(alloc, run, event)
     }
 
-    /// What may happen, if anything but an answer to a call may. Takes no memory.
+    /// What may happen, and is no answer to a call, if there is such an event. Takes no memory.
     pub fn next_event(&self, run: &Run) -> Option<Event>
         requires { IsGraphOf self.now run.now }
         ensures some { IfSome result (λ event. IsEnabled (seen self.now) (happening_of event)) }
+        ensures no_answer { IfSome result (λ event. is_finish event ≡ false) }
         ensures of { IfSome result (IsEventOf run.now) }
         ensures none { IfNone result ((e : Happening) → enabled (seen self.now) e ≡ false) }
     {

@@ -1,4 +1,8 @@
 //! The owner's end of both queues, and the hands' ends.
+//!
+//! Of a call that finds a queue full, or empty, the clauses `full` and `empty` say that by the rule, and by what the end knows, there was such a
+//! moment. They cannot say that the call looked: a step that is refused leaves what a pass knows as it was, and so tells it no more than it could
+//! have known. A body that never looks meets them, at `give` once as many jobs were given as there is room for. Tests refuse it.
 ghost use Rattle.std.specs.Prelude.{◌≡◌, ◌<◌, IfErr, IfNone, IfOk, IfSome, OnErr, OnOk, Some};
 ghost use Rattle.sn_model.specs.Ranges.{IsWithin};
 ghost use Rattle.sn_model.specs.declared.run.TheConstants.{LONGEST_QUEUE};
@@ -71,7 +75,8 @@ impl Model for JobHand {
 }
 
 impl JobOwner {
-    /// Gives a job of the run. It comes back, which is called full, only where the queue was full at a step of this call. Takes no memory.
+    /// Gives a job of the run. It comes back, which is called full, only where the queue was full at a step of this call (of which `full` says
+    /// what a clause can). Takes no memory.
     pub fn give<R: Wait>(&mut self, rt: &R, job: Job) -> Result<(), Job>
         requires { IsJobOf self.old.made.run job }
         ensures given { OnOk result (self.new ≡ gives self.old job) }
@@ -84,7 +89,8 @@ impl JobOwner {
         jobs.push_as::<Gives, R>(rt, &mut self.job_pass, job)
     }
 
-    /// Collects an answer, which is of the run. There is none only where the queue was empty at a step of this call. Takes no memory.
+    /// Collects an answer, which is of the run. There is none only where the queue was empty at a step of this call (of which `empty` says what a
+    /// clause can). Takes no memory.
     pub fn collect<R: Wait>(&mut self, rt: &R) -> Option<Done>
         ensures collected { IfSome result (λ done. self.new ≡ collects self.old done) }
         ensures made { self.new.made ≡ self.old.made }
@@ -98,7 +104,8 @@ impl JobOwner {
 }
 
 impl JobHand {
-    /// Takes a job, which is of the run. There is none only where the queue was empty at a step of this call. Takes no memory.
+    /// Takes a job, which is of the run. There is none only where the queue was empty at a step of this call (of which `empty` says what a clause
+    /// can). Takes no memory.
     pub fn take<R: Wait>(&mut self, rt: &R) -> Option<Job>
         ensures taken { IfSome result (λ job. self.new ≡ takes self.old job) }
         ensures made { self.new.made ≡ self.old.made }
@@ -110,8 +117,8 @@ impl JobHand {
         jobs.pop_as::<Takes, R>(rt, &mut self.job_pass)
     }
 
-    /// Gives an answer of the run. It comes back, which is called full, only where the queue was full at a step of this call. Takes no
-    /// memory.
+    /// Gives an answer of the run. It comes back, which is called full, only where the queue was full at a step of this call (of which `full` says
+    /// what a clause can). Takes no memory.
     pub fn answer<R: Wait>(&mut self, rt: &R, done: Done) -> Result<(), Done>
         requires { IsDoneOf self.old.made.run done }
         ensures answered { OnOk result (self.new ≡ answers self.old done) }

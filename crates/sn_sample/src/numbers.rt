@@ -1,9 +1,8 @@
 ghost use Rattle.std.specs.Prelude.{◌≡◌, ◌<◌};
 ghost use Rattle.sn_sample.specs.Numbers.{next};
 
-/// The number behind another, below 2,147,483,648 both.
+/// The number behind another, which is below 2,147,483,648.
 pub fn next_number(x: u32) -> u32
-    requires { x < 2_147_483_648 }
     ensures next { result ≡ next x }
     ensures below { result < 2_147_483_648 }
 {

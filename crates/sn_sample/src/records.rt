@@ -1,4 +1,4 @@
-ghost use Rattle.std.specs.Prelude.{◌≡◌, ◌<◌, codes, IfOk, IsTrue};
+ghost use Rattle.std.specs.Prelude.{◌≡◌, codes, IfOk, IsTrue};
 ghost use Rattle.sn_names.specs.Names.{is_held, number_in};
 ghost use Rattle.sn_sample.specs.Records.{HasLabels, sample_items, sample_record};
 
@@ -38,14 +38,13 @@ fn record_of(alloc: Global, names: &Names, x: u32) -> Result<Record, Memory>
 
 /// The records of a number, from the first to one of so many, as items that flow.
 ///
-/// The number is below 2,147,483,648, and the names `v`, `k` and `n` are held.
+/// The names `v`, `k` and `n` are held.
 pub fn sample_records(
     alloc: Global,
     number: u32,
     count: u32,
     names: &Names,
 ) -> Result<Items, Memory>
-    requires number { number < 2_147_483_648 }
     requires names { HasLabels names.now }
     ensures { IfOk result (λ items. items ≡ sample_items names.now number count) }
 {

@@ -1,4 +1,8 @@
 //! The two ends of a stream.
+//!
+//! Of a call that finds the stream full, or empty, the clauses `full` and `empty` say that by the rule, and by what the end knows, there was such
+//! a moment. They cannot say that the call looked: a step that is refused leaves what a pass knows as it was, and so tells it no more than it
+//! could have known. A body that never looks meets them, at `put` once as many entries were put as there is room for. Tests refuse it.
 ghost use Rattle.std.specs.Prelude.{◌≡◌, ◌++◌, ◌∷◌, [], IfErr, IfNone, IfOk, IfSome, IsTrue, OnErr, OnOk};
 ghost use mathlib.Core.List.{IsPrefix};
 ghost use Rattle.sn_model.specs.Ranges.{IsWithin};
@@ -69,8 +73,8 @@ impl Model for GetEnd {
 }
 
 impl PutEnd {
-    /// Puts the next entry of the history. It comes back, which is called full, only where the stream was full at a step of this call.
-    /// Takes no memory.
+    /// Puts the next entry of the history. It comes back, which is called full, only where the stream was full at a step of this call (of which
+    /// `full` says what a clause can). Takes no memory.
     pub fn put<R: Wait>(&mut self, rt: &R, x: StreamItem) -> Result<(), StreamItem>
         requires next { IsPrefix (passed (self.old.moved ++ x ∷ [])) (history_of self.old) }
         ensures put { OnOk result (self.new ≡ moves self.old x) }
@@ -86,7 +90,8 @@ impl PutEnd {
 }
 
 impl GetEnd {
-    /// Gets the next entry of the history. There is none only where the stream held none at a step of this call. Takes no memory.
+    /// Gets the next entry of the history. There is none only where the stream held none at a step of this call (of which `empty` says what a
+    /// clause can). Takes no memory.
     pub fn get<R: Wait>(&mut self, rt: &R) -> Option<StreamItem>
         ensures got { IfSome result (λ x. self.new ≡ moves self.old x) }
         ensures made { self.new.made ≡ self.old.made }

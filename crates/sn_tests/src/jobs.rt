@@ -16,7 +16,7 @@ use std::thread::{Threads, join, yield_now};
 const MOST_TURNS: u64 = 10_000_000;
 
 /// A run of one box over a record.
-fn started(rt: &impl Abort, alloc: Global) -> Arc<Run> {
+pub fn started(rt: &impl Abort, alloc: Global) -> Arc<Run> {
     let source = "box b ((a) -> (b)) { out 1(a + 1) } net main ({a} -> {b}) connect b;";
     let Loaded { run, names: _ } = load(alloc, source, "{a=1}", 16).expect(
         rt,
@@ -26,7 +26,7 @@ fn started(rt: &impl Abort, alloc: Global) -> Arc<Run> {
 }
 
 /// A copy of the run's first record.
-fn given(rt: &impl Abort, run: &Run) -> Record {
+pub fn given(rt: &impl Abort, run: &Run) -> Record {
     let given = match run.items().as_slice() {
         [Item::Rec(given), ..] => Some(given),
         _ => None,
@@ -35,7 +35,7 @@ fn given(rt: &impl Abort, run: &Run) -> Record {
 }
 
 /// A job of the run's first box with the record, where the box takes such records.
-fn job_of(rt: &impl Abort, alloc: Global, run: &Run, call: u64, given: Record) -> Option<Job>
+pub fn job_of(rt: &impl Abort, alloc: Global, run: &Run, call: u64, given: Record) -> Option<Job>
     ensures { IfSome result (IsJobOf run.now) }
 {
     let [first, ..] = run.boxes().as_slice() else {

@@ -1,5 +1,5 @@
 //! What comes of a program for the records of a number, counted.
-ghost use Rattle.std.specs.Prelude.{◌≡◌, ◌<◌, IfOk, IfErr, IsTrue};
+ghost use Rattle.std.specs.Prelude.{◌≡◌, IfOk, IfErr, IsTrue};
 ghost use Rattle.sn_net.specs.WellFormed.{FitsBoxes};
 ghost use Rattle.sn_typing.specs.Accepted.{IsAccepted};
 ghost use Rattle.sn_output.specs.Printed.{ending};
@@ -75,7 +75,6 @@ pub fn count_sample<R: Threads + Wait + Sync, G: Gate>(
     count: u32,
     gate: &G,
 ) -> Result<(Tally, Option<Fault>), Stop>
-    requires number { number < 2_147_483_648 }
     requires formed { FitsBoxes program.boxes program.claim.net }
     requires accepted { IsAccepted program.boxes program.claim }
     ensures counted { IfOk result (λ made. HasCounted program number count (counts_of made.0) made.1) }

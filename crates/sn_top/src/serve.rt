@@ -1,5 +1,5 @@
 //! The top calls.
-ghost use Rattle.std.specs.Prelude.{◌≡◌, ◌≢◌, ◌≤◌, ◌<◌, ℕ, List, Ok, IfErr, OnOk, false, map};
+ghost use Rattle.std.specs.Prelude.{◌≡◌, ◌≢◌, ◌≤◌, ℕ, List, Ok, IfErr, OnOk, false, map};
 ghost use Rattle.std.specs.String.{string_bytes};
 ghost use Rattle.sn_io.specs.Told.{appended};
 ghost use Rattle.sn_load.specs.Load.{AreLimits, limits_of};
@@ -65,7 +65,6 @@ fn run_sample<R: Threads + Wait + Sync, O: Sink, G: Gate>(
     gate: &G,
     out: &mut O,
 ) -> Result<(), Stop>
-    requires number { number < 2_147_483_648 }
     ensures done { OnOk result ((p : List ℕ)
         × FindsSample number count (Ok (whole p))
         × (O.held out.new ≡ appended (O.held out.old) p)) }

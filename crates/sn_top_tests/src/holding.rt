@@ -1,46 +1,59 @@
 //! A gate that holds calls, to see how many run at once.
 use sn_io::Gate;
-use std::sync::atomic::{AtomicBool, AtomicU64, Ordering};
-use std::thread;
+use std::sync::Wait;
+use std::sync::atomic::{AtomicU64, Ordering};
+use std::thread::Parker;
+use std::time::Duration;
 
-/// Holds each call until so many were inside at once, or for so many turns.
+/// Holds each call until so many were inside at once, or for so many milliseconds, and counts the calls.
 #[derive(Drop)]
-pub struct Holding {
+pub struct Holding<'a, R> {
+    rt: &'a R,
+    entered: AtomicU64,
     inside: AtomicU64,
     most: AtomicU64,
     wanted: u64,
-    turns: u64,
-    missed: AtomicBool,
+    milliseconds: u64,
 }
 
-impl Holding {
-    pub fn new(wanted: u64, turns: u64) -> Holding {
+impl<R: Wait + Sync> Holding<'_, R> {
+    pub fn new(rt: &R, wanted: u64, milliseconds: u64) -> Holding<'_, R> {
         Holding {
+            rt,
+            entered: AtomicU64::new(0),
             inside: AtomicU64::new(0),
             most: AtomicU64::new(0),
             wanted,
-            turns,
-            missed: AtomicBool::new(false),
+            milliseconds,
         }
     }
 
-    /// Whether so many were inside at once, and no call was held too long.
-    pub fn is_met(&self) -> bool {
-        !self.missed.load(Ordering::SeqCst)
+    /// How many calls came, all of which have left again.
+    pub fn calls(&self) -> Option<u64> {
+        if self.inside.load(Ordering::SeqCst) != 0 {
+            return None;
+        }
+        Some(self.entered.load(Ordering::SeqCst))
+    }
+
+    /// How many were inside at once, at most.
+    pub fn most(&self) -> u64 {
+        self.most.load(Ordering::SeqCst)
     }
 }
 
-impl Gate for Holding {
+impl<R: Wait + Sync> Gate for Holding<'_, R> {
     fn enter(&self, _call: u64) {
+        self.entered.fetch_add(1, Ordering::SeqCst);
         let inside = self.inside.fetch_add(1, Ordering::SeqCst).wrapping_add(1);
         self.most.fetch_max(inside, Ordering::SeqCst);
-        for _ in 0..self.turns {
+        let bed = Parker::new();
+        for _ in 0..self.milliseconds {
             if self.most.load(Ordering::SeqCst) >= self.wanted {
                 return;
             }
-            thread::yield_now();
+            bed.park_timeout(self.rt, Duration::from_millis(1));
         }
-        self.missed.store(true, Ordering::SeqCst);
     }
 
     fn leave(&self, _call: u64) {

@@ -27,8 +27,11 @@ const FOUR_FREE: &str =
 /// A record for each of the four boxes.
 const ONE_EACH: &str = "{a=1}\n{b=2}\n{c=3}\n{d=4}\n";
 
-/// A call that is held longer than this many turns has failed the test.
-const LIMIT: u64 = 1_000_000;
+/// A call waits for others that must come for at most so many milliseconds, after which they have failed to.
+const LIMIT: u64 = 10_000;
+
+/// It waits so many milliseconds for one that must never come, in which an idle worker would have come.
+const PATIENCE: u64 = 100;
 
 /// Whether all went well and one of the texts is printed, and nothing on `err`.
 fn is_one_of(served: &Served, texts: &[&str]) -> bool {
@@ -75,53 +78,84 @@ fn a_free_choice_prints_what_it_may(rt: HostRuntime) {
     }
 }
 
-/// Whether `wanted` calls run at once with so many workers. Each call is held for it for so many turns.
-fn run_at_once<R: Abort + Threads + Wait + Sync>(
+/// How many calls of four run at once, where each is held until this many are inside or for so many milliseconds: from the least to the most.
+struct Overlap<'a> {
+    workers: &'a str,
+    until: u64,
+    milliseconds: u64,
+    least: u64,
+    most: u64,
+}
+
+/// Whether the four calls of a run came, one for each record, and so many of them ran at once.
+fn overlaps<R: Abort + Threads + Wait + Sync>(
     rt: &R,
     alloc: Global,
     source: &str,
     input: &str,
-    workers: &str,
-    gate: Holding,
+    overlap: &Overlap,
 ) -> bool {
-    let words = ["run", "s", "i", "--workers", workers];
+    let gate = Holding::new(rt, overlap.until, overlap.milliseconds);
+    let words = ["run", "s", "i", "--workers", overlap.workers];
     let stored = files(rt, alloc, source.as_bytes(), input.as_bytes());
     let served = serve_files(rt, alloc, &words, stored, sink(rt, alloc, 64), &gate);
-    served.status == Status::Ok && gate.is_met()
+    let all_came = gate.calls() == Some(4);
+    let within = overlap.least <= gate.most() && gate.most() <= overlap.most;
+    served.status == Status::Ok && all_came && within
 }
 
 #[test]
 fn two_calls_run_at_once(rt: HostRuntime) {
+    let overlap = Overlap {
+        workers: "4",
+        until: 2,
+        milliseconds: LIMIT,
+        least: 2,
+        most: 4,
+    };
     for source in [IN_ORDER, FREE] {
-        let gate = Holding::new(2, LIMIT);
-        let is_met = run_at_once(&rt, rt.alloc(), source, TWO_EACH, "4", gate);
-        assert!(rt; is_met, "{source}");
+        let is_so = overlaps(&rt, rt.alloc(), source, TWO_EACH, &overlap);
+        assert!(rt; is_so, "{source}");
     }
+}
+
+/// Whether the four calls of four boxes overlap so, be they merged in order or freely.
+fn boxes_overlap<R: Abort + Threads + Wait + Sync>(rt: &R, alloc: Global, overlap: &Overlap) -> bool {
+    overlaps(rt, alloc, FOUR_IN_ORDER, ONE_EACH, overlap) && overlaps(rt, alloc, FOUR_FREE, ONE_EACH, overlap)
 }
 
 #[test]
 fn four_workers_call_three_at_once(rt: HostRuntime) {
-    for source in [FOUR_IN_ORDER, FOUR_FREE] {
-        let gate = Holding::new(3, LIMIT);
-        let is_met = run_at_once(&rt, rt.alloc(), source, ONE_EACH, "4", gate);
-        assert!(rt; is_met, "{source}");
-    }
+    let overlap = Overlap {
+        workers: "4",
+        until: 3,
+        milliseconds: LIMIT,
+        least: 3,
+        most: 4,
+    };
+    assert!(rt; boxes_overlap(&rt, rt.alloc(), &overlap));
 }
 
 #[test]
-fn two_workers_never_call_three_at_once(rt: HostRuntime) {
-    for source in [FOUR_IN_ORDER, FOUR_FREE] {
-        let gate = Holding::new(3, 1_000);
-        let is_met = run_at_once(&rt, rt.alloc(), source, ONE_EACH, "2", gate);
-        assert!(rt; !is_met, "{source}");
-    }
+fn two_workers_call_two_at_once_and_never_three(rt: HostRuntime) {
+    let overlap = Overlap {
+        workers: "2",
+        until: 3,
+        milliseconds: PATIENCE,
+        least: 2,
+        most: 2,
+    };
+    assert!(rt; boxes_overlap(&rt, rt.alloc(), &overlap));
 }
 
 #[test]
 fn one_worker_never_calls_two_at_once(rt: HostRuntime) {
-    for source in [FOUR_IN_ORDER, FOUR_FREE] {
-        let gate = Holding::new(2, 1_000);
-        let is_met = run_at_once(&rt, rt.alloc(), source, ONE_EACH, "1", gate);
-        assert!(rt; !is_met, "{source}");
-    }
+    let overlap = Overlap {
+        workers: "1",
+        until: 2,
+        milliseconds: PATIENCE,
+        least: 1,
+        most: 1,
+    };
+    assert!(rt; boxes_overlap(&rt, rt.alloc(), &overlap));
 }

@@ -10,26 +10,26 @@ use sn_io::Gate;
 use sn_jobs::JobHand;
 use std::sync::Wait;
 use std::thread;
-use std::thread::{Parker, Threads};
+use std::thread::Threads;
 
 /// Gives an answer, again and again where the queue is full, until the run is over.
 fn answer<R: Wait>(rt: &R, signals: &Signals, hand: &mut JobHand, done: Done)
     requires { IsDoneOf hand.old.made.run done }
     ensures { hand.new.made ≡ hand.old.made }
 {
-    let bed = Parker::new();
     let mut patience = Patience::new();
     let mut waiting = done;
     for _ in rt.forever() {
+        let rings = signals.room.rings();
         let Err(back) = hand.answer(rt, waiting) else {
-            signals.ring();
+            signals.answers.ring();
             return;
         };
         if signals.is_over() {
             return;
         }
         waiting = back;
-        patience.wait(rt, &bed);
+        patience.wait(rt, &signals.room, rings);
     }
 }
 
@@ -37,14 +37,14 @@ fn answer<R: Wait>(rt: &R, signals: &Signals, hand: &mut JobHand, done: Done)
 fn work<R: Wait, G: Gate>(rt: &R, hall: &Hall<G>, hand: &mut JobHand)
     requires { hand.old.made.run ≡ hall.now.run.now.value }
 {
-    let bed = Parker::new();
     let mut patience = Patience::new();
     for _ in rt.forever() {
+        let rings = hall.signals.jobs.rings();
         if hall.signals.is_over() {
             return;
         }
         let Some(job) = hand.take(rt) else {
-            patience.wait(rt, &bed);
+            patience.wait(rt, &hall.signals.jobs, rings);
             continue;
         };
         patience.renew();

@@ -1,4 +1,4 @@
-use Rattle.std.proofs.Common.{◌≡◌, ℕ, List, sym, subst, arith}
+use Rattle.std.proofs.Common.{◌≡◌, ℕ, List, sym, subst}
 use Rattle.std.specs.Prelude.{IfErr, Ok, OnOk}
 use Rattle.sn_io.specs.Told.{appended}
 use Rattle.sn_words.specs.declared.command.Command.{Command}
@@ -22,11 +22,6 @@ pub run_with_workers-requires-clause-queue : goal.run_with_workers-requires-clau
 run_with_workers-requires-clause-queue g c κs within =
     let numbers = subst IsInRange c.in-Run.is c.requires.numbers in
     record { some = numbers.6; few = numbers.7 }
-
-pub run_sample-requires-clause-number : goal.run_sample-requires-clause-number
-run_sample-requires-clause-number g c κs within =
-    let numbers = subst IsInRange c.in-Sample.is c.requires.numbers in
-    omega (arith, numbers.0)
 
 pub returns-in-Sample-clause-done : goal.returns-in-Sample-clause-done
 returns-in-Sample-clause-done g c =
