@@ -11,7 +11,7 @@ use Rattle.sn_record.proofs.Sets.{contains-insert, contains-union, contains-minu
 use Rattle.sn_net.specs.Face.{variant_of}
 use Rattle.sn_typing.specs.Typed.{labels_of}
 
-or_false : (b : Bool) → (b || false) ≡ b
+pub or_false : (b : Bool) → (b || false) ≡ b
 or_false true = refl
 or_false false = refl
 

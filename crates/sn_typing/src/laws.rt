@@ -46,3 +46,8 @@ pub fn safe_where_all_are_routed()
 pub fn closed_sets_make_safe()
     ensures { (exit : Labels) (guarded : Bool) (body : Outline) (v : Labels) (members : List Labels) → IsClosedSet exit guarded body v members → Safe (Star exit guarded body) v }
 {}
+
+/// Where a star is safe for a variant, there is such a set: the labels of a network are finitely many.
+pub fn safe_stars_have_closed_sets()
+    ensures { (exit : Labels) (guarded : Bool) (body : Outline) (v : Labels) → Safe (Star exit guarded body) v → (members : List Labels) × IsClosedSet exit guarded body v members }
+{}
