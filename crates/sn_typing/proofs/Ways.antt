@@ -7,11 +7,11 @@ abbrev pub Way : {A : Type 0} → (A → A → Type 0) → List A → A → A �
 Way edge [] u w = edge u w
 Way edge (x ∷ xs) u w = Way edge xs u w ⊎ (Way edge xs u x × Way edge xs x w)
 
-pub dec_way : {A : Type 0} (edge : A → A → Type 0) → ((u w : A) → Dec (edge u w)) → (xs : List A) (u w : A) → Dec (Way edge xs u w)
+dec_way : {A : Type 0} (edge : A → A → Type 0) → ((u w : A) → Dec (edge u w)) → (xs : List A) (u w : A) → Dec (Way edge xs u w)
 dec_way edge dec [] u w = dec u w
 dec_way edge dec (x ∷ xs) u w = dec_either (dec_way edge dec xs u w) (dec_both (dec_way edge dec xs u x) (dec_way edge dec xs x w))
 
-pub edge_way : {A : Type 0} (edge : A → A → Type 0) (xs : List A) (u w : A) → edge u w → Way edge xs u w
+edge_way : {A : Type 0} (edge : A → A → Type 0) (xs : List A) (u w : A) → edge u w → Way edge xs u w
 edge_way edge [] u w step = step
 edge_way edge (x ∷ xs) u w step = inl (edge_way edge xs u w step)
 
@@ -23,7 +23,7 @@ meet_first edge x xs u w (inr (there, around)) (inl on) = inr (there, on)
 meet_first edge x xs u w (inr (there, around)) (inr (again, on)) = inr (there, on)
 
 -- two ways that meet at one of the places are one
-pub way_through : {A : Type 0} (edge : A → A → Type 0) (xs : List A) (k u w : A) → Among xs k → Way edge xs u k → Way edge xs k w → Way edge xs u w
+way_through : {A : Type 0} (edge : A → A → Type 0) (xs : List A) (k u w : A) → Among xs k → Way edge xs u k → Way edge xs k w → Way edge xs u w
 way_through edge [] k u w among there on = absurd among
 way_through edge (x ∷ xs) k u w (inl same) there on =
     meet_first edge x xs u w (subst (λ t. Way edge (x ∷ xs) u t) (sym same) there) (subst (λ t. Way edge (x ∷ xs) t w) (sym same) on)
