@@ -4,7 +4,7 @@ use Rattle.sn_farm.specs.Events.{Emits}
 use Rattle.sn_farm.specs.Turns.{Goes, shows}
 use Rattle.sn_farm.specs.declared.desk.Turn.{Turn}
 use Rattle.sn_farm.proofs.Leaving.{answered}
-use Rattle.sn_farm.proofs.Turning.{nothing, refused}
+use Rattle.sn_farm.proofs.Turning.{goes_then, nothing}
 use Rattle.sn_farm.proofs.desk.finish.Goals as goal
 use Rattle.sn_farm.proofs.desk.finish.Goals.{in-Err-Memory, in-Ok, in-Ok-2}
 
@@ -14,7 +14,7 @@ returns-clause-goes g c names held faults =
     let silent : Emits [] (seen c.args.graph.now) (seen c.apply.new.graph) =
     answered c.apply.result c.args.done (seen c.args.graph.now) (seen c.apply.new.graph) c.apply.ensures.emits c.apply.ensures.quiet in
     elim c.match-apply.branch [
-      | in-Err-Memory w ↦ subst ends (sym w.result-is) (refused names (seen c.args.graph.now) (seen c.apply.new.graph) held faults silent)
+      | in-Err-Memory w ↦ subst ends (sym w.result-is) (goes_then names _ _ _ _ (nothing names (seen c.args.graph.now) (seen c.apply.new.graph) held faults silent) (w.end_at_refusal.ensures names held faults))
       | in-Ok w ↦ subst ends (sym w.result-is) (nothing names (seen c.args.graph.now) (seen c.apply.new.graph) held faults silent)
       | in-Ok-2 w ↦ subst ends (sym w.result-is) (nothing names (seen c.args.graph.now) (seen c.apply.new.graph) held faults silent)
     ]

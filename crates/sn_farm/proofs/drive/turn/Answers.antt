@@ -1,4 +1,3 @@
-use Rattle.sn_graph.specs.Graph.{seen}
 use Rattle.sn_farm.proofs.drive.turn.Goals as goal
 
 pub returns-in-Some-clause-goes : goal.returns-in-Some-clause-goes
@@ -9,3 +8,6 @@ returns-in-Some-take-clause-goes g c = c.call_here.ensures.goes c.args.out.now.n
 
 pub returns-clause-goes : goal.returns-clause-goes
 returns-clause-goes g c = c.rest_or_wait.ensures c.args.out.now.names.now _ _
+
+pub returns-then-is_refused-clause-goes : goal.returns-then-is_refused-clause-goes
+returns-then-is_refused-clause-goes g c = c.end_at_refusal.ensures c.args.out.now.names.now _ _
