@@ -12,3 +12,9 @@ pub mod Boxes
 pub mod Entries
 pub mod Declarations
 pub mod Resolutions
+pub mod Limits
+pub mod Levels
+pub mod Places
+pub mod Trees
+pub mod Types
+pub mod Known
