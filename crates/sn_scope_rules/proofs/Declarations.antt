@@ -142,7 +142,7 @@ taken_goes scopes scope outer same name least = subst (λ b. Goes least (Taken s
 abbrev pub more : Scopes → Ident → Meaning → Scopes
 more scopes name m = record { outer = scopes.outer; current = declared scopes.current name.text m }
 
-more_matches : (scopes : Scopes) (scope : List Decl) (outer : Around) → Matches scopes scope outer → (d : Decl) (m : Meaning) → meaning_sort m ≡ decl_sort d → Matches (more scopes (name_of d) m) (scope ++ d ∷ []) outer
+pub more_matches : (scopes : Scopes) (scope : List Decl) (outer : Around) → Matches scopes scope outer → (d : Decl) (m : Meaning) → meaning_sort m ≡ decl_sort d → Matches (more scopes (name_of d) m) (scope ++ d ∷ []) outer
 more_matches scopes scope outer same d m sort = record { current = table_more scopes.current scope d m same.current sort; around = same.around }
 
 -- a change refuses the least of what there was and what breaks the rules

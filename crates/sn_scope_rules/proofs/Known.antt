@@ -59,7 +59,7 @@ grows_on a b c one other = record {
   more_signatures = other.more_signatures ∙ ap (λ xs. xs ++ other.signatures) one.more_signatures ∙ append_assoc a.signatures one.signatures other.signatures;
 }
 
-still_there : {A : Type 0} (xs ys : List A) (k : ℕ) (x : A) → slice_get xs k ≡ Some x → slice_get (xs ++ ys) k ≡ Some x
+pub still_there : {A : Type 0} (xs ys : List A) (k : ℕ) (x : A) → slice_get xs k ≡ Some x → slice_get (xs ++ ys) k ≡ Some x
 still_there xs ys k x is = get_left xs ys k (slice_get_within xs k x is) ∙ is
 
 module _ (names : List (List ℕ)) (boxes : List BoxProgram) where

@@ -18,3 +18,5 @@ pub mod Places
 pub mod Trees
 pub mod Types
 pub mod Known
+pub mod Mains
+pub mod Declaring
