@@ -1,5 +1,5 @@
 -- What declarations add to the tables is what they declare.
-use Rattle.std.proofs.Common.{◌≡◌, ℕ, zero, suc, ◌<◌, ◌+◌, ◌==◌, ◌&&◌, Bool, true, false, if◌then◌else◌, List, [], ◌∷◌, ◌++◌, length, map as each, Option, Some, None, option_map, slice_get, unwrap_or, bytes_eq, codes, refl, sym, ap, ◌∙◌, subst, subst₂, append-nil, append_assoc, map-id, arith}
+use Rattle.std.proofs.Common.{◌≡◌, ℕ, suc, ◌<◌, ◌+◌, ◌==◌, ◌&&◌, Bool, true, false, if◌then◌else◌, List, [], ◌∷◌, ◌++◌, length, map as each, Option, Some, None, option_map, slice_get, unwrap_or, bytes_eq, codes, refl, sym, ap, ◌∙◌, subst, subst₂, append-nil, append_assoc, map-id, arith}
 use Rattle.std.specs.List.{flat_map}
 use Rattle.std.proofs.lemmas.List.{length-append, length-map, length_push}
 use Rattle.std.proofs.lemmas.Bool.Decides.{nat_tests}
@@ -20,9 +20,9 @@ use Rattle.sn_net.specs.declared.expr.BoxProgram.{BoxProgram}
 use Rattle.sn_net.specs.declared.net.Net.{Net}
 use Rattle.sn_record.specs.LabelSet.{Labels}
 use Rattle.sn_scope.specs.Built.{part_of}
-use Rattle.sn_scope.specs.Declarations.{Change, after, after_box, after_net, after_sig, after_type, all_after, decl_step, declarations_of, ended, net_at, net_number, net_signature, net_step, number_at, start, with_claim, with_meaning, with_net, with_net_signature, with_signature, within}
+use Rattle.sn_scope.specs.Declarations.{Change, after, after_box, after_net, after_sig, after_type, all_after, decl_step, ended, net_at, net_number, net_signature, net_step, number_at, start, with_claim, with_net, with_net_signature, with_signature, within}
 use Rattle.sn_scope.specs.Networks.{network_at}
-use Rattle.sn_scope.specs.Scopes.{declared, empty_scope, entered_scope, left_scope, meaning_in, meaning_of, signature_number, signature_of}
+use Rattle.sn_scope.specs.Scopes.{meaning_in, meaning_of, signature_number}
 use Rattle.sn_scope.specs.Trees.{then_some, tree}
 use Rattle.sn_scope.specs.Types.{type_at}
 use Rattle.sn_scope.specs.declared.declarations.Declarations.{Declarations}
@@ -38,25 +38,24 @@ use Rattle.sn_scope.proofs.Levels.{component-Named, part-Made}
 use Rattle.sn_scope_rules.specs.Claims.{Signed, SignedIn, is_main, is_net, name_of as signed_name}
 use Rattle.sn_scope_rules.specs.Claims.SignedIn.{no_more, no_net, with_one, without}
 use Rattle.sn_scope_rules.specs.Declared.{boxes_before, boxes_in, boxes_of, boxes_step, net_step as net_boxes}
-use Rattle.sn_scope_rules.specs.Labels.{SigBreaks, TypeBreaks}
+use Rattle.sn_scope_rules.specs.Labels.{SigBreaks}
 use Rattle.sn_scope_rules.specs.Labels.SigBreaks.{in_input, in_output, no_such_signature}
 use Rattle.sn_scope_rules.specs.Networks.{NetworkBreaks}
 use Rattle.sn_scope_rules.specs.Programs.{DeclBreaks}
-use Rattle.sn_scope_rules.specs.Programs.DeclBreaks.{in_box, in_inner, in_net_sig, in_network, in_sig, in_type, name_twice}
+use Rattle.sn_scope_rules.specs.Programs.DeclBreaks.{in_inner, in_net_sig, in_network, in_sig, in_type, name_twice}
 use Rattle.sn_scope_rules.specs.Standing.{Beside, StandsBehind}
 use Rattle.sn_scope_rules.specs.Standing.StandsBehind.{foremost, further}
 use Rattle.sn_scope_rules.specs.Trees.{TreeOf}
-use Rattle.sn_scope_rules.specs.Types.{SignatureOf, VariantsOf, once}
+use Rattle.sn_scope_rules.specs.Types.{VariantsOf, once}
 use Rattle.sn_scope_rules.specs.Types.SignatureOf.{arrow, named_signature}
 use Rattle.sn_scope_rules.specs.Visible.{Around, first_named, found_at, is_declared, is_signature, name_in, name_of, within as within_outer}
 use Rattle.sn_scope_rules.proofs.Declarations.{left_entered, more, more_matches}
 use Rattle.sn_scope_rules.proofs.Known.{Grows, Knows, Means, MeansForm, NetMeans, SignatureMeans, declared_meaning, grows_itself, grows_on, known, known_form, means_grow, more_named, net_grows, sees_parts, sees_types, signature_grows, still_there}
 use Rattle.sn_scope_rules.proofs.Levels.{At, Ties}
 use Rattle.sn_scope_rules.proofs.Mains.{inner_main, main_append, main_from}
-use Rattle.sn_scope_rules.proofs.Places.{Found}
 use Rattle.sn_scope_rules.proofs.Trees.{network_ties}
 use Rattle.sn_scope_rules.proofs.Types.{found_kind, type_gives}
-use Rattle.sn_scope_rules.proofs.Visible.{Matches, Sort, around_of, decl_sort, empty_matches, entered_matches, fold_last, form_sort, get_last, meaning_sort}
+use Rattle.sn_scope_rules.proofs.Visible.{Matches, around_of, decl_sort, empty_matches, entered_matches, fold_last, form_sort, get_last, meaning_sort}
 
 pub beside_append : {A B : Type 0} (P : A → B → Type 0) (xs : List A) (ys : List B) (us : List A) (vs : List B) → Beside P xs ys → Beside P us vs → Beside P (xs ++ us) (ys ++ vs)
 beside_append P [] [] us vs one other = other
@@ -212,7 +211,12 @@ module _ (names : List (List ℕ)) (boxes : List BoxProgram) where
   -- a signature
   signature_grows_by : (sig : Sig) (st : Declarations) → Grows st (with_signature names sig st)
   signature_grows_by (Arrow input output) st = record {
-    nets = []; types = []; signatures = _ ∷ []; more_nets = sym (append-nil st.nets); more_types = sym (append-nil st.types); more_signatures = refl;
+    nets = [];
+    types = [];
+    signatures = _ ∷ [];
+    more_nets = sym (append-nil st.nets);
+    more_types = sym (append-nil st.types);
+    more_signatures = refl;
   }
   signature_grows_by (NamedSig name) st = record { nets = []; types = []; signatures = []; more_nets = sym (append-nil st.nets); more_types = sym (append-nil st.types); more_signatures = sym (append-nil st.signatures) }
 
@@ -220,10 +224,13 @@ module _ (names : List (List ℕ)) (boxes : List BoxProgram) where
       → SignatureMeans names boxes (with_signature names sig st) (number_at sig st) (scope ∷ outer) sig
   signature_means st scope outer knows (Arrow input output) fine =
       let i = type_gives names st.types st.scopes (scope ∷ outer) (sees_types names boxes st scope outer knows) input (λ r one. fine r (in_input one)) in
-      let o = type_gives names st.types st.scopes (scope ∷ outer) (sees_types names boxes st scope outer knows) output (λ r one. fine r (in_output one)) in
-      (once i.0, once o.0, arrow i.1 o.1,
-      get_last st.signatures (record { input = type_at names st.scopes st.types input; output = type_at names st.scopes st.types output }) (length st.signatures) refl
-      ∙ ap Some (signature_same (type_at names st.scopes st.types input) (once i.0) (type_at names st.scopes st.types output) (once o.0) i.2 o.2))
+      let o = type_gives names st.types st.scopes (scope ∷ outer) (sees_types names boxes st scope outer knows) output (λ r one. fine r (in_output one)) in (
+        once i.0,
+        once o.0,
+        arrow i.1 o.1,
+        get_last st.signatures (record { input = type_at names st.scopes st.types input; output = type_at names st.scopes st.types output }) (length st.signatures) refl
+            ∙ ap Some (signature_same (type_at names st.scopes st.types input) (once i.0) (type_at names st.scopes st.types output) (once o.0) i.2 o.2),
+      )
     where
       signature_same : (a b c d : List Labels) → a ≡ b → c ≡ d → Path Signature (record { input = a; output = c }) (record { input = b; output = d })
       signature_same a b c d one other = λ k. record { input = one k; output = other k }
@@ -236,8 +243,12 @@ module _ (names : List (List ℕ)) (boxes : List BoxProgram) where
       by_form decl there is (Decl-F.BoxDecl declaration) at kind seen = cc
       by_form decl there is (Decl-F.NetDecl called) at kind seen = cc
       by_form decl there is (Decl-F.TypeDecl own inner) at kind seen = cc
-      by_form decl there is (Decl-F.SigDecl own sig) at kind seen = (seen.2.0, seen.2.1, named_signature is at seen.2.2,
-        ap (λ m. slice_get st.signatures (unwrap_or (signature_number m) (length st.signatures))) seen.1 ∙ seen.2.3)
+      by_form decl there is (Decl-F.SigDecl own sig) at kind seen = (
+        seen.2.0,
+        seen.2.1,
+        named_signature is at seen.2.2,
+        ap (λ m. slice_get st.signatures (unwrap_or (signature_number m) (length st.signatures))) seen.1 ∙ seen.2.3,
+      )
 
   -- a declaration that is no net
   module _ (st new : Declarations) (scope : List Decl) (outer : Around) (d : Decl) (x : Decl-F Decl NetDecl) (at : out-Decl d ≡ x) (kind : is_net x ≡ false) (grows : Grows st new)
@@ -282,9 +293,10 @@ module _ (names : List (List ℕ)) (all : List BoxDecl) where
   box_tells d declaration at is has st scope outer knows fine begin = subst (λ (c : Change). Tells names boxes st (c st) scope outer d) (sym is)
       (simple_tells names boxes st (after_box names declaration st) scope outer d (Decl-F.BoxDecl declaration) at refl
       (record { nets = []; types = []; signatures = []; more_nets = sym (append-nil st.nets); more_types = sym (append-nil st.types); more_signatures = sym (append-nil st.signatures) })
-      (ap (λ bs. st.boxes ++ each (box_at names) bs) (sym has)) (meaning.Box (length st.boxes)) refl refl
-      (ap (λ n. Some (meaning.Box n)) (ap (λ (xs : List BoxProgram). length xs) knows.boxes_are ∙ length-map (boxes_before (scope ∷ outer)) (box_at names)),
-      begin_within (boxes_before (scope ∷ outer)) declaration (subst (λ bs. Begin (boxes_before (scope ∷ outer) ++ bs)) has begin)) refl refl)
+      (ap (λ bs. st.boxes ++ each (box_at names) bs) (sym has)) (meaning.Box (length st.boxes)) refl refl (
+        ap (λ n. Some (meaning.Box n)) (ap (λ (xs : List BoxProgram). length xs) knows.boxes_are ∙ length-map (boxes_before (scope ∷ outer)) (box_at names)),
+        begin_within (boxes_before (scope ∷ outer)) declaration (subst (λ bs. Begin (boxes_before (scope ∷ outer) ++ bs)) has begin),
+      ) refl refl)
 
   type_tells : (d : Decl) (name : Ident) (parts : List TypePart) → out-Decl d ≡ Decl-F.TypeDecl name parts → after names d ≡ after_type names name parts → boxes_of d ≡ [] → DeclTells d
   type_tells d name parts at is has st scope outer knows fine begin = subst (λ (c : Change). Tells names boxes st (c st) scope outer d) (sym is)
@@ -352,9 +364,11 @@ module _ (names : List (List ℕ)) (all : List BoxDecl) where
       new = behind (d ∷ ds) st
 
       first : Tells names boxes st mid scope outer d
-      first = one st scope outer knows (fine_first scope outer d ds fine)
-          (boxes_in ds ++ begin.0, begin.1 ∙ ap (λ xs. xs ++ begin.0) (sym (append_assoc (boxes_before (scope ∷ outer)) (boxes_of d) (boxes_in ds)))
-          ∙ append_assoc (boxes_before (scope ∷ outer) ++ boxes_of d) (boxes_in ds) begin.0)
+      first = one st scope outer knows (fine_first scope outer d ds fine) (
+        boxes_in ds ++ begin.0,
+        begin.1 ∙ ap (λ xs. xs ++ begin.0) (sym (append_assoc (boxes_before (scope ∷ outer)) (boxes_of d) (boxes_in ds)))
+            ∙ append_assoc (boxes_before (scope ∷ outer) ++ boxes_of d) (boxes_in ds) begin.0,
+      )
 
       others : RowTells names boxes mid new (scope ++ d ∷ []) outer ds
       others = rest mid (scope ++ d ∷ []) outer (knows_more names boxes st mid scope outer d knows (fine_name scope outer d (fine_first scope outer d ds fine)) first) (fine_rest scope outer d ds fine)
@@ -370,8 +384,12 @@ module _ (names : List (List ℕ)) (all : List BoxDecl) where
   -- tables that are as they were
   same_grows : (old new : Declarations) → new.nets ≡ old.nets → new.types ≡ old.types → new.signatures ≡ old.signatures → Grows old new
   same_grows old new nets types signatures = record {
-    nets = []; types = []; signatures = [];
-    more_nets = nets ∙ sym (append-nil old.nets); more_types = types ∙ sym (append-nil old.types); more_signatures = signatures ∙ sym (append-nil old.signatures);
+    nets = [];
+    types = [];
+    signatures = [];
+    more_nets = nets ∙ sym (append-nil old.nets);
+    more_types = types ∙ sym (append-nil old.types);
+    more_signatures = signatures ∙ sym (append-nil old.signatures);
   }
 
   -- what a signature leaves as it was

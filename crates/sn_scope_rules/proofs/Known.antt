@@ -1,11 +1,9 @@
 -- What the tables have behind declarations: for each name, what it stands for.
-use Rattle.std.proofs.Common.{◌≡◌, ℕ, zero, suc, ◌<◌, ◌≤◌, ◌+◌, Bool, true, false, ◌||◌, cond, if◌then◌else◌, List, [], ◌∷◌, ◌++◌, length, map as each, Option, Some, None, option_map, slice_get, bytes_eq, fold, refl, sym, ap, ◌∙◌, subst, append-nil, append_assoc, arith}
-use Rattle.std.specs.List.{list_any}
+use Rattle.std.proofs.Common.{◌≡◌, ℕ, ◌<◌, ◌≤◌, Bool, true, false, ◌||◌, if◌then◌else◌, List, [], ◌∷◌, ◌++◌, length, map as each, Option, Some, None, option_map, slice_get, bytes_eq, refl, sym, ap, ◌∙◌, subst, append-nil, append_assoc, arith}
 use Rattle.std.specs.Option.{option_or}
 use Rattle.std.proofs.lemmas.List.{length_push}
 use Rattle.std.proofs.lemmas.List.Folds.{list_any-append}
-use Rattle.std.proofs.lemmas.Option.{slice_get_past, slice_get_within, none-some, same_Some}
-use Rattle.sn_ast.specs.declared.declaration.BoxDecl.{BoxDecl}
+use Rattle.std.proofs.lemmas.Option.{slice_get_past, slice_get_within}
 use Rattle.sn_ast.specs.declared.declaration.Decl.{Decl}
 use Rattle.sn_ast.specs.declared.declaration.Decl.TheOpen.{Decl-F}
 use Rattle.sn_ast.specs.declared.declaration.Decl.TheViews.{out-Decl, out-NetDecl}
@@ -16,10 +14,9 @@ use Rattle.sn_box_scope.specs.Boxes.{box_at}
 use Rattle.sn_names.specs.Names.{is_held, number_in}
 use Rattle.sn_names.proofs.NamesLaws.{number_in-append, number_in-held, number_in-new, number_in_last, same_text}
 use Rattle.sn_net.specs.declared.expr.BoxProgram.{BoxProgram}
-use Rattle.sn_net.specs.declared.net.Net.{Net}
 use Rattle.sn_record.specs.LabelSet.{Labels}
 use Rattle.sn_scope.specs.Built.{part_of}
-use Rattle.sn_scope.specs.Scopes.{declared, empty_scope, entered_scope, first_of, meaning_in, meaning_of}
+use Rattle.sn_scope.specs.Scopes.{declared, first_of, meaning_in, meaning_of}
 use Rattle.sn_scope.specs.declared.declarations.Declarations.{Declarations}
 use Rattle.sn_scope.specs.declared.declarations.Signature.{Signature}
 use Rattle.sn_scope.specs.declared.network.Component.{Component}
@@ -35,7 +32,7 @@ use Rattle.sn_scope_rules.proofs.Levels.{Ties}
 use Rattle.sn_scope_rules.proofs.Places.{Found, first_new, first_none, first_old}
 use Rattle.sn_scope_rules.proofs.Trees.{Sees, SeesForm}
 use Rattle.sn_scope_rules.proofs.Types.{SeesType, TypeMeans}
-use Rattle.sn_scope_rules.proofs.Visible.{Matches, around_of, fold_last, get_last, get_left}
+use Rattle.sn_scope_rules.proofs.Visible.{Matches, around_of, get_last, get_left}
 
 -- what was there before is there still
 pub record Grows (old new : Declarations) : Type 0 where

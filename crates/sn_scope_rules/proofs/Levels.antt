@@ -1,5 +1,5 @@
 -- What a level of a tree is made of, within the limits of height and width.
-use Rattle.std.proofs.Common.{◌≡◌, ℕ, zero, suc, ◌<◌, ◌≤◌, Bool, true, false, nat_le, if◌then◌else◌, List, [], ◌∷◌, length, map as each, Option, Some, None, option_map, refl, sym, ap, ◌∙◌, subst, arith}
+use Rattle.std.proofs.Common.{◌≡◌, ℕ, zero, suc, ◌≤◌, Bool, true, false, nat_le, if◌then◌else◌, List, [], ◌∷◌, length, map as each, Option, Some, None, option_map, refl, sym, ap, ◌∙◌, subst, arith}
 use Rattle.std.proofs.lemmas.Bool.Decides.{nat_tests}
 use Rattle.std.proofs.lemmas.Option.{none-some, same_Some}
 use Rattle.sn_net.specs.Face.{face}
@@ -14,7 +14,6 @@ use Rattle.sn_record.specs.LabelSet.{Labels}
 use Rattle.sn_scope.specs.Built.{node_of, part_of}
 use Rattle.sn_scope.specs.Trees.{all_some, in_series, most_variants, narrow, then_some, tree}
 use Rattle.sn_scope.specs.declared.network.Component.{Component}
-use Rattle.sn_scope.specs.declared.network.Network.{Network}
 use Rattle.sn_scope.specs.declared.network.Network.TheVariants.{Made}
 use Rattle.sn_scope.proofs.Levels.{part-Made}
 use Rattle.sn_tagexpr.specs.declared.expr.TagExpr.{TagExpr}
@@ -146,9 +145,10 @@ module _ (boxes : List BoxProgram) where
           let first = then_to left (λ l. option_map (λ r. net.Serial l r) right) t is in
           let second = map_to right (λ r. net.Serial first.0 r) t first.2 in
           let a = (one first.0).0 first.1 in
-          let b = (other second.0).0 second.1 in
-          ((first.0, second.0, a.0, b.0, sym second.2),
-          subst (Each (Fits boxes n)) (sym (ap parts_of (sym second.2) ∙ parts-Serial first.0 second.0)) (each_cons (Fits boxes n) first.0 (second.0 ∷ []) a.1 (each_cons (Fits boxes n) second.0 [] b.1 (each_nil (Fits boxes n)))))
+          let b = (other second.0).0 second.1 in (
+            (first.0, second.0, a.0, b.0, sym second.2),
+            subst (Each (Fits boxes n)) (sym (ap parts_of (sym second.2) ∙ parts-Serial first.0 second.0)) (each_cons (Fits boxes n) first.0 (second.0 ∷ []) a.1 (each_cons (Fits boxes n) second.0 [] b.1 (each_nil (Fits boxes n)))),
+          )
 
       from : InSeries A B t × Each (Fits boxes n) (parts_of t) → in_series left right ≡ Some t
       from both =

@@ -19,4 +19,6 @@ pub mod Trees
 pub mod Types
 pub mod Known
 pub mod Mains
+pub mod Signed
 pub mod Declaring
+pub mod Results

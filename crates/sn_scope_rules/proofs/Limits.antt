@@ -1,5 +1,5 @@
 -- How high and how wide a tree is, level by level.
-use Rattle.std.proofs.Common.{◌≡◌, ℕ, suc, ◌≤◌, List, [], ◌∷◌, length, map as each, refl, sym, ap, ◌∙◌, subst, arith}
+use Rattle.std.proofs.Common.{◌≡◌, ℕ, suc, ◌≤◌, List, [], ◌∷◌, length, map as each, refl, ap, ◌∙◌, arith}
 use Rattle.std.proofs.Math.Nat.{max-le, le-max_left, le-max_right}
 use Rattle.sn_net.specs.Face.{face}
 use Rattle.sn_net.specs.declared.expr.BoxProgram.{BoxProgram}

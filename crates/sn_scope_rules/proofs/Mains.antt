@@ -1,9 +1,9 @@
 -- Which of several nets with a signature is the last outermost `main`.
-use Rattle.std.proofs.Common.{◌≡◌, ℕ, zero, suc, ◌<◌, ◌+◌, ◌==◌, ◌&&◌, Bool, true, false, if◌then◌else◌, List, [], ◌∷◌, ◌++◌, length, Option, Some, None, slice_get, bytes_eq, codes, ◌⊎◌, inl, inr, refl, sym, ap, ◌∙◌, subst, arith}
+use Rattle.std.proofs.Common.{◌≡◌, ℕ, suc, ◌<◌, ◌+◌, ◌==◌, ◌&&◌, Bool, true, false, if◌then◌else◌, List, [], ◌∷◌, ◌++◌, length, Option, Some, None, slice_get, ◌⊎◌, inl, inr, refl, sym, ap, ◌∙◌, arith}
 use Rattle.std.proofs.lemmas.Bool.Decides.{nat_tests}
 use Rattle.std.proofs.lemmas.Option.{none-some, same_Some}
 use Rattle.sn_ast.specs.declared.declaration.Decl.{Decl}
-use Rattle.sn_scope_rules.specs.Claims.{Signed, SignedIn, HasMain, is_main}
+use Rattle.sn_scope_rules.specs.Claims.{Signed, SignedIn, is_main}
 use Rattle.sn_scope_rules.specs.Claims.SignedIn.{no_more, no_net, with_one, without}
 use Rattle.sn_scope_rules.specs.Standing.{StandsIn}
 use Rattle.sn_scope_rules.specs.Standing.StandsIn.{here, later}
@@ -38,7 +38,7 @@ inner_main before outer decls nets (with_one {inner} {more} net sig at some own 
     ∙ inner_main _ _ _ _ rest within (suc place + length inner) found
 
 -- the one that is found is among the nets, or was found before
-abbrev Within : List Signed → ℕ → ℕ → Type 0
+abbrev pub Within : List Signed → ℕ → ℕ → Type 0
 Within nets place i = (k : ℕ) × (net : Signed) × (i ≡ place + k) × (slice_get nets k ≡ Some net) × (is_main net ≡ true)
 
 pub main_found : (place : ℕ) (found : Option ℕ) (nets : List Signed) (i : ℕ) → main_from place found nets ≡ Some i → (found ≡ Some i) ⊎ Within nets place i

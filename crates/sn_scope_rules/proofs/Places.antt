@@ -1,6 +1,5 @@
 -- What a name stands for, and where that stands.
 use Rattle.std.proofs.Common.{◌≡◌, ℕ, Bool, true, false, ◌||◌, cond, if◌then◌else◌, List, [], ◌∷◌, ◌++◌, find, Option, Some, None, option_map, refl, ap, ◌∙◌}
-use Rattle.std.specs.List.{list_any}
 use Rattle.std.specs.Option.{option_or}
 use Rattle.sn_ast.specs.declared.declaration.Decl.{Decl}
 use Rattle.sn_scope_rules.specs.Visible.{Around, first_named, found_at, further_on, has_name, is_declared, stands_for, within}

@@ -1,16 +1,13 @@
 -- The variants of a type are those of its parts.
-use Rattle.std.proofs.Common.{◌≡◌, ℕ, Bool, true, false, List, [], ◌∷◌, ◌++◌, length, get_or, Option, Some, None, option_map, slice_get, unwrap_or, fold, refl, sym, ap, ◌∙◌, subst}
+use Rattle.std.proofs.Common.{◌≡◌, ℕ, Bool, true, false, List, [], ◌∷◌, ◌++◌, Option, Some, None, option_map, slice_get, unwrap_or, fold, refl, sym, ap, ◌∙◌}
 use Rattle.std.proofs.lemmas.Option.{get_or_from_slice_get}
 use Rattle.sn_ast.specs.declared.declaration.Decl.{Decl}
 use Rattle.sn_ast.specs.declared.declaration.Decl.TheOpen.{Decl-F}
 use Rattle.sn_ast.specs.declared.declaration.Decl.TheViews.{out-Decl}
 use Rattle.sn_ast.specs.declared.declaration.NetDecl.{NetDecl}
 use Rattle.sn_ast.specs.declared.label.Ident.{Ident}
-use Rattle.sn_ast.specs.declared.label.Sig.{Sig}
-use Rattle.sn_ast.specs.declared.label.Sig.TheVariants.{Arrow, Named as NamedSig}
 use Rattle.sn_ast.specs.declared.label.TypePart.{TypePart}
 use Rattle.sn_ast.specs.declared.label.TypePart.TheVariants.{Set, Named as NamedType}
-use Rattle.sn_ast.specs.declared.label.Variant.{Variant}
 use Rattle.sn_label_scope.specs.Labels.{variant_at}
 use Rattle.sn_label_scope.specs.declared.refusal.Refusal.{Refusal}
 use Rattle.sn_record.specs.LabelSet.{Labels}
@@ -20,13 +17,13 @@ use Rattle.sn_scope.specs.Variants.{added}
 use Rattle.sn_scope.specs.declared.scopes.Meaning.{Meaning}
 use Rattle.sn_scope.specs.declared.scopes.Meaning.TheVariants as meaning
 use Rattle.sn_scope.specs.declared.scopes.Scopes.{Scopes}
-use Rattle.sn_scope_rules.specs.Labels.{PartBreaks, TypeBreaks}
+use Rattle.sn_scope_rules.specs.Labels.{TypeBreaks}
 use Rattle.sn_scope_rules.specs.Labels.PartBreaks.{no_such_type}
 use Rattle.sn_scope_rules.specs.Labels.TypeBreaks.{in_part}
 use Rattle.sn_scope_rules.specs.Standing.StandsIn.{here, later}
 use Rattle.sn_scope_rules.specs.Types.{VariantsOf, once}
 use Rattle.sn_scope_rules.specs.Types.VariantsOf.{named, no_part, written}
-use Rattle.sn_scope_rules.specs.Visible.{Around, found_at, is_type, stands_for, stands_for_a}
+use Rattle.sn_scope_rules.specs.Visible.{Around, found_at, is_type, stands_for_a}
 use Rattle.sn_scope_rules.proofs.Places.{decl_of, found_stands}
 
 -- a name of a kind that stands for something is found
@@ -75,9 +72,12 @@ module _ (names : List (List ℕ)) (types : List (List Labels)) (scopes : Scopes
           → Gives (NamedType name ∷ parts)
       by_form decl there is (Decl-F.BoxDecl declaration) at kind seen = cc
       by_form decl there is (Decl-F.NetDecl called) at kind seen = cc
-      by_form decl there is (Decl-F.TypeDecl own inner) at kind seen = (once seen.1 ++ rest.0, named is at seen.3 rest.1,
+      by_form decl there is (Decl-F.TypeDecl own inner) at kind seen = (
+        once seen.1 ++ rest.0,
+        named is at seen.3 rest.1,
         λ before. ap (λ vs. fold (part_added names scopes types) (fold added before vs) parts) (ap (λ m. variants_of types (type_number m)) seen.2 ∙ get_or_from_slice_get types seen.0 (once seen.1) [] seen.4)
-        ∙ rest.2 (fold added before (once seen.1)) ∙ sym (fold_append added before (once seen.1) rest.0))
+            ∙ rest.2 (fold added before (once seen.1)) ∙ sym (fold_append added before (once seen.1) rest.0),
+      )
       by_form decl there is (Decl-F.SigDecl own sig) at kind seen = cc
 
   gives : (parts : List TypePart) → ((r : Refusal) → TypeBreaks around parts r → ⊥) → Gives parts
