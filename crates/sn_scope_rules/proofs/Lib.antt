@@ -22,3 +22,4 @@ pub mod Mains
 pub mod Signed
 pub mod Declaring
 pub mod Results
+pub mod Named

@@ -6,6 +6,7 @@ pub mod Filters
 pub mod Networks
 pub mod Boxes
 pub mod Programs
+pub mod Named
 pub mod Declared
 pub mod Trees
 pub mod Limits

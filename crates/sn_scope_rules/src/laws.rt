@@ -1,10 +1,13 @@
 //! The laws of scope, as the contracts of functions that do nothing.
-ghost use Rattle.std.specs.Prelude.{◌≡◌, ◌≢◌, ◌↔◌, Err, List, Ok, option_map, ℕ};
+ghost use Rattle.std.specs.Prelude.{[], ◌≡◌, ◌≢◌, ◌↔◌, Err, List, Ok, option_map, ℕ};
 ghost use Rattle.sn_ast.specs.declared.declaration.Program.{Program as SomeProgram};
 ghost use Rattle.sn_label_scope.specs.declared.fault.ScopeFault.TheVariants.{NoMain, TooLarge, TooManyNames};
 ghost use Rattle.sn_label_scope.specs.declared.refusal.Refusal.{Refusal as SomeRefusal};
+ghost use Rattle.sn_names.specs.Names.{all_entered};
+ghost use Rattle.sn_scope.specs.Numbering.{names_of};
 ghost use Rattle.sn_scope.specs.Resolution.{fault_at, resolution};
 ghost use Rattle.sn_scope.specs.declared.resolved.Parts.{Parts as SomeParts};
+ghost use Rattle.sn_scope_rules.specs.Named.{in_program};
 ghost use Rattle.sn_scope_rules.specs.Programs.{ProgramBreaks};
 ghost use Rattle.sn_scope_rules.specs.Refusals.{IsFirst};
 ghost use Rattle.sn_scope_rules.specs.Results.{HasNoMain, HasTooLarge, HasTooManyNames, IsResolved, IsWhole};
@@ -35,4 +38,9 @@ pub fn resolution_keeps_its_limits()
     ensures too_many_names { (program : SomeProgram) → (resolution program ≡ Err TooManyNames) ↔ HasTooManyNames program }
     ensures too_large { (program : SomeProgram) (at : ℕ) → (resolution program ≡ Err (TooLarge at)) ↔ HasTooLarge program at }
     ensures whole { (program : SomeProgram) → ((parts : SomeParts) × (resolution program ≡ Ok parts)) ↔ IsWhole program }
+{}
+
+/// The names of a program are those of its labels, entered one after another from the first place to the last: the number of a name is how many others come first.
+pub fn names_are_those_of_labels()
+    ensures names { (program : SomeProgram) → names_of program ≡ all_entered [] (in_program program) }
 {}
