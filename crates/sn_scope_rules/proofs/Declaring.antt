@@ -83,24 +83,32 @@ boxes_append : (xs ys : List Decl) → boxes_in (xs ++ ys) ≡ boxes_in xs ++ bo
 boxes_append [] ys = refl
 boxes_append (x ∷ xs) ys = ap (λ more. boxes_of x ++ more) (boxes_append xs ys) ∙ sym (append_assoc (boxes_of x) (boxes_in xs) (boxes_in ys))
 
+-- the boxes within a net
+abbrev pub net_boxes_of : NetDecl → List BoxDecl
+net_boxes_of = fold-NetDecl (List BoxDecl) (List BoxDecl) boxes_step net_boxes
+
+pub all_boxes : (decls : List Decl) → flat_map (λ (xs : List BoxDecl). xs) (each boxes_of decls) ≡ boxes_in decls
+all_boxes [] = refl
+all_boxes (d ∷ ds) = ap (λ xs. boxes_of d ++ xs) (all_boxes ds)
+
 -- one more declaration in the scope
 before_more : (scope : List Decl) (d : Decl) (outer : Around) → boxes_before ((scope ++ d ∷ []) ∷ outer) ≡ boxes_before (scope ∷ outer) ++ boxes_of d
 before_more scope d outer = ap (λ xs. boxes_before outer ++ xs) (boxes_append scope (d ∷ []) ∙ ap (λ xs. boxes_in scope ++ xs) (append-nil (boxes_of d))) ∙ sym (append_assoc (boxes_before outer) (boxes_in scope) (boxes_of d))
 
 -- nothing is refused in a declaration, or in several that stand in a row
-abbrev Fine : List Decl → Around → Decl → Type 0
+abbrev pub Fine : List Decl → Around → Decl → Type 0
 Fine scope outer d = (r : Refusal) → DeclBreaks scope outer d r → ⊥
 
 abbrev pub RowFine : List Decl → Around → List Decl → Type 0
 RowFine scope outer decls = (before : List Decl) (d : Decl) → StandsBehind d before decls → Fine (scope ++ before) outer d
 
-fine_first : (scope : List Decl) (outer : Around) (d : Decl) (ds : List Decl) → RowFine scope outer (d ∷ ds) → Fine scope outer d
+pub fine_first : (scope : List Decl) (outer : Around) (d : Decl) (ds : List Decl) → RowFine scope outer (d ∷ ds) → Fine scope outer d
 fine_first scope outer d ds fine = subst (λ s. Fine s outer d) (append-nil scope) (fine [] d foremost)
 
-fine_rest : (scope : List Decl) (outer : Around) (d : Decl) (ds : List Decl) → RowFine scope outer (d ∷ ds) → RowFine (scope ++ d ∷ []) outer ds
+pub fine_rest : (scope : List Decl) (outer : Around) (d : Decl) (ds : List Decl) → RowFine scope outer (d ∷ ds) → RowFine (scope ++ d ∷ []) outer ds
 fine_rest scope outer d ds fine before e at = subst (λ s. Fine s outer e) (sym (append_assoc scope (d ∷ []) before)) (fine (d ∷ before) e (further at))
 
-fine_name : (scope : List Decl) (outer : Around) (d : Decl) → Fine scope outer d → is_declared scope (name_of d).text ≡ false
+pub fine_name : (scope : List Decl) (outer : Around) (d : Decl) → Fine scope outer d → is_declared scope (name_of d).text ≡ false
 fine_name scope outer d fine = cases (is_declared scope (name_of d).text) refl
   where
     cases : (b : Bool) → is_declared scope (name_of d).text ≡ b → is_declared scope (name_of d).text ≡ false
@@ -577,19 +585,11 @@ module _ (names : List (List ℕ)) (all : List BoxDecl) where
       main_is = part.main_is;
     }
 
-  -- the boxes within a net
-  abbrev net_boxes_of : NetDecl → List BoxDecl
-  net_boxes_of = fold-NetDecl (List BoxDecl) (List BoxDecl) boxes_step net_boxes
-
   abbrev NetTells : NetDecl → Type 0
   NetTells net = (d : Decl) → out-Decl d ≡ Decl-F.NetDecl net → after names d ≡ after_net names net → boxes_of d ≡ net_boxes_of net → DeclTells d
 
   abbrev Told : Type 0
   Told = (d : Decl) × DeclTells d
-
-  all_boxes : (decls : List Decl) → flat_map (λ (xs : List BoxDecl). xs) (each boxes_of decls) ≡ boxes_in decls
-  all_boxes [] = refl
-  all_boxes (d ∷ ds) = ap (λ xs. boxes_of d ++ xs) (all_boxes ds)
 
   net_tells : (name : Ident) (sig : Option Sig) (decls : List Told) (connect : NetExpr) → NetTells (roll-NetDecl (net_form name sig (each (λ (e : Told). e.0) decls) connect))
   net_tells name sig decls connect d at is has st scope outer knows fine begin =

@@ -23,3 +23,6 @@ pub mod Signed
 pub mod Declaring
 pub mod Results
 pub mod Named
+pub mod Once
+pub mod OneMain
+pub mod Standings

@@ -21,7 +21,7 @@ main_append place found (x ∷ xs) ys =
     ∙ ap (λ p. main_from p (main_from (suc place) (if is_main x then Some place else found) xs) ys) (omega arith)
 
 -- no net within another is the program's
-not_outermost : (outer : Around) (name : Bool) → 0 < length outer → ((suc (length outer) == 1) && name) ≡ false
+pub not_outermost : (outer : Around) (name : Bool) → 0 < length outer → ((suc (length outer) == 1) && name) ≡ false
 not_outermost [] name within = absurd (omega (arith, within))
 not_outermost (decls ∷ outer) name within =
     let is : (suc (suc (length outer)) == 1) ≡ false = grind (arith, nat_tests) in

@@ -1,12 +1,12 @@
 -- The names of a program are those of its labels, entered from the first place to the last.
-use Rattle.std.proofs.Common.{◌≡◌, ℕ, Bool, List, [], ◌∷◌, ◌++◌, map as each, Option, Some, None, fold, refl, sym, ap, ◌∙◌, subst, subst₂, map-id}
+use Rattle.std.proofs.Common.{◌≡◌, List, [], ◌∷◌, ◌++◌, map as each, Option, Some, None, fold, refl, sym, ap, ◌∙◌, subst, subst₂, map-id}
 use Rattle.std.specs.List.{flat_map}
 use Rattle.sn_ast.specs.declared.declaration.BoxDecl.{BoxDecl}
 use Rattle.sn_ast.specs.declared.declaration.Decl.{Decl}
 use Rattle.sn_ast.specs.declared.declaration.Decl.TheFolds.{fold-roll-Decl, fold-roll-NetDecl, ind-Decl, map-Decl}
 use Rattle.sn_ast.specs.declared.declaration.Decl.TheOpen.{Decl-F}
 use Rattle.sn_ast.specs.declared.declaration.Decl.TheViews.{roll-Decl, roll-NetDecl}
-use Rattle.sn_ast.specs.declared.declaration.NetDecl.{NetDecl, NetDecl-F}
+use Rattle.sn_ast.specs.declared.declaration.NetDecl.{NetDecl}
 use Rattle.sn_ast.specs.declared.declaration.Program.{Program}
 use Rattle.sn_ast.specs.declared.label.Ident.{Ident}
 use Rattle.sn_ast.specs.declared.label.LabelAt.{LabelAt}
@@ -14,7 +14,6 @@ use Rattle.sn_ast.specs.declared.label.Sig.{Sig}
 use Rattle.sn_ast.specs.declared.label.Sig.TheVariants.{Arrow, Named as NamedSig}
 use Rattle.sn_ast.specs.declared.label.TypePart.{TypePart}
 use Rattle.sn_ast.specs.declared.label.TypePart.TheVariants.{Set, Named as NamedType}
-use Rattle.sn_ast.specs.declared.label.Variant.{Variant}
 use Rattle.sn_ast.specs.declared.network.ItemAt.{ItemAt}
 use Rattle.sn_ast.specs.declared.network.ItemSource.{ItemSource}
 use Rattle.sn_ast.specs.declared.network.ItemSource.TheVariants.{Same, Field, Expr}

@@ -7,7 +7,7 @@ use Rattle.sn_scope_rules.specs.Visible.{Around, first_named, found_at, further_
 abbrev pub Found : Type 0
 Found = Option (Decl × List Decl)
 
-abbrev first_step : Decl → Found → Bool → Found
+abbrev pub first_step : Decl → Found → Bool → Found
 first_step d more b = if b then Some (d, []) else option_map (further_on d) more
 
 abbrev first_of : Decl × List Decl → Decl

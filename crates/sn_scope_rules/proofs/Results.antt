@@ -35,6 +35,8 @@ use Rattle.sn_scope_rules.proofs.Declarations.{program_refuses}
 use Rattle.sn_scope_rules.proofs.Declaring.{PendingMeans, RowTells, all_tell, beside_length, knows_start}
 use Rattle.sn_scope_rules.proofs.Levels.{At, then_to}
 use Rattle.sn_scope_rules.proofs.Mains.{Within, main_found, main_none}
+use Rattle.sn_scope_rules.proofs.Once.{signature_once}
+use Rattle.sn_scope_rules.proofs.OneMain.{one_main}
 use Rattle.sn_scope_rules.proofs.Resolutions.{fault_back, refusal_in, refuses_none}
 use Rattle.sn_scope_rules.proofs.Signed.{read_in, signed_once}
 
@@ -180,6 +182,26 @@ module _ (names : List (List ℕ)) (boxes : List BoxProgram) (st : Declarations)
       ∙ ap (led_by (claim_at st pending t ∷ [])) (one_large before net behind trees ps all.1 fits.1 (room - nodes t) (omega (arith, split, few))
       (λ u own fitted within. large u own fitted (omega (arith, split, within, few))))
 
+  -- claims of the same nets are the same
+  same_claim : (pending : Pending) (net : Signed) → PendingMeans names boxes st pending net → (x y : Claim) → ClaimOf names boxes net x → ClaimOf names boxes net y → Fits boxes most_levels x.net → Fits boxes most_levels y.net → x ≡ y
+  same_claim pending net means x y one other low flat =
+      let trees = same_Some x.net y.net (sym ((tree_at pending net means x.net).1 (one.tree, low)) ∙ (tree_at pending net means y.net).1 (other.tree, flat)) in
+      let types = signature_once names net.outside net.sig x.input x.output one.types y.input y.output other.types in
+      let places = one.place ∙ sym other.place in
+      λ i. record { place = places i; net = trees i; input = types.0 i; output = types.1 i }
+
+  claims_once : (ps : List Pending) (nets : List Signed) (xs ys : List Claim) → Beside (PendingMeans names boxes st) ps nets → Beside (ClaimOf names boxes) nets xs → EachFits nets (each net_of xs)
+      → Beside (ClaimOf names boxes) nets ys → EachFits nets (each net_of ys) → xs ≡ ys
+  claims_once [] [] [] [] all one fits other fitted = refl
+  claims_once [] [] [] (y ∷ ys) all one fits other fitted = absurd other
+  claims_once [] [] (x ∷ xs) ys all one fits other fitted = absurd one
+  claims_once [] (net ∷ nets) xs ys all one fits other fitted = absurd all
+  claims_once (pending ∷ ps) [] xs ys all one fits other fitted = absurd all
+  claims_once (pending ∷ ps) (net ∷ nets) [] ys all one fits other fitted = absurd one
+  claims_once (pending ∷ ps) (net ∷ nets) (x ∷ xs) [] all one fits other fitted = absurd other
+  claims_once (pending ∷ ps) (net ∷ nets) (x ∷ xs) (y ∷ ys) all one fits other fitted =
+      λ i. same_claim pending net all.0 x y one.0 other.0 fits.0.1 fitted.0.1 i ∷ claims_once ps nets xs ys all.1 one.1 fits.1 other.1 fitted.1 i
+
 -- a program that breaks no rule
 module _ (program : Program) where
   abbrev names : List (List ℕ)
@@ -270,9 +292,21 @@ module _ (program : Program) where
 
     case_resolved : (i : ℕ) → state.main ≡ Some i → length names ≤ most_names → (claims : Result (List Claim) ℕ) → claims_within state most_nodes state.claims ≡ claims
         → Outcome names boxes state row.boxes_are most_nodes row.nets claims → Case (resolution program)
-    case_resolved i is few (Ok claims) same outcome = subst Case (sym (comes_whole i claims is few same outcome.0)) (
-      record { names = refl; boxes = row.boxes_are; all = row.nets; signed = row.signed_in; claims = outcome.0; main = (main_at i is).0; main_at = (main_at i is).1; main_is = (main_at i is).2 },
-      record { unbroken = unbroken; all = row.nets; signed = row.signed_in; main = has_main i is; few = few; trees = each (λ (c : Claim). c.net) claims; fitting = record { each_fits = outcome.1; room = outcome.2 } },
+    case_resolved i is few (Ok claims) same known = subst Case (sym (comes_whole i claims is few same known.0)) (
+      record {
+        unbroken = unbroken;
+        names = refl;
+        few = few;
+        boxes = row.boxes_are;
+        all = row.nets;
+        signed = row.signed_in;
+        claims = known.0;
+        fitting = record { each_fits = known.1; room = known.2 };
+        main = (main_at i is).0;
+        main_at = (main_at i is).1;
+        main_is = (main_at i is).2;
+      },
+      record { unbroken = unbroken; all = row.nets; signed = row.signed_in; main = has_main i is; few = few; trees = each (λ (c : Claim). c.net) claims; fitting = record { each_fits = known.1; room = known.2 } },
     )
     case_resolved i is few (Err at) same large = subst Case (sym (comes_large i at is few same)) (record {
       unbroken = unbroken;
@@ -318,9 +352,6 @@ module _ (program : Program) where
       fault_at_is : (r : Refusal) → refusal_in (Err (fault_at r.reason r.at)) ≡ Some r
       fault_at_is r = fault_back r.reason r.at
 
-  pub gives : (parts : Parts) → resolution program ≡ Ok parts → IsResolved program parts
-  gives parts same = (subst (Case (unbroken_by (Ok parts) same refl)) same (the_case (unbroken_by (Ok parts) same refl))).0
-
   pub is_given : ((parts : Parts) × (resolution program ≡ Ok parts)) ↔ IsWhole program
   is_given = (λ given. (subst (Case (unbroken_by (Ok given.0) given.1 refl)) given.1 (the_case (unbroken_by (Ok given.0) given.1 refl))).1, to)
     where
@@ -332,6 +363,41 @@ module _ (program : Program) where
           let found = all_fit names boxes state (row u).boxes_are state.claims (row u).nets whole.trees (pendings u) fits most_nodes whole.fitting.room in
           let known = subst (Outcome names boxes state (row u).boxes_are most_nodes (row u).nets) found.1 (claimed u) in
           (parts_with u main.0 found.0, comes_whole u main.0 found.0 main.1 whole.few found.1 known.0)
+
+  -- the parts are one thing
+  resolved_once : (p q : Parts) → IsResolved program p → IsResolved program q → p ≡ q
+  resolved_once p q one other =
+      let u = one.unbroken in
+      let all = same_nets u one.all one.signed in
+      let others = same_nets u other.all other.signed in
+      let claims = claims_once names boxes state (row u).boxes_are state.claims (row u).nets p.claims q.claims (pendings u)
+      (subst (λ nets. Beside (ClaimOf names boxes) nets p.claims) (sym all) one.claims) (subst (λ nets. EachFits names boxes state (row u).boxes_are nets (each (λ (c : Claim). c.net) p.claims)) (sym all) one.fitting.each_fits)
+      (subst (λ nets. Beside (ClaimOf names boxes) nets q.claims) (sym others) other.claims) (subst (λ nets. EachFits names boxes state (row u).boxes_are nets (each (λ (c : Claim). c.net) q.claims)) (sym others) other.fitting.each_fits) in
+      let main = one_main [] [] program.decls (row u).nets (row u).signed_in (λ before d at r breaks. u r (in_decl at breaks)) p.main q.main
+      (one.main, subst (λ nets. slice_get nets p.main ≡ Some one.main) (sym all) one.main_at, one.main_is)
+      (other.main, subst (λ nets. slice_get nets q.main ≡ Some other.main) (sym others) other.main_at, other.main_is) in
+      let named = one.names ∙ sym other.names in
+      let boxed = one.boxes ∙ sym other.boxes in
+      λ i. record { names = named i; boxes = boxed i; claims = claims i; main = main i }
+
+  gives : (parts : Parts) → resolution program ≡ Ok parts → IsResolved program parts
+  gives parts same = (subst (Case (unbroken_by (Ok parts) same refl)) same (the_case (unbroken_by (Ok parts) same refl))).0
+
+  pub is_resolved : (parts : Parts) → (resolution program ≡ Ok parts) ↔ IsResolved program parts
+  is_resolved parts = (gives parts, to)
+    where
+      to : IsResolved program parts → resolution program ≡ Ok parts
+      to one =
+          let given = is_given.1 (record {
+            unbroken = one.unbroken;
+            all = one.all;
+            signed = one.signed;
+            main = (one.main, read_in one.all parts.main one.main one.main_at, one.main_is);
+            few = one.few;
+            trees = each (λ (c : Claim). c.net) parts.claims;
+            fitting = one.fitting;
+          }) in
+          given.1 ∙ ap (λ p. Ok p) (resolved_once given.0 parts (gives given.0 given.1) one)
 
   pub no_main : (resolution program ≡ Err NoMain) ↔ HasNoMain program
   no_main = (λ same. subst (Case (unbroken_by (Err NoMain) same refl)) same (the_case (unbroken_by (Err NoMain) same refl)), to)

@@ -1,10 +1,13 @@
--- The boxes of a program, in the order in which they stand.
-use Rattle.std.specs.Prelude.{List, [], ◌∷◌, ◌++◌}
+-- The boxes of a program, in the order in which they stand, and where its declarations stand.
+use Rattle.std.specs.Prelude.{◌≡◌, List, [], ◌∷◌, ◌++◌}
 use Rattle.std.specs.List.{flat_map}
 use Rattle.sn_ast.specs.declared.declaration.BoxDecl.{BoxDecl}
 use Rattle.sn_ast.specs.declared.declaration.Decl.{Decl, fold-Decl}
 use Rattle.sn_ast.specs.declared.declaration.Decl.TheOpen.{Decl-F}
-use Rattle.sn_ast.specs.declared.declaration.NetDecl.{NetDecl-F}
+use Rattle.sn_ast.specs.declared.declaration.Decl.TheViews.{out-Decl, out-NetDecl}
+use Rattle.sn_ast.specs.declared.declaration.NetDecl.{NetDecl, NetDecl-F}
+use Rattle.sn_ast.specs.declared.declaration.Program.{Program}
+use Rattle.sn_scope_rules.specs.Standing.{StandsBehind}
 use Rattle.sn_scope_rules.specs.Visible.{Around}
 
 -- one level, with the boxes of each part in its place
@@ -29,3 +32,9 @@ boxes_in decls = flat_map boxes_of decls
 abbrev pub boxes_before : Around → List BoxDecl
 boxes_before [] = []
 boxes_before (decls ∷ outer) = boxes_before outer ++ boxes_in decls
+
+-- a declaration of the program, behind those that stand before it in its scope and in those around it
+pub data StandsAt (program : Program) : Around → Decl → Type 0 where
+  outermost : {before : List Decl} {decl : Decl} → StandsBehind decl before program.decls → StandsAt program (before ∷ []) decl
+  inner : {before : List Decl} {around : Around} {decl own : Decl} (net : NetDecl) →
+      StandsAt program around decl → out-Decl decl ≡ Decl-F.NetDecl net → StandsBehind own before (out-NetDecl net).decls → StandsAt program (before ∷ around) own

@@ -58,13 +58,16 @@ pub record IsWhole (program : Program) : Type 0 where
   pub trees : List Net
   pub fitting : AreFitting (names_of program) (boxes_of program) all trees
 
--- the parts of a program: its boxes, and a claim for each net with a signature, one of which is that of the outermost net `main`
+-- the parts of such a program: its boxes, and a claim for each net with a signature, one of which is that of the outermost net `main`
 pub record IsResolved (program : Program) (parts : Parts) : Type 0 where
+  pub unbroken : Unbroken program
   pub names : parts.names ≡ names_of program
+  pub few : length (names_of program) ≤ most_names
   pub boxes : parts.boxes ≡ boxes_of program
   pub all : List Signed
   pub signed : IsSigned program all
   pub claims : Beside (ClaimOf (names_of program) (boxes_of program)) all parts.claims
+  pub fitting : AreFitting (names_of program) (boxes_of program) all (each (λ claim. claim.net) parts.claims)
   pub main : Signed
   pub main_at : slice_get all parts.main ≡ Some main
   pub main_is : is_main main ≡ true

@@ -1,16 +1,23 @@
 //! The laws of scope, as the contracts of functions that do nothing.
-ghost use Rattle.std.specs.Prelude.{[], ◌≡◌, ◌≢◌, ◌↔◌, Err, List, Ok, option_map, ℕ};
+ghost use Rattle.std.specs.Prelude.{[], length, slice_get, ◌∷◌, ◌≡◌, ◌≢◌, ◌↔◌, Err, List, Ok, Some, option_map, ℕ};
+ghost use Rattle.sn_ast.specs.declared.declaration.BoxDecl.{BoxDecl as SomeBox};
+ghost use Rattle.sn_ast.specs.declared.declaration.Decl.{Decl as SomeDecl};
+ghost use Rattle.sn_ast.specs.declared.declaration.Decl.TheOpen.{Decl-F};
+ghost use Rattle.sn_ast.specs.declared.declaration.Decl.TheViews.{out-Decl, out-NetDecl};
+ghost use Rattle.sn_ast.specs.declared.declaration.NetDecl.{NetDecl as SomeNet};
 ghost use Rattle.sn_ast.specs.declared.declaration.Program.{Program as SomeProgram};
+ghost use Rattle.sn_box_scope.specs.Boxes.{box_at};
 ghost use Rattle.sn_label_scope.specs.declared.fault.ScopeFault.TheVariants.{NoMain, TooLarge, TooManyNames};
 ghost use Rattle.sn_label_scope.specs.declared.refusal.Refusal.{Refusal as SomeRefusal};
 ghost use Rattle.sn_names.specs.Names.{all_entered};
 ghost use Rattle.sn_scope.specs.Numbering.{names_of};
 ghost use Rattle.sn_scope.specs.Resolution.{fault_at, resolution};
 ghost use Rattle.sn_scope.specs.declared.resolved.Parts.{Parts as SomeParts};
+ghost use Rattle.sn_scope_rules.specs.Declared.{StandsAt, boxes_before};
 ghost use Rattle.sn_scope_rules.specs.Named.{in_program};
 ghost use Rattle.sn_scope_rules.specs.Programs.{ProgramBreaks};
 ghost use Rattle.sn_scope_rules.specs.Refusals.{IsFirst};
-ghost use Rattle.sn_scope_rules.specs.Results.{HasNoMain, HasTooLarge, HasTooManyNames, IsResolved, IsWhole};
+ghost use Rattle.sn_scope_rules.specs.Results.{HasNoMain, HasTooLarge, HasTooManyNames, IsResolved, IsWhole, boxes_of};
 ghost use Rattle.sn_scope_rules.specs.Visible.{Around, found_at, stands_for};
 
 /// A program is refused for a reason at a place exactly where it breaks that rule there and breaks none that comes before, and
@@ -28,7 +35,7 @@ pub fn names_find_what_they_stand_for()
 /// What a program is resolved to is its boxes in the order of their places, and a claim for each net with a signature: the tree of
 /// that net's network where it stands, and the types of its signature. The one of the outermost net `main` is the program's.
 pub fn resolution_gives_what_is_declared()
-    ensures resolved { (program : SomeProgram) (parts : SomeParts) → resolution program ≡ Ok parts → IsResolved program parts }
+    ensures resolved { (program : SomeProgram) (parts : SomeParts) → (resolution program ≡ Ok parts) ↔ IsResolved program parts }
 {}
 
 /// A program that breaks no rule is refused exactly where it has no outermost net `main` with a signature, or too many names, or a tree that is too large, in this order, and is
@@ -43,4 +50,11 @@ pub fn resolution_keeps_its_limits()
 /// The names of a program are those of its labels, entered one after another from the first place to the last: the number of a name is how many others come first.
 pub fn names_are_those_of_labels()
     ensures names { (program : SomeProgram) → names_of program ≡ all_entered [] (in_program program) }
+{}
+
+/// What a name stands for in a net's network is a declaration of the program, at the place where it is found. The number of a box, which is how many boxes stand before it, is that of its
+/// own declaration among the boxes of the program.
+pub fn calls_are_of_the_boxes_that_names_stand_for()
+    ensures found { (program : SomeProgram) (around there : Around) (decl found : SomeDecl) (net : SomeNet) (name : List ℕ) → StandsAt program around decl → out-Decl decl ≡ Decl-F.NetDecl net → found_at ((out-NetDecl net).decls ∷ around) name ≡ Some (found, there) → StandsAt program there found }
+    ensures numbered { (program : SomeProgram) (around : Around) (decl : SomeDecl) (declaration : SomeBox) → StandsAt program around decl → out-Decl decl ≡ Decl-F.BoxDecl declaration → slice_get (boxes_of program) (length (boxes_before around)) ≡ Some (box_at (names_of program) declaration) }
 {}
