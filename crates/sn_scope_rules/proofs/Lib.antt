@@ -26,3 +26,4 @@ pub mod Named
 pub mod Once
 pub mod OneMain
 pub mod Standings
+pub mod OneTree

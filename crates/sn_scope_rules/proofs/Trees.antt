@@ -61,7 +61,7 @@ module _ (names : List (List ℕ)) (boxes : List BoxProgram) where
   NamedTree (Decl-F.SigDecl name sig) there at t = ⊥
 
   -- the tree of a network, by its form
-  abbrev FormTree : Around → ℕ → NetForm-F NetForm NetExpr → Net → Type 0
+  abbrev pub FormTree : Around → ℕ → NetForm-F NetForm NetExpr → Net → Type 0
   FormTree around place (NetForm-F.Name name) t = (found : Decl × Around) × (found_at around name.text ≡ Some found) × NamedTree (out-Decl found.0) found.1 name.at t
   FormTree around place NetForm-F.Identity t = t ≡ net.Filter (identity_at place)
   FormTree around place (NetForm-F.Filter pattern templates) t = t ≡ net.Filter (filter_at names place pattern templates)
@@ -77,7 +77,7 @@ module _ (names : List (List ℕ)) (boxes : List BoxProgram) where
   trees_to around (e ∷ es) [] all = absurd all
   trees_to around (e ∷ es) (t ∷ ts) all = branch all.0 (trees_to around es ts all.1)
 
-  trees_from : (around : Around) (es : List NetExpr) (ts : List Net) → TreesOf names boxes around es ts → Beside (TreeOf names boxes around) es ts
+  pub trees_from : (around : Around) (es : List NetExpr) (ts : List Net) → TreesOf names boxes around es ts → Beside (TreeOf names boxes around) es ts
   trees_from around es ts no_branch = tt
   trees_from around es ts (branch {rest} {more} one others) = (one, trees_from around rest more others)
 
@@ -99,7 +99,7 @@ module _ (names : List (List ℕ)) (boxes : List BoxProgram) where
     form_to t (NetForm-F.Star det body exit guard) is one = subst (TreeOf names boxes around network) (sym one.2) (star det body exit guard is one.1)
     form_to t (NetForm-F.Split det body tag) is one = subst (TreeOf names boxes around network) (sym one.2) (split det body tag is one.1)
 
-  form_from : (around : Around) (network : NetExpr) (t : Net) → TreeOf names boxes around network t → FormTree around (place_of network) (form_of network) t
+  pub form_from : (around : Around) (network : NetExpr) (t : Net) → TreeOf names boxes around network t → FormTree around (place_of network) (form_of network) t
   form_from around network t (name_of_net {there} name decl called is found at one) = subst (λ x. FormTree around (place_of network) x t) (sym is) ((decl, there), found, subst (λ x. NamedTree x there name.at t) (sym at) one)
   form_from around network t (name_of_box {there} name decl declaration is found at) =
       subst (λ x. FormTree around (place_of network) x t) (sym is) ((decl, there), found, subst (λ x. NamedTree x there name.at t) (sym at) refl)
@@ -117,10 +117,10 @@ module _ (names : List (List ℕ)) (boxes : List BoxProgram) where
   no_single : (around : Around) (e : NetExpr) (t : Net) → SeriesOf names boxes around (e ∷ []) t → ⊥
   no_single around e t one = elim one [ ]
 
-  series_two : (around : Around) (a b : NetExpr) (t : Net) → SeriesOf names boxes around (a ∷ b ∷ []) t → InSeries boxes (TreeOf names boxes around a) (TreeOf names boxes around b) t
+  pub series_two : (around : Around) (a b : NetExpr) (t : Net) → SeriesOf names boxes around (a ∷ b ∷ []) t → InSeries boxes (TreeOf names boxes around a) (TreeOf names boxes around b) t
   series_two around a b t (two {left} {right} one other) = (left, right, one, other, refl)
 
-  series_more : (around : Around) (a b c : NetExpr) (more : List NetExpr) (t : Net) → SeriesOf names boxes around (a ∷ b ∷ c ∷ more) t
+  pub series_more : (around : Around) (a b c : NetExpr) (more : List NetExpr) (t : Net) → SeriesOf names boxes around (a ∷ b ∷ c ∷ more) t
       → InSeries boxes (TreeOf names boxes around a) (SeriesOf names boxes around (b ∷ c ∷ more)) t
   series_more around a b c more t (several {left} {right} one other) = (left, right, one, other, refl)
 

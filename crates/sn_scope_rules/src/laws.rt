@@ -6,10 +6,15 @@ ghost use Rattle.sn_ast.specs.declared.declaration.Decl.TheOpen.{Decl-F};
 ghost use Rattle.sn_ast.specs.declared.declaration.Decl.TheViews.{out-Decl, out-NetDecl};
 ghost use Rattle.sn_ast.specs.declared.declaration.NetDecl.{NetDecl as SomeNet};
 ghost use Rattle.sn_ast.specs.declared.declaration.Program.{Program as SomeProgram};
+ghost use Rattle.sn_ast.specs.declared.label.Sig.{Sig as SomeSig};
+ghost use Rattle.sn_ast.specs.declared.network.NetExpr.{NetExpr as SomeNetwork};
 ghost use Rattle.sn_box_scope.specs.Boxes.{box_at};
 ghost use Rattle.sn_label_scope.specs.declared.fault.ScopeFault.TheVariants.{NoMain, TooLarge, TooManyNames};
 ghost use Rattle.sn_label_scope.specs.declared.refusal.Refusal.{Refusal as SomeRefusal};
 ghost use Rattle.sn_names.specs.Names.{all_entered};
+ghost use Rattle.sn_net.specs.declared.expr.BoxProgram.{BoxProgram as SomeProgramOfBox};
+ghost use Rattle.sn_net.specs.declared.net.Net.{Net as SomeTree};
+ghost use Rattle.sn_record.specs.LabelSet.{Labels};
 ghost use Rattle.sn_scope.specs.Numbering.{names_of};
 ghost use Rattle.sn_scope.specs.Resolution.{fault_at, resolution};
 ghost use Rattle.sn_scope.specs.declared.resolved.Parts.{Parts as SomeParts};
@@ -18,6 +23,8 @@ ghost use Rattle.sn_scope_rules.specs.Named.{in_program};
 ghost use Rattle.sn_scope_rules.specs.Programs.{ProgramBreaks};
 ghost use Rattle.sn_scope_rules.specs.Refusals.{IsFirst};
 ghost use Rattle.sn_scope_rules.specs.Results.{HasNoMain, HasTooLarge, HasTooManyNames, IsResolved, IsWhole, boxes_of};
+ghost use Rattle.sn_scope_rules.specs.Trees.{TreeOf};
+ghost use Rattle.sn_scope_rules.specs.Types.{SignatureOf};
 ghost use Rattle.sn_scope_rules.specs.Visible.{Around, found_at, stands_for};
 
 /// A program is refused for a reason at a place exactly where it breaks that rule there and breaks none that comes before, and
@@ -57,4 +64,10 @@ pub fn names_are_those_of_labels()
 pub fn calls_are_of_the_boxes_that_names_stand_for()
     ensures found { (program : SomeProgram) (around there : Around) (decl found : SomeDecl) (net : SomeNet) (name : List ℕ) → StandsAt program around decl → out-Decl decl ≡ Decl-F.NetDecl net → found_at ((out-NetDecl net).decls ∷ around) name ≡ Some (found, there) → StandsAt program there found }
     ensures numbered { (program : SomeProgram) (around : Around) (decl : SomeDecl) (declaration : SomeBox) → StandsAt program around decl → out-Decl decl ≡ Decl-F.BoxDecl declaration → slice_get (boxes_of program) (length (boxes_before around)) ≡ Some (box_at (names_of program) declaration) }
+{}
+
+/// A network where it stands is one tree at most, and a signature has one input and one output at most.
+pub fn what_stands_is_one_thing()
+    ensures tree { (names : List (List ℕ)) (boxes : List SomeProgramOfBox) (around : Around) (network : SomeNetwork) (one other : SomeTree) → TreeOf names boxes around network one → TreeOf names boxes around network other → one ≡ other }
+    ensures types { (names : List (List ℕ)) (around : Around) (sig : SomeSig) (input output other_input other_output : List Labels) → SignatureOf names around sig input output → SignatureOf names around sig other_input other_output → (input ≡ other_input) × (output ≡ other_output) }
 {}
