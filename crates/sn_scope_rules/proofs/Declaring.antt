@@ -93,7 +93,8 @@ all_boxes (d ∷ ds) = ap (λ xs. boxes_of d ++ xs) (all_boxes ds)
 
 -- one more declaration in the scope
 before_more : (scope : List Decl) (d : Decl) (outer : Around) → boxes_before ((scope ++ d ∷ []) ∷ outer) ≡ boxes_before (scope ∷ outer) ++ boxes_of d
-before_more scope d outer = ap (λ xs. boxes_before outer ++ xs) (boxes_append scope (d ∷ []) ∙ ap (λ xs. boxes_in scope ++ xs) (append-nil (boxes_of d))) ∙ sym (append_assoc (boxes_before outer) (boxes_in scope) (boxes_of d))
+before_more scope d outer = ap (λ xs. boxes_before outer ++ xs) (boxes_append scope (d ∷ []) ∙ ap (λ xs. boxes_in scope ++ xs) (append-nil (boxes_of d)))
+    ∙ sym (append_assoc (boxes_before outer) (boxes_in scope) (boxes_of d))
 
 -- nothing is refused in a declaration, or in several that stand in a row
 abbrev pub Fine : List Decl → Around → Decl → Type 0
@@ -116,7 +117,8 @@ fine_name scope outer d fine = cases (is_declared scope (name_of d).text) refl
     cases false is = is
 
 -- a net whose network is the name of a net is that net, and any other is one more
-added_net : (boxes : List BoxProgram) (network : Network) (nets : List Component) (L : Net → Type 0) → ((more : List Component) → Ties boxes (λ levels. part_of boxes levels (nets ++ more) network) L)
+added_net : (boxes : List BoxProgram) (network : Network) (nets : List Component) (L : Net → Type 0) → ((more : List Component)
+    → Ties boxes (λ levels. part_of boxes levels (nets ++ more) network) L)
     → (more : List Component) → Ties boxes (λ levels. part_of boxes levels (with_net network nets ++ more) (Named (net_at network nets))) L
 added_net boxes (Named number) nets L ties after levels = ties after levels
 added_net boxes (Made component) nets L ties after levels = subst (λ made. At boxes levels made L) (sym same) (ties (component ∷ after) levels)
@@ -124,7 +126,8 @@ added_net boxes (Made component) nets L ties after levels = subst (λ made. At b
     same : part_of boxes levels ((nets ++ component ∷ []) ++ after) (Named (length nets)) ≡ part_of boxes levels (nets ++ component ∷ after) (Made component)
     same = ap (λ o. then_some o (tree boxes levels ((nets ++ component ∷ []) ++ after))) (component-Named ((nets ++ component ∷ []) ++ after) (length nets)
         ∙ still_there (nets ++ component ∷ []) after (length nets) component (get_last nets component (length nets) refl))
-        ∙ ap (λ ns. tree boxes levels ns component) (append_assoc nets (component ∷ []) after) ∙ sym (part-Made boxes levels (nets ++ component ∷ after) (Made component) component refl)
+        ∙ ap (λ ns. tree boxes levels ns component) (append_assoc nets (component ∷ []) after)
+        ∙ sym (part-Made boxes levels (nets ++ component ∷ after) (Made component) component refl)
 
 added_nets : (network : Network) (nets : List Component) → (more : List Component) × (with_net network nets ≡ nets ++ more)
 added_nets (Named number) nets = ([], sym (append-nil nets))
@@ -176,34 +179,40 @@ module _ (names : List (List ℕ)) (boxes : List BoxProgram) where
     pub main_is : new.main ≡ main_from (length st.claims) st.main nets
 
   -- the state knows the declaration, too
-  knows_more : (st new : Declarations) (scope : List Decl) (outer : Around) (d : Decl) → Knows names boxes st scope outer → is_declared scope (name_of d).text ≡ false → Tells st new scope outer d
+  knows_more : (st new : Declarations) (scope : List Decl) (outer : Around) (d : Decl) → Knows names boxes st scope outer → is_declared scope (name_of d).text ≡ false
+      → Tells st new scope outer d
       → Knows names boxes new (scope ++ d ∷ []) outer
   knows_more st new scope outer d knows fresh tells = record {
     matches = subst (λ s. Matches s (scope ++ d ∷ []) outer) (sym tells.scopes_are) (more_matches st.scopes scope outer knows.matches d tells.m tells.sort);
     depth = ap (λ (s : Scopes). length s.outer) tells.scopes_are ∙ knows.depth;
     boxes_are = tells.boxes_are ∙ ap (λ xs. xs ++ each (box_at names) (boxes_of d)) knows.boxes_are ∙ sym (map_append (box_at names) (boxes_before (scope ∷ outer)) (boxes_of d))
         ∙ ap (each (box_at names)) (sym (before_more scope d outer));
-    current = λ n. subst₂ (Means names boxes new) (sym (meaning_is n)) (sym (ap (option_map (within_outer outer)) (more_named scope d fresh n))) (by_name n (bytes_eq (name_of d).text n));
-    around = λ n. subst (λ (s : Scopes). Means names boxes new (around_of s.outer n) (found_at outer n)) (sym tells.scopes_are) (means_grow names boxes st new tells.grows (around_of st.scopes.outer n) (found_at outer n) (knows.around n));
+    current = λ n. subst₂ (Means names boxes new) (sym (meaning_is n)) (sym (ap (option_map (within_outer outer)) (more_named scope d fresh n))) (by_name n (bytes_eq
+        (name_of d).text n));
+    around = λ n. subst (λ (s : Scopes). Means names boxes new (around_of s.outer n) (found_at outer n)) (sym tells.scopes_are) (means_grow names boxes st new tells.grows
+        (around_of st.scopes.outer n) (found_at outer n) (knows.around n));
   }
     where
       meaning_is : (n : List ℕ) → meaning_in new.scopes.current n ≡ (if bytes_eq (name_of d).text n then Some tells.m else meaning_in st.scopes.current n)
       meaning_is n = ap (λ (s : Scopes). meaning_in s.current n) tells.scopes_are
           ∙ declared_meaning st.scopes.current (name_of d).text tells.m knows.matches.current.as_many (knows.matches.current.held (name_of d).text ∙ fresh) n
 
-      by_name : (n : List ℕ) (b : Bool) → Means names boxes new (if b then Some tells.m else meaning_in st.scopes.current n) (option_map (within_outer outer) (if b then Some (d, scope) else first_named n scope))
+      by_name : (n : List ℕ) (b : Bool) → Means names boxes new (if b then Some tells.m else meaning_in st.scopes.current n) (option_map (within_outer outer) (if b then Some
+          (d, scope) else first_named n scope))
       by_name n true = tells.means
       by_name n false = means_grow names boxes st new tells.grows (meaning_in st.scopes.current n) (option_map (within_outer outer) (first_named n scope)) (knows.current n)
 
   -- the same scopes and boxes, with more in the tables
-  knows_grow : (old new : Declarations) (scope : List Decl) (outer : Around) → Knows names boxes old scope outer → Grows old new → new.scopes ≡ old.scopes → new.boxes ≡ old.boxes → Knows names boxes new scope outer
+  knows_grow : (old new : Declarations) (scope : List Decl) (outer : Around) → Knows names boxes old scope outer → Grows old new → new.scopes ≡ old.scopes
+      → new.boxes ≡ old.boxes → Knows names boxes new scope outer
   knows_grow old new scope outer knows grows scopes_same boxes_same = record {
     matches = subst (λ s. Matches s scope outer) (sym scopes_same) knows.matches;
     depth = ap (λ (s : Scopes). length s.outer) scopes_same ∙ knows.depth;
     boxes_are = boxes_same ∙ knows.boxes_are;
     current = λ n. subst (λ (s : Scopes). Means names boxes new (meaning_in s.current n) (option_map (within_outer outer) (first_named n scope))) (sym scopes_same)
         (means_grow names boxes old new grows (meaning_in old.scopes.current n) (option_map (within_outer outer) (first_named n scope)) (knows.current n));
-    around = λ n. subst (λ (s : Scopes). Means names boxes new (around_of s.outer n) (found_at outer n)) (sym scopes_same) (means_grow names boxes old new grows (around_of old.scopes.outer n) (found_at outer n) (knows.around n));
+    around = λ n. subst (λ (s : Scopes). Means names boxes new (around_of s.outer n) (found_at outer n)) (sym scopes_same) (means_grow names boxes old new grows
+        (around_of old.scopes.outer n) (found_at outer n) (knows.around n));
   }
 
   -- within a net's braces
@@ -213,7 +222,8 @@ module _ (names : List (List ℕ)) (boxes : List BoxProgram) where
     depth = let longer = length_push st.scopes.outer st.scopes.current in let depth = knows.depth in omega (arith, longer, depth);
     boxes_are = knows.boxes_are ∙ ap (each (box_at names)) (sym (append-nil (boxes_before (scope ∷ outer))));
     current = λ n. refl;
-    around = λ n. subst (λ m. Means names boxes st m (found_at (scope ∷ outer) n)) (sym (fold_last _ None st.scopes.outer st.scopes.current)) (known names boxes st scope outer knows n);
+    around = λ n. subst (λ m. Means names boxes st m (found_at (scope ∷ outer) n)) (sym (fold_last _ None st.scopes.outer st.scopes.current))
+        (known names boxes st scope outer knows n);
   }
 
   -- a signature
@@ -226,7 +236,15 @@ module _ (names : List (List ℕ)) (boxes : List BoxProgram) where
     more_types = sym (append-nil st.types);
     more_signatures = refl;
   }
-  signature_grows_by (NamedSig name) st = record { nets = []; types = []; signatures = []; more_nets = sym (append-nil st.nets); more_types = sym (append-nil st.types); more_signatures = sym (append-nil st.signatures) }
+  signature_grows_by (NamedSig name) st = record {
+    nets = [];
+    types = [];
+    signatures = [];
+    more_nets = sym (append-nil st.nets);
+    more_types = sym
+        (append-nil st.types);
+    more_signatures = sym (append-nil st.signatures);
+  }
 
   signature_means : (st : Declarations) (scope : List Decl) (outer : Around) → Knows names boxes st scope outer → (sig : Sig) → ((r : Refusal) → SigBreaks (scope ∷ outer) sig r → ⊥)
       → SignatureMeans names boxes (with_signature names sig st) (number_at sig st) (scope ∷ outer) sig
@@ -246,7 +264,8 @@ module _ (names : List (List ℕ)) (boxes : List BoxProgram) where
       let found = found_kind is_signature (scope ∷ outer) name.text (λ wrong. fine _ (no_such_signature wrong)) in
       by_form found.0 found.1 found.2 (out-Decl found.0) refl found.3 (known_form names boxes st scope outer knows name.text found.0 found.1 found.2)
     where
-      by_form : (decl : Decl) (there : Around) → found_at (scope ∷ outer) name.text ≡ Some (decl, there) → (x : Decl-F Decl NetDecl) → out-Decl decl ≡ x → is_signature x ≡ true → MeansForm names boxes st (meaning_of st.scopes name.text) x there
+      by_form : (decl : Decl) (there : Around) → found_at (scope ∷ outer) name.text ≡ Some (decl, there) → (x : Decl-F Decl NetDecl) → out-Decl decl ≡ x → is_signature x ≡ true
+          → MeansForm names boxes st (meaning_of st.scopes name.text) x there
           → SignatureMeans names boxes (with_signature names (NamedSig name) st) (number_at (NamedSig name) st) (scope ∷ outer) (NamedSig name)
       by_form decl there is (Decl-F.BoxDecl declaration) at kind seen = cc
       by_form decl there is (Decl-F.NetDecl called) at kind seen = cc
@@ -260,7 +279,8 @@ module _ (names : List (List ℕ)) (boxes : List BoxProgram) where
 
   -- a declaration that is no net
   module _ (st new : Declarations) (scope : List Decl) (outer : Around) (d : Decl) (x : Decl-F Decl NetDecl) (at : out-Decl d ≡ x) (kind : is_net x ≡ false) (grows : Grows st new)
-      (boxes_are : new.boxes ≡ st.boxes ++ each (box_at names) (boxes_of d)) (m : Meaning) (sort : meaning_sort m ≡ form_sort x) (scopes_are : new.scopes ≡ more st.scopes (name_in x) m)
+      (boxes_are : new.boxes ≡ st.boxes ++ each (box_at names) (boxes_of d)) (m : Meaning) (sort : meaning_sort m ≡ form_sort x) (scopes_are : new.scopes ≡ more st.scopes
+      (name_in x) m)
       (means : MeansForm names boxes new (Some m) x (scope ∷ outer)) (claims_are : new.claims ≡ st.claims) (main_is : new.main ≡ st.main) where
     simple_tells : Tells st new scope outer d
     simple_tells = record {
@@ -288,7 +308,8 @@ module _ (names : List (List ℕ)) (all : List BoxDecl) where
   Begin some = (later : List BoxDecl) × (all ≡ some ++ later)
 
   abbrev pub DeclTells : Decl → Type 0
-  DeclTells d = (st : Declarations) (scope : List Decl) (outer : Around) → Knows names boxes st scope outer → Fine scope outer d → Begin (boxes_before (scope ∷ outer) ++ boxes_of d) → Tells names boxes st (after names d st) scope outer d
+  DeclTells d = (st : Declarations) (scope : List Decl) (outer : Around) → Knows names boxes st scope outer → Fine scope outer d
+      → Begin (boxes_before (scope ∷ outer) ++ boxes_of d) → Tells names boxes st (after names d st) scope outer d
 
   begin_within : (some : List BoxDecl) (one : BoxDecl) → Begin (some ++ one ∷ []) → length some < length boxes
   begin_within some one begin =
@@ -300,7 +321,15 @@ module _ (names : List (List ℕ)) (all : List BoxDecl) where
   box_tells : (d : Decl) (declaration : BoxDecl) → out-Decl d ≡ Decl-F.BoxDecl declaration → after names d ≡ after_box names declaration → boxes_of d ≡ declaration ∷ [] → DeclTells d
   box_tells d declaration at is has st scope outer knows fine begin = subst (λ (c : Change). Tells names boxes st (c st) scope outer d) (sym is)
       (simple_tells names boxes st (after_box names declaration st) scope outer d (Decl-F.BoxDecl declaration) at refl
-      (record { nets = []; types = []; signatures = []; more_nets = sym (append-nil st.nets); more_types = sym (append-nil st.types); more_signatures = sym (append-nil st.signatures) })
+      (record {
+        nets = [];
+        types = [];
+        signatures = [];
+        more_nets = sym (append-nil st.nets);
+        more_types = sym (append-nil st.types);
+        more_signatures = sym
+            (append-nil st.signatures);
+      })
       (ap (λ bs. st.boxes ++ each (box_at names) bs) (sym has)) (meaning.Box (length st.boxes)) refl refl (
         ap (λ n. Some (meaning.Box n)) (ap (λ (xs : List BoxProgram). length xs) knows.boxes_are ∙ length-map (boxes_before (scope ∷ outer)) (box_at names)),
         begin_within (boxes_before (scope ∷ outer)) declaration (subst (λ bs. Begin (boxes_before (scope ∷ outer) ++ bs)) has begin),
@@ -309,7 +338,15 @@ module _ (names : List (List ℕ)) (all : List BoxDecl) where
   type_tells : (d : Decl) (name : Ident) (parts : List TypePart) → out-Decl d ≡ Decl-F.TypeDecl name parts → after names d ≡ after_type names name parts → boxes_of d ≡ [] → DeclTells d
   type_tells d name parts at is has st scope outer knows fine begin = subst (λ (c : Change). Tells names boxes st (c st) scope outer d) (sym is)
       (simple_tells names boxes st (after_type names name parts st) scope outer d (Decl-F.TypeDecl name parts) at refl
-      (record { nets = []; types = type_at names st.scopes st.types parts ∷ []; signatures = []; more_nets = sym (append-nil st.nets); more_types = refl; more_signatures = sym (append-nil st.signatures) })
+      (record {
+        nets = [];
+        types = type_at names st.scopes st.types parts ∷ [];
+        signatures = [];
+        more_nets = sym (append-nil st.nets);
+        more_types = refl;
+        more_signatures = sym
+            (append-nil st.signatures);
+      })
       (sym (append-nil st.boxes) ∙ ap (λ bs. st.boxes ++ each (box_at names) bs) (sym has)) (meaning.«Type» (length st.types)) refl refl
       (length st.types, given.0, refl, given.1, get_last st.types (type_at names st.scopes st.types parts) (length st.types) refl ∙ ap Some given.2) refl refl)
     where
@@ -320,21 +357,34 @@ module _ (names : List (List ℕ)) (all : List BoxDecl) where
   sig_tells d name sig at is has st scope outer knows fine begin = subst (λ (c : Change). Tells names boxes st (c st) scope outer d) (sym is)
       (by_sig sig (signature_grows_by names boxes sig st) (signature_means names boxes st scope outer knows sig (λ r one. fine r (in_sig name sig at one))) at)
     where
-      by_sig : (sig : Sig) → Grows st (with_signature names sig st) → SignatureMeans names boxes (with_signature names sig st) (number_at sig st) (scope ∷ outer) sig → out-Decl d ≡ Decl-F.SigDecl name sig
+      by_sig : (sig : Sig) → Grows st (with_signature names sig st) → SignatureMeans names boxes (with_signature names sig st) (number_at sig st) (scope ∷ outer) sig
+          → out-Decl d ≡ Decl-F.SigDecl name sig
           → Tells names boxes st (after_sig names name sig st) scope outer d
-      by_sig (Arrow input output) grows means at = simple_tells names boxes st (after_sig names name (Arrow input output) st) scope outer d (Decl-F.SigDecl name (Arrow input output)) at refl
+      by_sig (Arrow input output) grows means at = simple_tells names boxes st (after_sig names name (Arrow input output) st) scope outer d (Decl-F.SigDecl name
+          (Arrow input output)) at refl
           (record { nets = grows.nets; types = grows.types; signatures = grows.signatures; more_nets = grows.more_nets; more_types = grows.more_types; more_signatures = grows.more_signatures })
-          (sym (append-nil st.boxes) ∙ ap (λ bs. st.boxes ++ each (box_at names) bs) (sym has)) (meaning.Signature (number_at (Arrow input output) st)) refl refl (number_at (Arrow input output) st, refl, means) refl refl
+          (sym (append-nil st.boxes) ∙ ap (λ bs. st.boxes ++ each (box_at names) bs) (sym has)) (meaning.Signature (number_at (Arrow input output) st)) refl refl (
+            number_at
+                (Arrow input output) st,
+            refl,
+            means,
+          ) refl refl
       by_sig (NamedSig other) grows means at = simple_tells names boxes st (after_sig names name (NamedSig other) st) scope outer d (Decl-F.SigDecl name (NamedSig other)) at refl
           (record { nets = grows.nets; types = grows.types; signatures = grows.signatures; more_nets = grows.more_nets; more_types = grows.more_types; more_signatures = grows.more_signatures })
-          (sym (append-nil st.boxes) ∙ ap (λ bs. st.boxes ++ each (box_at names) bs) (sym has)) (meaning.Signature (number_at (NamedSig other) st)) refl refl (number_at (NamedSig other) st, refl, means) refl refl
+          (sym (append-nil st.boxes) ∙ ap (λ bs. st.boxes ++ each (box_at names) bs) (sym has)) (meaning.Signature (number_at (NamedSig other) st)) refl refl (
+            number_at
+                (NamedSig other) st,
+            refl,
+            means,
+          ) refl refl
 
   -- what is declared where several declarations stand one after another
   abbrev pub behind : List Decl → Change
   behind decls st = all_after (each (after names) decls) st
 
   abbrev pub RowHolds : List Decl → Type 0
-  RowHolds ds = (st : Declarations) (scope : List Decl) (outer : Around) → Knows names boxes st scope outer → RowFine scope outer ds → Begin (boxes_before (scope ∷ outer) ++ boxes_in ds) → RowTells names boxes st (behind ds st) scope outer ds
+  RowHolds ds = (st : Declarations) (scope : List Decl) (outer : Around) → Knows names boxes st scope outer → RowFine scope outer ds
+      → Begin (boxes_before (scope ∷ outer) ++ boxes_in ds) → RowTells names boxes st (behind ds st) scope outer ds
 
   row_nil : RowHolds []
   row_nil st scope outer knows fine begin = record {
@@ -353,14 +403,16 @@ module _ (names : List (List ℕ)) (all : List BoxDecl) where
   row_cons : (d : Decl) (ds : List Decl) → DeclTells d → RowHolds ds → RowHolds (d ∷ ds)
   row_cons d ds one rest st scope outer knows fine begin = record {
     grows = grows_on st mid new first.grows others.grows;
-    boxes_are = others.boxes_are ∙ ap (λ xs. xs ++ each (box_at names) (boxes_in ds)) first.boxes_are ∙ append_assoc st.boxes (each (box_at names) (boxes_of d)) (each (box_at names) (boxes_in ds))
+    boxes_are = others.boxes_are ∙ ap (λ xs. xs ++ each (box_at names) (boxes_in ds)) first.boxes_are
+        ∙ append_assoc st.boxes (each (box_at names) (boxes_of d)) (each (box_at names) (boxes_in ds))
         ∙ ap (λ xs. st.boxes ++ xs) (sym (map_append (box_at names) (boxes_of d) (boxes_in ds)));
     outer_is = others.outer_is ∙ ap (λ (s : Scopes). s.outer) first.scopes_are;
     knows = subst (λ s. Knows names boxes new s outer) (append_assoc scope (d ∷ []) ds) others.knows;
     own = first.own ++ others.own;
     nets = first.nets ++ others.nets;
     claims_are = others.claims_are ∙ ap (λ xs. xs ++ others.own) first.claims_are ∙ append_assoc st.claims first.own others.own;
-    beside = beside_append (PendingMeans names boxes new) first.own first.nets others.own others.nets (pendings_grow names boxes mid new others.grows first.own first.nets first.beside) others.beside;
+    beside = beside_append (PendingMeans names boxes new) first.own first.nets others.own others.nets
+        (pendings_grow names boxes mid new others.grows first.own first.nets first.beside) others.beside;
     signed_in = first.signed_in ds others.nets others.signed_in;
     main_is = others.main_is ∙ (λ i. main_from (claims_so_far i) (first.main_is i) others.nets) ∙ sym (main_append (length st.claims) st.main first.nets others.nets);
   }
@@ -379,11 +431,16 @@ module _ (names : List (List ℕ)) (all : List BoxDecl) where
       )
 
       others : RowTells names boxes mid new (scope ++ d ∷ []) outer ds
-      others = rest mid (scope ++ d ∷ []) outer (knows_more names boxes st mid scope outer d knows (fine_name scope outer d (fine_first scope outer d ds fine)) first) (fine_rest scope outer d ds fine)
-          (begin.0, begin.1 ∙ ap (λ xs. xs ++ begin.0) (sym (append_assoc (boxes_before (scope ∷ outer)) (boxes_of d) (boxes_in ds)) ∙ ap (λ xs. xs ++ boxes_in ds) (sym (before_more scope d outer))))
+      others = rest mid (scope ++ d ∷ []) outer (knows_more names boxes st mid scope outer d knows (fine_name scope outer d (fine_first scope outer d ds fine)) first)
+          (fine_rest scope outer d ds fine) (
+            begin.0,
+            begin.1 ∙ ap (λ xs. xs ++ begin.0) (sym (append_assoc (boxes_before (scope ∷ outer)) (boxes_of d) (boxes_in ds))
+                ∙ ap (λ xs. xs ++ boxes_in ds) (sym (before_more scope d outer))),
+          )
 
       claims_so_far : length mid.claims ≡ length st.claims + length first.nets
-      claims_so_far = ap (λ (xs : List Pending). length xs) first.claims_are ∙ length-append st.claims first.own ∙ ap (λ n. length st.claims + n) (beside_length (PendingMeans names boxes mid) first.own first.nets first.beside)
+      claims_so_far = ap (λ (xs : List Pending). length xs) first.claims_are ∙ length-append st.claims first.own
+          ∙ ap (λ n. length st.claims + n) (beside_length (PendingMeans names boxes mid) first.own first.nets first.beside)
 
   row_tells : {A : Type 0} (decl : A → Decl) → ((x : A) → DeclTells (decl x)) → (xs : List A) → RowHolds (each decl xs)
   row_tells decl holds [] = row_nil
@@ -410,7 +467,14 @@ module _ (names : List (List ℕ)) (all : List BoxDecl) where
 
   signature_keeps : (sig : Option Sig) (st : Declarations) → Keeps st (with_net_signature names sig st)
   signature_keeps None st = record { grows = grows_itself st; scopes = refl; boxes_same = refl; claims = refl; main = refl }
-  signature_keeps (Some (Arrow input output)) st = record { grows = signature_grows_by names boxes (Arrow input output) st; scopes = refl; boxes_same = refl; claims = refl; main = refl }
+  signature_keeps (Some (Arrow input output)) st = record {
+    grows = signature_grows_by names boxes
+        (Arrow input output) st;
+    scopes = refl;
+    boxes_same = refl;
+    claims = refl;
+    main = refl;
+  }
   signature_keeps (Some (NamedSig name)) st = record { grows = signature_grows_by names boxes (NamedSig name) st; scopes = refl; boxes_same = refl; claims = refl; main = refl }
 
   outermost_is : (n m : ℕ) → n ≡ m → (n == 0) ≡ (suc m == 1)
@@ -427,7 +491,8 @@ module _ (names : List (List ℕ)) (all : List BoxDecl) where
 
   -- a net
   module _ (name : Ident) (sig : Option Sig) (decls : List Decl) (connect : NetExpr) (net : NetDecl) (out : out-NetDecl net ≡ net_form name sig decls connect) (rows : RowHolds decls)
-      (d : Decl) (at : out-Decl d ≡ Decl-F.NetDecl net) (has : boxes_of d ≡ boxes_in decls) (st : Declarations) (scope : List Decl) (outer : Around) (knows : Knows names boxes st scope outer)
+      (d : Decl) (at : out-Decl d ≡ Decl-F.NetDecl net) (has : boxes_of d ≡ boxes_in decls) (st : Declarations) (scope : List Decl) (outer : Around)
+      (knows : Knows names boxes st scope outer)
       (fine : Fine scope outer d) (begin : Begin (boxes_before (scope ∷ outer) ++ boxes_of d)) where
     abbrev opened : Declarations
     opened = with_net_signature names sig st
@@ -484,7 +549,8 @@ module _ (names : List (List ℕ)) (all : List BoxDecl) where
     closed_main = row.main_is ∙ inner_mains 0 inside.main ∙ kept.main
 
     tree_of : (state : Declarations) → Grows closed state → NetMeans names boxes state number ((out-NetDecl net).decls ∷ there) (out-NetDecl net).connect
-    tree_of state grows = subst (λ (f : NetDecl-F Decl NetDecl). NetMeans names boxes state number (f.decls ∷ there) f.connect) (sym out) (net_grows names boxes closed state grows number (decls ∷ there) connect closed_means)
+    tree_of state grows = subst (λ (f : NetDecl-F Decl NetDecl). NetMeans names boxes state number (f.decls ∷ there) f.connect) (sym out)
+        (net_grows names boxes closed state grows number (decls ∷ there) connect closed_means)
 
     -- the claim, if there is one
     record ClaimPart (claimed : Declarations) : Type 0 where
@@ -512,7 +578,8 @@ module _ (names : List (List ℕ)) (all : List BoxDecl) where
       own = row.own;
       nets = row.nets;
       claims_are = λ i. kept.claims i ++ inner_claims i;
-      beside = pendings_grow names boxes inner (claimed_by None) (grows_on inner closed (claimed_by None) closed_grows (same_grows closed (claimed_by None) refl refl refl)) row.own row.nets row.beside;
+      beside = pendings_grow names boxes inner (claimed_by None) (grows_on inner closed (claimed_by None) closed_grows (same_grows closed
+          (claimed_by None) refl refl refl)) row.own row.nets row.beside;
       signed_in = λ ds rest one. without net at (ap (λ (f : NetDecl-F Decl NetDecl). f.sig) out ∙ sym none) inner_signed one;
       main_is = closed_main ∙ sym (inner_mains (length st.claims) st.main);
     }
@@ -593,10 +660,13 @@ module _ (names : List (List ℕ)) (all : List BoxDecl) where
 
   net_tells : (name : Ident) (sig : Option Sig) (decls : List Told) (connect : NetExpr) → NetTells (roll-NetDecl (net_form name sig (each (λ (e : Told). e.0) decls) connect))
   net_tells name sig decls connect d at is has st scope outer knows fine begin =
-      subst (λ (c : Change). Tells names boxes st (c st) scope outer d) (sym (is ∙ fold-roll-NetDecl Change Change (decl_step names) (net_step names) (net_form name sig (each (λ (e : Told). e.0) decls) connect)))
-      (whole_tells name sig (each (λ (e : Told). e.0) decls) connect (roll-NetDecl (net_form name sig (each (λ (e : Told). e.0) decls) connect)) (out-roll-NetDecl (net_form name sig (each (λ (e : Told). e.0) decls) connect))
+      subst (λ (c : Change). Tells names boxes st (c st) scope outer d) (sym (is
+      ∙ fold-roll-NetDecl Change Change (decl_step names) (net_step names) (net_form name sig (each (λ (e : Told). e.0) decls) connect)))
+      (whole_tells name sig (each (λ (e : Told). e.0) decls) connect (roll-NetDecl (net_form name sig (each (λ (e : Told). e.0) decls) connect)) (out-roll-NetDecl
+      (net_form name sig (each (λ (e : Told). e.0) decls) connect))
       (row_tells (λ (e : Told). e.0) (λ e. e.1) decls) d at
-      (has ∙ fold-roll-NetDecl (List BoxDecl) (List BoxDecl) boxes_step net_boxes (net_form name sig (each (λ (e : Told). e.0) decls) connect) ∙ all_boxes (each (λ (e : Told). e.0) decls)) st scope outer knows fine begin)
+      (has ∙ fold-roll-NetDecl (List BoxDecl) (List BoxDecl) boxes_step net_boxes (net_form name sig (each (λ (e : Told). e.0) decls) connect)
+      ∙ all_boxes (each (λ (e : Told). e.0) decls)) st scope outer knows fine begin)
 
   after_roll : (x : Decl-F Decl NetDecl) → after names (roll-Decl x) ≡ decl_step names (map-Decl Decl NetDecl Change Change (after names) (after_net names) x)
   after_roll x = fold-roll-Decl Change Change (decl_step names) (net_step names) x
@@ -611,8 +681,10 @@ module _ (names : List (List ℕ)) (all : List BoxDecl) where
       (elim y as (λ z. DeclTells (roll-Decl (map-Decl _ _ Decl NetDecl (λ e. e.0) (λ e. e.0) z))) [
         | Decl-F.BoxDecl b ↦ box_tells (roll-Decl (Decl-F.BoxDecl b)) b (out-roll-Decl (Decl-F.BoxDecl b)) (after_roll (Decl-F.BoxDecl b)) (boxes_roll (Decl-F.BoxDecl b))
         | Decl-F.NetDecl net ↦ net.1 (roll-Decl (Decl-F.NetDecl net.0)) (out-roll-Decl (Decl-F.NetDecl net.0)) (after_roll (Decl-F.NetDecl net.0)) (boxes_roll (Decl-F.NetDecl net.0))
-        | Decl-F.TypeDecl name parts ↦ type_tells (roll-Decl (Decl-F.TypeDecl name parts)) name parts (out-roll-Decl (Decl-F.TypeDecl name parts)) (after_roll (Decl-F.TypeDecl name parts)) (boxes_roll (Decl-F.TypeDecl name parts))
-        | Decl-F.SigDecl name sig ↦ sig_tells (roll-Decl (Decl-F.SigDecl name sig)) name sig (out-roll-Decl (Decl-F.SigDecl name sig)) (after_roll (Decl-F.SigDecl name sig)) (boxes_roll (Decl-F.SigDecl name sig))
+        | Decl-F.TypeDecl name parts ↦ type_tells (roll-Decl (Decl-F.TypeDecl name parts)) name parts (out-roll-Decl (Decl-F.TypeDecl name parts)) (after_roll
+            (Decl-F.TypeDecl name parts)) (boxes_roll (Decl-F.TypeDecl name parts))
+        | Decl-F.SigDecl name sig ↦ sig_tells (roll-Decl (Decl-F.SigDecl name sig)) name sig (out-roll-Decl (Decl-F.SigDecl name sig)) (after_roll (Decl-F.SigDecl name sig))
+            (boxes_roll (Decl-F.SigDecl name sig))
       ]))
       (λ x y is. subst (λ z. NetTells (roll-NetDecl z)) is (net_tells y.name y.sig y.decls y.connect))
 

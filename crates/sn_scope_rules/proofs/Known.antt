@@ -44,7 +44,15 @@ pub record Grows (old new : Declarations) : Type 0 where
   pub more_signatures : new.signatures ≡ old.signatures ++ signatures
 
 pub grows_itself : (st : Declarations) → Grows st st
-grows_itself st = record { nets = []; types = []; signatures = []; more_nets = sym (append-nil st.nets); more_types = sym (append-nil st.types); more_signatures = sym (append-nil st.signatures) }
+grows_itself st = record {
+  nets = [];
+  types = [];
+  signatures = [];
+  more_nets = sym (append-nil st.nets);
+  more_types = sym (append-nil st.types);
+  more_signatures = sym
+      (append-nil st.signatures);
+}
 
 pub grows_on : (a b c : Declarations) → Grows a b → Grows b c → Grows a c
 grows_on a b c one other = record {
@@ -66,7 +74,8 @@ module _ (names : List (List ℕ)) (boxes : List BoxProgram) where
 
   -- the signature of the number
   abbrev pub SignatureMeans : Declarations → ℕ → Around → Sig → Type 0
-  SignatureMeans st k around sig = (input : List Labels) × (output : List Labels) × SignatureOf names around sig input output × (slice_get st.signatures k ≡ Some (record { input = input; output = output }))
+  SignatureMeans st k around sig = (input : List Labels) × (output : List Labels) × SignatureOf names around sig input output × (slice_get st.signatures k ≡ Some
+      (record { input = input; output = output }))
 
   abbrev pub MeansForm : Declarations → Option Meaning → Decl-F Decl NetDecl → Around → Type 0
   MeansForm st m (Decl-F.BoxDecl declaration) there = (m ≡ Some (meaning.Box (length (boxes_before there)))) × (length (boxes_before there) < length boxes)
@@ -81,7 +90,8 @@ module _ (names : List (List ℕ)) (boxes : List BoxProgram) where
   module _ (old new : Declarations) (grows : Grows old new) where
     pub net_grows : (k : ℕ) (around : Around) (connect : NetExpr) → NetMeans old k around connect → NetMeans new k around connect
     net_grows k around connect means more =
-        subst (λ nets. Ties boxes (λ levels. part_of boxes levels nets (Named k)) (TreeOf names boxes around connect)) (sym (append_assoc old.nets grows.nets more) ∙ ap (λ xs. xs ++ more) (sym grows.more_nets)) (means (grows.nets ++ more))
+        subst (λ nets. Ties boxes (λ levels. part_of boxes levels nets (Named k)) (TreeOf names boxes around connect)) (sym (append_assoc old.nets grows.nets more)
+        ∙ ap (λ xs. xs ++ more) (sym grows.more_nets)) (means (grows.nets ++ more))
 
     pub signature_grows : (k : ℕ) (around : Around) (sig : Sig) → SignatureMeans old k around sig → SignatureMeans new k around sig
     signature_grows k around sig means = (means.0, means.1, means.2, ap (λ xs. slice_get xs k) grows.more_signatures ∙ still_there old.signatures grows.signatures k _ means.3)
@@ -89,7 +99,14 @@ module _ (names : List (List ℕ)) (boxes : List BoxProgram) where
     form_grows : (m : Option Meaning) (x : Decl-F Decl NetDecl) (there : Around) → MeansForm old m x there → MeansForm new m x there
     form_grows m (Decl-F.BoxDecl declaration) there means = means
     form_grows m (Decl-F.NetDecl called) there means = (means.0, means.1, net_grows means.0 ((out-NetDecl called).decls ∷ there) (out-NetDecl called).connect means.2)
-    form_grows m (Decl-F.TypeDecl name parts) there means = (means.0, means.1, means.2, means.3, ap (λ xs. slice_get xs means.0) grows.more_types ∙ still_there old.types grows.types means.0 _ means.4)
+    form_grows m (Decl-F.TypeDecl name parts) there means = (
+      means.0,
+      means.1,
+      means.2,
+      means.3,
+      ap (λ xs. slice_get xs means.0) grows.more_types
+          ∙ still_there old.types grows.types means.0 _ means.4,
+    )
     form_grows m (Decl-F.SigDecl name sig) there means = (means.0, means.1, signature_grows means.0 there sig means.2)
 
     pub means_grow : (m : Option Meaning) (found : Option (Decl × Around)) → Means old m found → Means new m found
@@ -119,7 +136,8 @@ module _ (names : List (List ℕ)) (boxes : List BoxProgram) where
 
   module _ (st : Declarations) (scope : List Decl) (outer : Around) (knows : Knows st scope outer) where
     pub known : (n : List ℕ) → Means st (meaning_of st.scopes n) (found_at (scope ∷ outer) n)
-    known n = both_mean st (meaning_in st.scopes.current n) (around_of st.scopes.outer n) (option_map (within outer) (first_named n scope)) (found_at outer n) (knows.current n) (knows.around n)
+    known n = both_mean st (meaning_in st.scopes.current n) (around_of st.scopes.outer n) (option_map (within outer) (first_named n scope)) (found_at outer n) (knows.current n)
+        (knows.around n)
 
     pub known_form : (n : List ℕ) (decl : Decl) (there : Around) → found_at (scope ∷ outer) n ≡ Some (decl, there) → MeansForm st (meaning_of st.scopes n) (out-Decl decl) there
     known_form n decl there is = subst (Means st (meaning_of st.scopes n)) is (known n)
@@ -135,7 +153,8 @@ module _ (names : List (List ℕ)) (boxes : List BoxProgram) where
         by_form m (Decl-F.SigDecl name sig) there means = tt
 
     -- the parts of types
-    pub sees_types : (n : List ℕ) (decl : Decl) (there : Around) → found_at (scope ∷ outer) n ≡ Some (decl, there) → SeesType names st.types (meaning_of st.scopes n) (out-Decl decl) there
+    pub sees_types : (n : List ℕ) (decl : Decl) (there : Around) → found_at (scope ∷ outer) n ≡ Some (decl, there)
+        → SeesType names st.types (meaning_of st.scopes n) (out-Decl decl) there
     sees_types n decl there is = by_form (meaning_of st.scopes n) (out-Decl decl) there (known_form n decl there is)
       where
         by_form : (m : Option Meaning) (x : Decl-F Decl NetDecl) (there : Around) → MeansForm st m x there → SeesType names st.types m x there
@@ -157,14 +176,17 @@ module _ (scope : Scope) (name : List ℕ) (m : Meaning) (as_many : length scope
   pushed_meaning n true false there is = ap (slice_get (scope.meanings ++ m ∷ [])) (number_in-append scope.names (name ∷ []) n there)
       ∙ get_left scope.meanings (m ∷ []) (number_in scope.names n) (subst (λ k. number_in scope.names n < k) (sym as_many) (number_in-held scope.names n there))
   pushed_meaning n false true none is =
-      get_last scope.meanings m (number_in (scope.names ++ name ∷ []) n) (subst (λ x. number_in (scope.names ++ name ∷ []) x ≡ length scope.meanings) (same_text name n is) (number_in_last scope.names name fresh ∙ sym as_many))
-  pushed_meaning n false false none is = slice_get_past (scope.meanings ++ m ∷ []) (number_in (scope.names ++ name ∷ []) n) past ∙ sym (slice_get_past scope.meanings (number_in scope.names n) was_past)
+      get_last scope.meanings m (number_in (scope.names ++ name ∷ []) n) (subst (λ x. number_in (scope.names ++ name ∷ []) x ≡ length scope.meanings) (same_text name n is)
+      (number_in_last scope.names name fresh ∙ sym as_many))
+  pushed_meaning n false false none is = slice_get_past (scope.meanings ++ m ∷ []) (number_in (scope.names ++ name ∷ []) n) past
+      ∙ sym (slice_get_past scope.meanings (number_in scope.names n) was_past)
     where
       absent : is_held (scope.names ++ name ∷ []) n ≡ false
       absent = list_any-append (λ x. bytes_eq x n) scope.names (name ∷ []) ∙ ap (λ b. b || (bytes_eq name n || false)) none ∙ ap (λ b. b || false) is
 
       past : length (scope.meanings ++ m ∷ []) ≤ number_in (scope.names ++ name ∷ []) n
-      past = let number = number_in-new (scope.names ++ name ∷ []) n absent in let longer = length_push scope.meanings m in let named = length_push scope.names name in omega (arith, number, longer, named, as_many)
+      past = let number = number_in-new (scope.names ++ name ∷ []) n absent in let longer = length_push scope.meanings m in let named = length_push scope.names name in omega
+          (arith, number, longer, named, as_many)
 
       was_past : length scope.meanings ≤ number_in scope.names n
       was_past = let number = number_in-new scope.names n none in omega (arith, number, as_many)
@@ -175,7 +197,8 @@ module _ (scope : Scope) (name : List ℕ) (m : Meaning) (as_many : length scope
       ∙ pushed_meaning n (is_held scope.names n) (bytes_eq name n) refl refl
 
 -- the declarations of a scope with one more, whose name is new
-pub more_named : (scope : List Decl) (d : Decl) → is_declared scope (name_of d).text ≡ false → (n : List ℕ) → first_named n (scope ++ d ∷ []) ≡ (if has_name n d then Some (d, scope) else first_named n scope)
+pub more_named : (scope : List Decl) (d : Decl) → is_declared scope (name_of d).text ≡ false → (n : List ℕ)
+    → first_named n (scope ++ d ∷ []) ≡ (if has_name n d then Some (d, scope) else first_named n scope)
 more_named scope d fresh n = cases (is_declared scope n) (has_name n d) refl refl
   where
     cases : (there same : Bool) → is_declared scope n ≡ there → has_name n d ≡ same → first_named n (scope ++ d ∷ []) ≡ (if has_name n d then Some (d, scope) else first_named n scope)

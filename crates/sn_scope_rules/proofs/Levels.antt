@@ -125,8 +125,11 @@ module _ (boxes : List BoxProgram) where
       to : option_map over made ≡ Some t → ((m : Net) × B m × (t ≡ over m)) × Each (Fits boxes n) (parts_of t)
       to is =
           let found = map_to made over t is in
-          let known = (at found.0).0 found.1 in
-          ((found.0, known.0, sym found.2), subst (Each (Fits boxes n)) (sym (ap parts_of (sym found.2) ∙ parts found.0)) (each_cons (Fits boxes n) found.0 [] known.1 (each_nil (Fits boxes n))))
+          let known = (at found.0).0 found.1 in (
+            (found.0, known.0, sym found.2),
+            subst (Each (Fits boxes n)) (sym (ap parts_of (sym found.2)
+                ∙ parts found.0)) (each_cons (Fits boxes n) found.0 [] known.1 (each_nil (Fits boxes n))),
+          )
 
       from : ((m : Net) × B m × (t ≡ over m)) × Each (Fits boxes n) (parts_of t) → option_map over made ≡ Some t
       from both =
@@ -147,7 +150,8 @@ module _ (boxes : List BoxProgram) where
           let a = (one first.0).0 first.1 in
           let b = (other second.0).0 second.1 in (
             (first.0, second.0, a.0, b.0, sym second.2),
-            subst (Each (Fits boxes n)) (sym (ap parts_of (sym second.2) ∙ parts-Serial first.0 second.0)) (each_cons (Fits boxes n) first.0 (second.0 ∷ []) a.1 (each_cons (Fits boxes n) second.0 [] b.1 (each_nil (Fits boxes n)))),
+            subst (Each (Fits boxes n)) (sym (ap parts_of (sym second.2) ∙ parts-Serial first.0 second.0)) (each_cons (Fits boxes n) first.0 (second.0 ∷ []) a.1 (each_cons
+                (Fits boxes n) second.0 [] b.1 (each_nil (Fits boxes n)))),
           )
 
       from : InSeries A B t × Each (Fits boxes n) (parts_of t) → in_series left right ≡ Some t

@@ -43,7 +43,8 @@ module _ (boxes : List BoxProgram) where
     narrow = λ node at. each_narrow node t at (λ p at. (parts p at).narrow) narrow;
   }
     where
-      each_narrow : (node whole : Net) → StandsWithin parts_of node whole → ((p : Net) → StandsIn p (parts_of whole) → (inner : Net) → StandsWithin parts_of inner p → length (face boxes inner) ≤ most_variants)
+      each_narrow : (node whole : Net) → StandsWithin parts_of node whole → ((p : Net) → StandsIn p (parts_of whole) → (inner : Net) → StandsWithin parts_of inner p
+          → length (face boxes inner) ≤ most_variants)
           → length (face boxes whole) ≤ most_variants → length (face boxes node) ≤ most_variants
       each_narrow node whole itself inner own = own
       each_narrow node whole (deeper {part} at within) inner own = inner part at node within

@@ -27,11 +27,13 @@ not_outermost (decls ∷ outer) name within =
     let is : (suc (suc (length outer)) == 1) ≡ false = grind (arith, nat_tests) in
     ap (λ b. b && name) is
 
-pub inner_main : (before : List Decl) (outer : Around) (decls : List Decl) (nets : List Signed) → SignedIn before outer decls nets → 0 < length outer → (place : ℕ) (found : Option ℕ) → main_from place found nets ≡ found
+pub inner_main : (before : List Decl) (outer : Around) (decls : List Decl) (nets : List Signed) → SignedIn before outer decls nets → 0 < length outer
+    → (place : ℕ) (found : Option ℕ) → main_from place found nets ≡ found
 inner_main before outer decls nets no_more within place found = refl
 inner_main before outer decls nets (no_net kind rest) within place found = inner_main _ _ _ _ rest within place found
 inner_main before outer decls nets (without {inner} {more} net at none own rest) within place found =
-    main_append place found inner more ∙ ap (λ f. main_from (place + length inner) f more) (inner_main _ _ _ _ own (omega arith) place found) ∙ inner_main _ _ _ _ rest within (place + length inner) found
+    main_append place found inner more ∙ ap (λ f. main_from (place + length inner) f more) (inner_main _ _ _ _ own (omega arith) place found)
+    ∙ inner_main _ _ _ _ rest within (place + length inner) found
 inner_main before outer decls nets (with_one {inner} {more} net sig at some own rest) within place found =
     ap (λ b. main_from (suc place) (if b then Some place else found) (inner ++ more)) (not_outermost outer _ within)
     ∙ main_append (suc place) found inner more ∙ ap (λ f. main_from (suc place + length inner) f more) (inner_main _ _ _ _ own (omega arith) (suc place) found)

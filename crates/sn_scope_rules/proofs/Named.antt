@@ -49,7 +49,8 @@ lists_both : (one other : Entry) (xs ys : Named) → Lists one xs → Lists othe
 lists_both one other xs ys first second names =
     second (one names) ∙ ap (λ ns. all_entered ns (texts ys)) (first names) ∙ sym (all_entered-append names (texts xs) (texts ys)) ∙ ap (all_entered names) (sym (texts_append xs ys))
 
-lists_each : {A : Type 0} (enter : Names → A → Names) (named : A → Named) → ((x : A) → Lists (λ names. enter names x) (named x)) → (xs : List A) → Lists (λ names. fold enter names xs) (flat_map named xs)
+lists_each : {A : Type 0} (enter : Names → A → Names) (named : A → Named) → ((x : A) → Lists (λ names. enter names x) (named x)) → (xs : List A)
+    → Lists (λ names. fold enter names xs) (flat_map named xs)
 lists_each enter named one [] = λ names. refl
 lists_each enter named one (x ∷ xs) = lists_both (λ names. enter names x) (λ names. fold enter names xs) (named x) (flat_map named xs) (one x) (lists_each enter named one xs)
 
@@ -65,7 +66,8 @@ type_lists : (parts : List TypePart) → Lists (λ names. after_types names part
 type_lists parts = lists_each after_part in_part part_lists parts
 
 sig_lists : (sig : Sig) → Lists (after_sig sig) (in_sig sig)
-sig_lists (Arrow input output) = lists_both (λ names. after_types names input) (λ names. after_types names output) (in_type input) (in_type output) (type_lists input) (type_lists output)
+sig_lists (Arrow input output) = lists_both (λ names. after_types names input) (λ names. after_types names output) (in_type input) (in_type output) (type_lists input)
+    (type_lists output)
 sig_lists (NamedSig name) = λ names. refl
 
 signature_lists : (sig : Option Sig) → Lists (after_signature sig) (in_signature sig)
@@ -79,7 +81,8 @@ form_entry = fold-TForm Entry Entry entry_step (λ e. e.form)
 form_tags : TForm → Named
 form_tags = fold-TForm Named Named tags_step (λ e. e.form)
 
-tags_level : (x : TForm-F TForm TExpr) → Lists (entry_step (map-TForm TForm TExpr Entry Entry form_entry after_tags x)) (tags_step (map-TForm TForm TExpr Named Named form_tags tags_in x))
+tags_level : (x : TForm-F TForm TExpr) → Lists (entry_step (map-TForm TForm TExpr Entry Entry form_entry after_tags x)) (tags_step
+    (map-TForm TForm TExpr Named Named form_tags tags_in x))
     → Lists (form_entry (roll-TForm x)) (form_tags (roll-TForm x))
 unfolding form_entry form_tags
 tags_level x known = subst₂ Lists (sym (fold-roll-TForm Entry Entry entry_step (λ e. e.form) x)) (sym (fold-roll-TForm Named Named tags_step (λ e. e.form) x)) known
@@ -97,7 +100,8 @@ tags_list = ind-TExpr (λ form. Lists (form_entry form) (form_tags form)) (λ e.
       | TForm-F.Op o e f ↦ lists_both (after_tags e.0) (after_tags f.0) (tags_in e.0) (tags_in f.0) e.1 f.1
       | TForm-F.And e f ↦ lists_both (after_tags e.0) (after_tags f.0) (tags_in e.0) (tags_in f.0) e.1 f.1
       | TForm-F.Or e f ↦ lists_both (after_tags e.0) (after_tags f.0) (tags_in e.0) (tags_in f.0) e.1 f.1
-      | TForm-F.Cond c e f ↦ lists_both (after_tags c.0) (λ names. after_tags f.0 (after_tags e.0 names)) (tags_in c.0) (tags_in e.0 ++ tags_in f.0) c.1 (lists_both (after_tags e.0) (after_tags f.0) (tags_in e.0) (tags_in f.0) e.1 f.1)
+      | TForm-F.Cond c e f ↦ lists_both (after_tags c.0) (λ names. after_tags f.0 (after_tags e.0 names)) (tags_in c.0) (tags_in e.0 ++ tags_in f.0) c.1 (lists_both
+          (after_tags e.0) (after_tags f.0) (tags_in e.0) (tags_in f.0) e.1 f.1)
     ])))
     (λ x y is. subst (λ z. Lists (after_tags (roll-TExpr z)) (tags_in (roll-TExpr z))) is
     (subst₂ Lists
@@ -129,7 +133,8 @@ net_named = fold-NetForm Named Named named_network (λ n. n.form)
 abbrev NetLists : NetExpr → Type 0
 NetLists net = Lists (after_network net) (in_network net)
 
-net_level : (x : NetForm-F NetForm NetExpr) → Lists (network_step (map-NetForm NetForm NetExpr Entry Entry net_entry after_network x)) (named_network (map-NetForm NetForm NetExpr Named Named net_named in_network x))
+net_level : (x : NetForm-F NetForm NetExpr) → Lists (network_step (map-NetForm NetForm NetExpr Entry Entry net_entry after_network x)) (named_network
+    (map-NetForm NetForm NetExpr Named Named net_named in_network x))
     → Lists (net_entry (roll-NetForm x)) (net_named (roll-NetForm x))
 unfolding net_entry net_named
 net_level x known = subst₂ Lists (sym (fold-roll-NetForm Entry Entry network_step (λ n. n.form) x)) (sym (fold-roll-NetForm Named Named named_network (λ n. n.form) x)) known
@@ -142,21 +147,25 @@ exprs parts = each (λ (e : Listed). e.0) parts
 
 nets_list : (parts : List Listed) → Lists (all_after (each after_network (exprs parts))) (together (each in_network (exprs parts)))
 nets_list [] = λ names. refl
-nets_list (part ∷ parts) = lists_both (after_network part.0) (all_after (each after_network (exprs parts))) (in_network part.0) (together (each in_network (exprs parts))) part.1 (nets_list parts)
+nets_list (part ∷ parts) = lists_both (after_network part.0) (all_after (each after_network (exprs parts))) (in_network part.0) (together (each in_network
+    (exprs parts))) part.1 (nets_list parts)
 
 network_lists : (net : NetExpr) → NetLists net
 unfolding net_entry net_named
 network_lists = ind-NetExpr (λ form. Lists (net_entry form) (net_named form)) NetLists
-    (λ x y is. subst (λ z. Lists (net_entry (roll-NetForm z)) (net_named (roll-NetForm z))) is (net_level (map-NetForm _ _ NetForm NetExpr (λ e. e.0) (λ e. e.0) y) (elim y as (λ z. Lists
+    (λ x y is. subst (λ z. Lists (net_entry (roll-NetForm z)) (net_named (roll-NetForm z))) is (net_level (map-NetForm _ _ NetForm NetExpr (λ e. e.0) (λ e. e.0) y) (elim y as
+    (λ z. Lists
     (network_step (map-NetForm NetForm NetExpr Entry Entry net_entry after_network (map-NetForm _ _ NetForm NetExpr (λ e. e.0) (λ e. e.0) z)))
     (named_network (map-NetForm NetForm NetExpr Named Named net_named in_network (map-NetForm _ _ NetForm NetExpr (λ e. e.0) (λ e. e.0) z)))) [
       | NetForm-F.Name name ↦ λ names. refl
       | NetForm-F.Identity ↦ λ names. refl
-      | NetForm-F.Filter pattern templates ↦ lists_both (λ names. after_variant names pattern) (λ names. fold after_template names templates) (in_variant pattern) (flat_map in_template templates) (labels_list pattern.labels) (lists_each after_template in_template template_lists templates)
+      | NetForm-F.Filter pattern templates ↦ lists_both (λ names. after_variant names pattern) (λ names. fold after_template names templates) (in_variant pattern)
+          (flat_map in_template templates) (labels_list pattern.labels) (lists_each after_template in_template template_lists templates)
       | NetForm-F.Sync patterns ↦ lists_each after_variant in_variant (λ pattern. labels_list pattern.labels) patterns
       | NetForm-F.Serial parts ↦ nets_list parts
       | NetForm-F.Choice det branches ↦ nets_list branches
-      | NetForm-F.Star det body exit guard ↦ lists_both (after_network body.0) (λ names. after_guard guard (after_variant names exit)) (in_network body.0) (in_variant exit ++ in_guard guard) body.1
+      | NetForm-F.Star det body exit guard ↦ lists_both (after_network body.0) (λ names. after_guard guard (after_variant names exit)) (in_network body.0)
+          (in_variant exit ++ in_guard guard) body.1
           (lists_both (λ names. after_variant names exit) (after_guard guard) (in_variant exit) (in_guard guard) (labels_list exit.labels) (guard_lists guard))
       | NetForm-F.Split det body tag ↦ lists_both (after_network body.0) (λ names. entered names tag.text) (in_network body.0) (tag ∷ []) body.1 (λ names. refl)
     ])))
@@ -167,7 +176,8 @@ network_lists = ind-NetExpr (λ form. Lists (net_entry form) (net_named form)) N
 
 -- declarations
 box_lists : (declaration : BoxDecl) → Lists (after_box declaration) (in_box declaration)
-box_lists declaration = lists_both (λ names. after_tuple names declaration.input) (λ names. fold after_tuple names declaration.outputs) (in_tuple declaration.input) (flat_map in_tuple declaration.outputs)
+box_lists declaration = lists_both (λ names. after_tuple names declaration.input) (λ names. fold after_tuple names declaration.outputs) (in_tuple declaration.input)
+    (flat_map in_tuple declaration.outputs)
     (labels_list declaration.input.labels) (lists_each after_tuple in_tuple (λ tuple. labels_list tuple.labels) declaration.outputs)
 
 abbrev DeclLists : Decl → Type 0
@@ -176,23 +186,28 @@ DeclLists d = Lists (after_decl d) (in_decl d)
 abbrev NetDeclLists : NetDecl → Type 0
 NetDeclLists net = Lists (after_net net) (in_net net)
 
-decls_list : {A : Type 0} (decl : A → Decl) → ((x : A) → DeclLists (decl x)) → (xs : List A) → Lists (all_after (each after_decl (each decl xs))) (together (each in_decl (each decl xs)))
+decls_list : {A : Type 0} (decl : A → Decl) → ((x : A) → DeclLists (decl x)) → (xs : List A)
+    → Lists (all_after (each after_decl (each decl xs))) (together (each in_decl (each decl xs)))
 decls_list decl one [] = λ names. refl
-decls_list decl one (x ∷ xs) = lists_both (after_decl (decl x)) (all_after (each after_decl (each decl xs))) (in_decl (decl x)) (together (each in_decl (each decl xs))) (one x) (decls_list decl one xs)
+decls_list decl one (x ∷ xs) = lists_both (after_decl (decl x)) (all_after (each after_decl (each decl xs))) (in_decl (decl x)) (together (each in_decl (each decl xs))) (one x)
+    (decls_list decl one xs)
 
 abbrev ListedDecl : Type 0
 ListedDecl = (d : Decl) × DeclLists d
 
-net_lists : (name : Ident) (sig : Option Sig) (decls : List ListedDecl) (connect : NetExpr) → NetDeclLists (roll-NetDecl (record { name = name; sig = sig; decls = each (λ (e : ListedDecl). e.0) decls; connect = connect }))
+net_lists : (name : Ident) (sig : Option Sig) (decls : List ListedDecl) (connect : NetExpr)
+    → NetDeclLists (roll-NetDecl (record { name = name; sig = sig; decls = each (λ (e : ListedDecl). e.0) decls; connect = connect }))
 net_lists name sig decls connect = subst₂ Lists
     (sym (fold-roll-NetDecl Entry Entry decl_step net_step (record { name = name; sig = sig; decls = each (λ (e : ListedDecl). e.0) decls; connect = connect })))
     (sym (fold-roll-NetDecl Named Named named_decl named_net (record { name = name; sig = sig; decls = each (λ (e : ListedDecl). e.0) decls; connect = connect })))
     (lists_both (after_signature sig) (λ names. after_network connect (all_after (each after_decl (each (λ (e : ListedDecl). e.0) decls)) names)) (in_signature sig)
     (together (each in_decl (each (λ (e : ListedDecl). e.0) decls)) ++ in_network connect) (signature_lists sig)
-    (lists_both (all_after (each after_decl (each (λ (e : ListedDecl). e.0) decls))) (after_network connect) (together (each in_decl (each (λ (e : ListedDecl). e.0) decls))) (in_network connect)
+    (lists_both (all_after (each after_decl (each (λ (e : ListedDecl). e.0) decls))) (after_network connect) (together (each in_decl (each (λ (e : ListedDecl). e.0) decls)))
+    (in_network connect)
     (decls_list (λ (e : ListedDecl). e.0) (λ e. e.1) decls) (network_lists connect)))
 
-decl_is : (x : Decl-F Decl NetDecl) → Lists (decl_step (map-Decl Decl NetDecl Entry Entry after_decl after_net x)) (named_decl (map-Decl Decl NetDecl Named Named in_decl in_net x)) → DeclLists (roll-Decl x)
+decl_is : (x : Decl-F Decl NetDecl) → Lists (decl_step (map-Decl Decl NetDecl Entry Entry after_decl after_net x)) (named_decl
+    (map-Decl Decl NetDecl Named Named in_decl in_net x)) → DeclLists (roll-Decl x)
 decl_is x known = subst₂ Lists (sym (fold-roll-Decl Entry Entry decl_step net_step x)) (sym (fold-roll-Decl Named Named named_decl named_net x)) known
 
 decl_lists : (d : Decl) → DeclLists d

@@ -43,7 +43,8 @@ module _ (names : List (List ℕ)) where
   pub variants_once : (around : Around) (parts : List TypePart) (xs : List Labels) → VariantsOf names around parts xs → (ys : List Labels) → VariantsOf names around parts ys → xs ≡ ys
   variants_once around parts xs no_part ys no_part = refl
   variants_once around parts xs (written {variant} rest) ys (written {more = more'} rest') = ap (λ more. variant_at names variant ∷ more) (variants_once _ _ _ rest more' rest')
-  variants_once around parts xs (named {there} {name} {own} {decl} {inner = inner} found at one rest) ys (named {there = there'} {own = own'} {decl = decl'} {inner = inner'} {some = some'} {more = more'} found' at' one' rest') =
+  variants_once around parts xs (named {there} {name} {own} {decl} {inner = inner} found at one rest) ys
+      (named {there = there'} {own = own'} {decl = decl'} {inner = inner'} {some = some'} {more = more'} found' at' one' rest') =
       λ i. once (variants_once _ _ _ one some' moved i) ++ variants_once _ _ _ rest more' rest' i
     where
       same : Path (Decl × Around) (decl', there') (decl, there)
@@ -53,10 +54,12 @@ module _ (names : List (List ℕ)) where
       moved = subst (λ a. VariantsOf names a inner some') (ap (λ (f : Decl × Around). f.1) same)
           (subst (λ ps. VariantsOf names there' ps some') (same_parts decl decl' own own' inner inner' (ap (λ (f : Decl × Around). f.0) same) at at') one')
 
-  pub signature_once : (around : Around) (sig : Sig) (i o : List Labels) → SignatureOf names around sig i o → (i' o' : List Labels) → SignatureOf names around sig i' o' → (i ≡ i') × (o ≡ o')
+  pub signature_once : (around : Around) (sig : Sig) (i o : List Labels) → SignatureOf names around sig i o → (i' o' : List Labels) → SignatureOf names around sig i' o'
+      → (i ≡ i') × (o ≡ o')
   signature_once around sig i o (arrow {input} {output} {inputs} {outputs} one other) i' o' (arrow {inputs = inputs'} {outputs = outputs'} one' other') =
       (ap once (variants_once around input inputs one inputs' one'), ap once (variants_once around output outputs other outputs' other'))
-  signature_once around sig i o (named_signature {there} {name} {own} {decl} {sig = inner} found at one) i' o' (named_signature {there = there'} {own = own'} {decl = decl'} {sig = inner'} found' at' one') =
+  signature_once around sig i o (named_signature {there} {name} {own} {decl} {sig = inner} found at one) i' o'
+      (named_signature {there = there'} {own = own'} {decl = decl'} {sig = inner'} found' at' one') =
       signature_once _ _ _ _ one i' o' moved
     where
       same : Path (Decl × Around) (decl', there') (decl, there)

@@ -28,7 +28,8 @@ or_true : (b : Bool) → (b || true) ≡ true
 or_true true = refl
 or_true false = refl
 
-of_both : (m : Signed) (xs ys : List Signed) → ((n : Signed) → StandsIn n xs → is_main n ≡ false) → ((n : Signed) → StandsIn n ys → is_main n ≡ false) → StandsIn m (xs ++ ys) → is_main m ≡ false
+of_both : (m : Signed) (xs ys : List Signed) → ((n : Signed) → StandsIn n xs → is_main n ≡ false) → ((n : Signed) → StandsIn n ys → is_main n ≡ false) → StandsIn m (xs ++ ys)
+    → is_main m ≡ false
 of_both m xs ys one other at = either (in_either m xs ys at)
   where
     either : StandsIn m xs ⊎ StandsIn m ys → is_main m ≡ false
@@ -40,7 +41,8 @@ of_first m first xs one other here = one
 of_first m first xs one other (later at) = other m at
 
 -- no net within another is the program's
-inner_none : (before : List Decl) (outer : Around) (decls : List Decl) (nets : List Signed) → SignedIn before outer decls nets → 0 < length outer → (m : Signed) → StandsIn m nets → is_main m ≡ false
+inner_none : (before : List Decl) (outer : Around) (decls : List Decl) (nets : List Signed) → SignedIn before outer decls nets → 0 < length outer → (m : Signed)
+    → StandsIn m nets → is_main m ≡ false
 inner_none before outer decls nets no_more within m at = absurd (none_in m at)
 inner_none before outer decls nets (no_net kind rest) within m at = inner_none _ _ _ _ rest within m at
 inner_none before outer decls nets (without {inner} {more} net is none own rest) within m at =
@@ -60,7 +62,8 @@ net_named : (d : Decl) (net : NetDecl) → out-Decl d ≡ Decl-F.NetDecl net →
 net_named d net at = ap (λ x. bytes_eq (name_in x).text main_name) at
 
 -- the name is not declared again
-not_again : (before : List Decl) (outer : Around) (d : Decl) (net : NetDecl) → is_declared before (name_of d).text ≡ false → is_declared before main_name ≡ true → out-Decl d ≡ Decl-F.NetDecl net → (one : Bool) → (one && bytes_eq (out-NetDecl net).name.text main_name) ≡ false
+not_again : (before : List Decl) (outer : Around) (d : Decl) (net : NetDecl) → is_declared before (name_of d).text ≡ false → is_declared before main_name ≡ true
+    → out-Decl d ≡ Decl-F.NetDecl net → (one : Bool) → (one && bytes_eq (out-NetDecl net).name.text main_name) ≡ false
 not_again before outer d net fresh there at one = cases (has_name main_name d) refl
   where
     cases : (b : Bool) → has_name main_name d ≡ b → (one && bytes_eq (out-NetDecl net).name.text main_name) ≡ false
@@ -71,14 +74,17 @@ not_again before outer d net fresh there at one = cases (has_name main_name d) r
     cases false is = ap (λ b. one && b) (sym (net_named d net at) ∙ is) ∙ and_false one
 
 -- so no later net is the program's
-later_none : (before : List Decl) (outer : Around) (decls : List Decl) (nets : List Signed) → SignedIn before outer decls nets → RowFine before outer decls → is_declared before main_name ≡ true → (m : Signed) → StandsIn m nets → is_main m ≡ false
+later_none : (before : List Decl) (outer : Around) (decls : List Decl) (nets : List Signed) → SignedIn before outer decls nets → RowFine before outer decls
+    → is_declared before main_name ≡ true → (m : Signed) → StandsIn m nets → is_main m ≡ false
 later_none before outer decls nets no_more fine there m at = absurd (none_in m at)
-later_none before outer decls nets (no_net {decls = rest_of} {decl} kind rest) fine there m at = later_none _ _ _ _ rest (fine_rest before outer decl rest_of fine) (still_declared before decl there) m at
+later_none before outer decls nets (no_net {decls = rest_of} {decl} kind rest) fine there m at = later_none _ _ _ _ rest (fine_rest before outer decl rest_of fine)
+    (still_declared before decl there) m at
 later_none before outer decls nets (without {decls = rest_of} {decl} {inner} {more} net is none own rest) fine there m at =
     of_both m inner more (inner_none _ _ _ _ own (omega arith)) (later_none _ _ _ _ rest (fine_rest before outer decl rest_of fine) (still_declared before decl there)) at
 later_none before outer decls nets (with_one {decls = rest_of} {decl} {inner} {more} net sig is some own rest) fine there m at =
     of_first m _ (inner ++ more) (not_again before outer decl net (fine_name before outer decl (fine_first before outer decl rest_of fine)) there is (suc (length outer) == 1))
-    (λ n within. of_both n inner more (inner_none _ _ _ _ own (omega arith)) (later_none _ _ _ _ rest (fine_rest before outer decl rest_of fine) (still_declared before decl there)) within) at
+    (λ n within. of_both n inner more (inner_none _ _ _ _ own (omega arith)) (later_none _ _ _ _ rest (fine_rest before outer decl rest_of fine)
+    (still_declared before decl there)) within) at
 
 -- an element of two lists in a row
 read_either : {A : Type 0} (xs ys : List A) (i : ℕ) (x : A) → slice_get (xs ++ ys) i ≡ Some x → StandsIn x xs ⊎ ((k : ℕ) × (i ≡ length xs + k) × (slice_get ys k ≡ Some x))

@@ -27,11 +27,13 @@ use Rattle.sn_scope_rules.proofs.Trees.{FormTree, NamedTree, form_from, series_m
 
 module _ (names : List (List ℕ)) (boxes : List BoxProgram) where
   -- a tree by the form that the network has
-  by_form : (around : Around) (network : NetExpr) (x : NetForm-F NetForm NetExpr) (t : Net) → form_of network ≡ x → TreeOf names boxes around network t → FormTree names boxes around (place_of network) x t
+  by_form : (around : Around) (network : NetExpr) (x : NetForm-F NetForm NetExpr) (t : Net) → form_of network ≡ x → TreeOf names boxes around network t
+      → FormTree names boxes around (place_of network) x t
   by_form around network x t is one = subst (λ y. FormTree names boxes around (place_of network) y t) is (form_from names boxes around network t one)
 
   -- a tree by what its name stands for
-  by_name : (around : Around) (name : Ident) (place : ℕ) (decl : Decl) (there : Around) (x : Decl-F Decl NetDecl) (t : Net) → found_at around name.text ≡ Some (decl, there) → out-Decl decl ≡ x
+  by_name : (around : Around) (name : Ident) (place : ℕ) (decl : Decl) (there : Around) (x : Decl-F Decl NetDecl) (t : Net) → found_at around name.text ≡ Some (decl, there)
+      → out-Decl decl ≡ x
       → FormTree names boxes around place (NetForm-F.Name name) t → NamedTree names boxes x there name.at t
   by_name around name place decl there x t found at one =
       subst (λ y. NamedTree names boxes y there name.at t) at
@@ -65,7 +67,8 @@ module _ (names : List (List ℕ)) (boxes : List BoxProgram) where
         let found = series_more names boxes around first second third rest u other in
         (λ i. net.Serial (tree_once _ _ _ one found.0 found.2 i) (series_once _ _ _ more found.1 found.3 i)) ∙ sym found.4
 
-    trees_once : (around : Around) (branches : List NetExpr) (ts : List Net) → TreesOf names boxes around branches ts → (us : List Net) → Beside (TreeOf names boxes around) branches us → ts ≡ us
+    trees_once : (around : Around) (branches : List NetExpr) (ts : List Net) → TreesOf names boxes around branches ts → (us : List Net)
+        → Beside (TreeOf names boxes around) branches us → ts ≡ us
     trees_once around branches ts no_branch [] other = refl
     trees_once around branches ts no_branch (u ∷ us) other = absurd other
     trees_once around branches ts (branch one more) [] other = absurd other

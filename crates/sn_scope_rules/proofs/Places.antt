@@ -32,17 +32,19 @@ pub found_stands : (around : Around) (name : List ℕ) → option_map decl_of (f
 found_stands [] name = refl
 found_stands (decls ∷ outer) name = either (first_named name decls) (found_at outer name) ∙ (λ i. option_or (first_found name decls i) (found_stands outer name i))
   where
-    either : (one : Found) (other : Option (Decl × Around)) → option_map decl_of (option_or (option_map (within outer) one) other) ≡ option_or (option_map first_of one) (option_map decl_of other)
+    either : (one : Found) (other : Option (Decl × Around)) → option_map decl_of (option_or (option_map (within outer) one) other) ≡ option_or (option_map first_of one)
+        (option_map decl_of other)
     either None other = refl
     either (Some f) other = refl
 
 -- a declaration more
 pub first_old : (name : List ℕ) (decls more : List Decl) → is_declared decls name ≡ true → first_named name (decls ++ more) ≡ first_named name decls
 first_old name [] more there = cc
-first_old name (d ∷ ds) more there = (elim (has_name name d) as (λ b. (b || is_declared ds name) ≡ true → first_step d (first_named name (ds ++ more)) b ≡ first_step d (first_named name ds) b) [
-  | true ↦ λ _. refl
-  | false ↦ λ rest. ap (option_map (further_on d)) (first_old name ds more rest)
-]) there
+first_old name (d ∷ ds) more there = (elim (has_name name d) as (λ b. (b || is_declared ds name) ≡ true
+    → first_step d (first_named name (ds ++ more)) b ≡ first_step d (first_named name ds) b) [
+      | true ↦ λ _. refl
+      | false ↦ λ rest. ap (option_map (further_on d)) (first_old name ds more rest)
+    ]) there
 
 pub first_none : (name : List ℕ) (decls : List Decl) → is_declared decls name ≡ false → first_named name decls ≡ None
 first_none name [] none = refl
@@ -51,12 +53,14 @@ first_none name (d ∷ ds) none = (elim (has_name name d) as (λ b. (b || is_dec
   | false ↦ λ rest. ap (option_map (further_on d)) (first_none name ds rest)
 ]) none
 
-pub first_new : (name : List ℕ) (decls : List Decl) (d : Decl) (b : Bool) → is_declared decls name ≡ false → has_name name d ≡ b → first_named name (decls ++ d ∷ []) ≡ (if b then Some (d, decls) else None)
+pub first_new : (name : List ℕ) (decls : List Decl) (d : Decl) (b : Bool) → is_declared decls name ≡ false → has_name name d ≡ b
+    → first_named name (decls ++ d ∷ []) ≡ (if b then Some (d, decls) else None)
 first_new name [] d b none is = ap (first_step d None) is
-first_new name (e ∷ ds) d b none is = (elim (has_name name e) as (λ c. (c || is_declared ds name) ≡ false → first_step e (first_named name (ds ++ d ∷ [])) c ≡ (if b then Some (d, e ∷ ds) else None)) [
-  | true ↦ λ no. cc
-  | false ↦ λ rest. ap (option_map (further_on e)) (first_new name ds d b rest is) ∙ over b
-]) none
+first_new name (e ∷ ds) d b none is = (elim (has_name name e) as (λ c. (c || is_declared ds name) ≡ false
+    → first_step e (first_named name (ds ++ d ∷ [])) c ≡ (if b then Some (d, e ∷ ds) else None)) [
+      | true ↦ λ no. cc
+      | false ↦ λ rest. ap (option_map (further_on e)) (first_new name ds d b rest is) ∙ over b
+    ]) none
   where
     over : (b : Bool) → option_map (further_on e) (if b then Some (d, ds) else None) ≡ (if b then Some (d, e ∷ ds) else None)
     over true = refl

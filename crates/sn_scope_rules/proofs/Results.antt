@@ -68,13 +68,15 @@ module _ (names : List (List ℕ)) (boxes : List BoxProgram) (st : Declarations)
   tree_at pending net means = subst (λ made. At boxes most_levels made (TreeOfNet names boxes net)) same (means.tree [] most_levels)
     where
       same : part_of boxes most_levels (st.nets ++ []) (Named pending.net) ≡ made_of pending
-      same = (λ i. part_of (sym boxes_are i) most_levels (append-nil st.nets i) (Named pending.net)) ∙ ap (λ c. then_some c (tree st.boxes most_levels st.nets)) (component-Named st.nets pending.net)
+      same = (λ i. part_of (sym boxes_are i) most_levels (append-nil st.nets i) (Named pending.net))
+          ∙ ap (λ c. then_some c (tree st.boxes most_levels st.nets)) (component-Named st.nets pending.net)
 
   claim_of : (pending : Pending) (net : Signed) → PendingMeans names boxes st pending net → (t : Net) → TreeOfNet names boxes net t → ClaimOf names boxes net (claim_at st pending t)
   claim_of pending net means t one = record {
     place = means.place;
     tree = one;
-    types = subst (λ (s : Signature). SignatureOf names net.outside net.sig s.input s.output) (sym (get_or_from_slice_get st.signatures pending.signature (record { input = means.types.0; output = means.types.1 }) (record { input = []; output = [] }) means.types.3)) means.types.2;
+    types = subst (λ (s : Signature). SignatureOf names net.outside net.sig s.input s.output) (sym (get_or_from_slice_get st.signatures pending.signature
+        (record { input = means.types.0; output = means.types.1 }) (record { input = []; output = [] }) means.types.3)) means.types.2;
   }
 
   -- trees of nets, each of which fits, in so much room
@@ -100,10 +102,15 @@ module _ (names : List (List ℕ)) (boxes : List BoxProgram) (st : Declarations)
   Outcome room nets (Err at) = Large room nets at
 
   -- a claim whose tree fits, and those behind it
-  outcome_more : (pending : Pending) (net : Signed) (nets : List Signed) (room : ℕ) (t : Net) → PendingMeans names boxes st pending net → TreeOfNet names boxes net t → Fits boxes most_levels t → nodes t ≤ room
+  outcome_more : (pending : Pending) (net : Signed) (nets : List Signed) (room : ℕ) (t : Net) → PendingMeans names boxes st pending net → TreeOfNet names boxes net t
+      → Fits boxes most_levels t → nodes t ≤ room
       → (rest : Result (List Claim) ℕ) → Outcome (room - nodes t) nets rest → Outcome room (net ∷ nets) (led_by (claim_at st pending t ∷ []) rest)
-  outcome_more pending net nets room t means one fits few (Ok claims) outcome =
-      ((claim_of pending net means t one, outcome.0), ((one, fits), outcome.1), let split = nodes_first t (each net_of claims) in let rest = outcome.2 in omega (arith, split, rest, few))
+  outcome_more pending net nets room t means one fits few (Ok claims) outcome = (
+    (claim_of pending net means t one, outcome.0),
+    ((one, fits), outcome.1),
+    let split = nodes_first t (each net_of claims) in let rest = outcome.2 in omega
+        (arith, split, rest, few),
+  )
   outcome_more pending net nets room t means one fits few (Err at) large = record {
     before = net ∷ large.before;
     net = large.net;
@@ -125,7 +132,8 @@ module _ (names : List (List ℕ)) (boxes : List BoxProgram) (st : Declarations)
       next : Net → Result (List Claim) ℕ
       next t = led_by (claim_at st pending t ∷ []) (claims_within st (room - nodes t) ps)
 
-      cases : ((left : ℕ) → Outcome left nets (claims_within st left ps)) → (found : Option Net) → fitting room (made_of pending) ≡ found → Outcome room (net ∷ nets) (or_refused pending.place found next)
+      cases : ((left : ℕ) → Outcome left nets (claims_within st left ps)) → (found : Option Net) → fitting room (made_of pending) ≡ found
+          → Outcome room (net ∷ nets) (or_refused pending.place found next)
       cases rest None none = record {
         before = [];
         net = net;
@@ -143,7 +151,8 @@ module _ (names : List (List ℕ)) (boxes : List BoxProgram) (st : Declarations)
           outcome_more pending net nets room t all.0 known.0 known.1 made.1 (claims_within st (room - nodes t) ps) (rest (room - nodes t))
 
   -- where each tree fits, there are the claims
-  all_fit : (ps : List Pending) (nets : List Signed) (trees : List Net) → Beside (PendingMeans names boxes st) ps nets → EachFits nets trees → (room : ℕ) → all_nodes trees ≤ room → (claims : List Claim) × (claims_within st room ps ≡ Ok claims)
+  all_fit : (ps : List Pending) (nets : List Signed) (trees : List Net) → Beside (PendingMeans names boxes st) ps nets → EachFits nets trees → (room : ℕ)
+      → all_nodes trees ≤ room → (claims : List Claim) × (claims_within st room ps ≡ Ok claims)
   all_fit [] [] trees all fits room few = ([], refl)
   all_fit [] (net ∷ nets) trees all fits room few = absurd all
   all_fit (pending ∷ ps) [] trees all fits room few = absurd all
@@ -157,7 +166,8 @@ module _ (names : List (List ℕ)) (boxes : List BoxProgram) (st : Declarations)
       )
 
   -- where one does not, that one is refused
-  one_large : (before : List Signed) (net : Signed) (behind : List Signed) (trees : List Net) (ps : List Pending) → Beside (PendingMeans names boxes st) ps (before ++ net ∷ behind) → EachFits before trees → (room : ℕ) → all_nodes trees ≤ room
+  one_large : (before : List Signed) (net : Signed) (behind : List Signed) (trees : List Net) (ps : List Pending)
+      → Beside (PendingMeans names boxes st) ps (before ++ net ∷ behind) → EachFits before trees → (room : ℕ) → all_nodes trees ≤ room
       → ((t : Net) → TreeOfNet names boxes net t → Fits boxes most_levels t → all_nodes trees + nodes t ≤ room → ⊥) → claims_within st room ps ≡ Err (name_of net).at
   one_large [] net behind (u ∷ trees) ps all fits room few large = absurd fits
   one_large [] net behind [] [] all fits room few large = absurd all
@@ -183,14 +193,16 @@ module _ (names : List (List ℕ)) (boxes : List BoxProgram) (st : Declarations)
       (λ u own fitted within. large u own fitted (omega (arith, split, within, few))))
 
   -- claims of the same nets are the same
-  same_claim : (pending : Pending) (net : Signed) → PendingMeans names boxes st pending net → (x y : Claim) → ClaimOf names boxes net x → ClaimOf names boxes net y → Fits boxes most_levels x.net → Fits boxes most_levels y.net → x ≡ y
+  same_claim : (pending : Pending) (net : Signed) → PendingMeans names boxes st pending net → (x y : Claim) → ClaimOf names boxes net x → ClaimOf names boxes net y
+      → Fits boxes most_levels x.net → Fits boxes most_levels y.net → x ≡ y
   same_claim pending net means x y one other low flat =
       let trees = same_Some x.net y.net (sym ((tree_at pending net means x.net).1 (one.tree, low)) ∙ (tree_at pending net means y.net).1 (other.tree, flat)) in
       let types = signature_once names net.outside net.sig x.input x.output one.types y.input y.output other.types in
       let places = one.place ∙ sym other.place in
       λ i. record { place = places i; net = trees i; input = types.0 i; output = types.1 i }
 
-  claims_once : (ps : List Pending) (nets : List Signed) (xs ys : List Claim) → Beside (PendingMeans names boxes st) ps nets → Beside (ClaimOf names boxes) nets xs → EachFits nets (each net_of xs)
+  claims_once : (ps : List Pending) (nets : List Signed) (xs ys : List Claim) → Beside (PendingMeans names boxes st) ps nets → Beside (ClaimOf names boxes) nets xs
+      → EachFits nets (each net_of xs)
       → Beside (ClaimOf names boxes) nets ys → EachFits nets (each net_of ys) → xs ≡ ys
   claims_once [] [] [] [] all one fits other fitted = refl
   claims_once [] [] [] (y ∷ ys) all one fits other fitted = absurd other
@@ -219,7 +231,8 @@ module _ (program : Program) where
 
   module _ (unbroken : Unbroken program) where
     row : RowTells names boxes start state [] [] program.decls
-    row = all_tell names (boxes_in program.decls) program.decls start [] [] (knows_start names (boxes_in program.decls)) (λ before d at r one. unbroken r (in_decl at one)) ([], sym (append-nil (boxes_in program.decls)))
+    row = all_tell names (boxes_in program.decls) program.decls start [] [] (knows_start names (boxes_in program.decls)) (λ before d at r one. unbroken r (in_decl at one))
+        ([], sym (append-nil (boxes_in program.decls)))
 
     resolution_is : resolution program ≡ with_main names state state.main
     resolution_is = ap (unless_refused names state) (nothing_refused state.refusals (program_refuses program) unbroken)
@@ -270,7 +283,8 @@ module _ (program : Program) where
     abbrev parts_with : ℕ → List Claim → Parts
     parts_with i claims = record { names = names; boxes = state.boxes; claims = claims; main = i }
 
-    comes_whole : (i : ℕ) (claims : List Claim) → state.main ≡ Some i → length names ≤ most_names → claims_within state most_nodes state.claims ≡ Ok claims → Beside (ClaimOf names boxes) row.nets claims
+    comes_whole : (i : ℕ) (claims : List Claim) → state.main ≡ Some i → length names ≤ most_names → claims_within state most_nodes state.claims ≡ Ok claims
+        → Beside (ClaimOf names boxes) row.nets claims
         → resolution program ≡ Ok (parts_with i claims)
     comes_whole i claims is few whole beside =
         let within = slice_get_within row.nets i (main_at i is).0 (main_at i is).1 in
@@ -306,7 +320,16 @@ module _ (program : Program) where
         main_at = (main_at i is).1;
         main_is = (main_at i is).2;
       },
-      record { unbroken = unbroken; all = row.nets; signed = row.signed_in; main = has_main i is; few = few; trees = each (λ (c : Claim). c.net) claims; fitting = record { each_fits = known.1; room = known.2 } },
+      record {
+        unbroken = unbroken;
+        all = row.nets;
+        signed = row.signed_in;
+        main = has_main i is;
+        few = few;
+        trees = each (λ
+            (c : Claim). c.net) claims;
+        fitting = record { each_fits = known.1; room = known.2 };
+      },
     )
     case_resolved i is few (Err at) same large = subst Case (sym (comes_large i at is few same)) (record {
       unbroken = unbroken;
@@ -371,8 +394,10 @@ module _ (program : Program) where
       let all = same_nets u one.all one.signed in
       let others = same_nets u other.all other.signed in
       let claims = claims_once names boxes state (row u).boxes_are state.claims (row u).nets p.claims q.claims (pendings u)
-      (subst (λ nets. Beside (ClaimOf names boxes) nets p.claims) (sym all) one.claims) (subst (λ nets. EachFits names boxes state (row u).boxes_are nets (each (λ (c : Claim). c.net) p.claims)) (sym all) one.fitting.each_fits)
-      (subst (λ nets. Beside (ClaimOf names boxes) nets q.claims) (sym others) other.claims) (subst (λ nets. EachFits names boxes state (row u).boxes_are nets (each (λ (c : Claim). c.net) q.claims)) (sym others) other.fitting.each_fits) in
+      (subst (λ nets. Beside (ClaimOf names boxes) nets p.claims) (sym all) one.claims) (subst (λ nets. EachFits names boxes state (row u).boxes_are nets (each (λ
+      (c : Claim). c.net) p.claims)) (sym all) one.fitting.each_fits)
+      (subst (λ nets. Beside (ClaimOf names boxes) nets q.claims) (sym others) other.claims) (subst (λ nets. EachFits names boxes state (row u).boxes_are nets (each (λ
+      (c : Claim). c.net) q.claims)) (sym others) other.fitting.each_fits) in
       let main = one_main [] [] program.decls (row u).nets (row u).signed_in (λ before d at r breaks. u r (in_decl at breaks)) p.main q.main
       (one.main, subst (λ nets. slice_get nets p.main ≡ Some one.main) (sym all) one.main_at, one.main_is)
       (other.main, subst (λ nets. slice_get nets q.main ≡ Some other.main) (sym others) other.main_at, other.main_is) in

@@ -38,7 +38,8 @@ no_net_there decl net kind at = absurd_by (sym kind ∙ ap is_net at)
 entry : NetDecl → Sig → Around → Signed
 entry net sig outside = record { net = net; sig = sig; outside = outside }
 
-pub signed_once : (before : List Decl) (outer : Around) (decls : List Decl) (xs : List Signed) → SignedIn before outer decls xs → (ys : List Signed) → SignedIn before outer decls ys → xs ≡ ys
+pub signed_once : (before : List Decl) (outer : Around) (decls : List Decl) (xs : List Signed) → SignedIn before outer decls xs → (ys : List Signed)
+    → SignedIn before outer decls ys → xs ≡ ys
 unfolding entry
 signed_once before outer decls xs no_more ys no_more = refl
 signed_once before outer decls xs (no_net kind rest) ys (no_net kind' rest') = signed_once _ _ _ _ rest ys rest'
@@ -46,14 +47,16 @@ signed_once before outer decls xs (no_net {decl} kind rest) ys (without net at n
 signed_once before outer decls xs (no_net {decl} kind rest) ys (with_one net sig at some own rest') = absurd (no_net_there decl net kind at)
 signed_once before outer decls xs (without {decl} net at none own rest) ys (no_net kind rest') = absurd (no_net_there decl net kind at)
 signed_once before outer decls xs (without {decl} net at none own rest) ys (without {inner = inner'} {more = more'} net' at' none' own' rest') =
-    λ i. signed_once _ _ _ _ own inner' (subst (λ n. SignedIn [] (before ∷ outer) (out-NetDecl n).decls inner') (same_net decl net net' at at') own') i ++ signed_once _ _ _ _ rest more' rest' i
+    λ i. signed_once _ _ _ _ own inner' (subst (λ n. SignedIn [] (before ∷ outer) (out-NetDecl n).decls inner')
+    (same_net decl net net' at at') own') i ++ signed_once _ _ _ _ rest more' rest' i
 signed_once before outer decls xs (without {decl} net at none own rest) ys (with_one net' sig' at' some' own' rest') =
     absurd (none-some sig' (sym none ∙ ap (λ n. (out-NetDecl n).sig) (sym (same_net decl net net' at at')) ∙ some'))
 signed_once before outer decls xs (with_one {decl} net sig at some own rest) ys (no_net kind rest') = absurd (no_net_there decl net kind at)
 signed_once before outer decls xs (with_one {decl} net sig at some own rest) ys (without net' at' none' own' rest') =
     absurd (none-some sig (sym none' ∙ ap (λ n. (out-NetDecl n).sig) (same_net decl net net' at at') ∙ some))
 signed_once before outer decls xs (with_one {decl} net sig at some own rest) ys (with_one {inner = inner'} {more = more'} net' sig' at' some' own' rest') =
-    λ i. entry (sym same i) (sigs i) (before ∷ outer) ∷ (signed_once _ _ _ _ own inner' (subst (λ n. SignedIn [] (before ∷ outer) (out-NetDecl n).decls inner') same own') i ++ signed_once _ _ _ _ rest more' rest' i)
+    λ i. entry (sym same i) (sigs i) (before ∷ outer) ∷ (signed_once _ _ _ _ own inner' (subst (λ n. SignedIn [] (before ∷ outer)
+    (out-NetDecl n).decls inner') same own') i ++ signed_once _ _ _ _ rest more' rest' i)
   where
     same : net' ≡ net
     same = same_net decl net net' at at'

@@ -68,14 +68,16 @@ module _ (names : List (List ℕ)) (types : List (List Labels)) (scopes : Scopes
       let found = found_kind is_type around name.text stands in
       by_form found.0 found.1 found.2 (out-Decl found.0) refl found.3 (sees name.text found.0 found.1 found.2)
     where
-      by_form : (decl : Decl) (there : Around) → found_at around name.text ≡ Some (decl, there) → (x : Decl-F Decl NetDecl) → out-Decl decl ≡ x → is_type x ≡ true → SeesType names types (meaning_of scopes name.text) x there
+      by_form : (decl : Decl) (there : Around) → found_at around name.text ≡ Some (decl, there) → (x : Decl-F Decl NetDecl) → out-Decl decl ≡ x → is_type x ≡ true
+          → SeesType names types (meaning_of scopes name.text) x there
           → Gives (NamedType name ∷ parts)
       by_form decl there is (Decl-F.BoxDecl declaration) at kind seen = cc
       by_form decl there is (Decl-F.NetDecl called) at kind seen = cc
       by_form decl there is (Decl-F.TypeDecl own inner) at kind seen = (
         once seen.1 ++ rest.0,
         named is at seen.3 rest.1,
-        λ before. ap (λ vs. fold (part_added names scopes types) (fold added before vs) parts) (ap (λ m. variants_of types (type_number m)) seen.2 ∙ get_or_from_slice_get types seen.0 (once seen.1) [] seen.4)
+        λ before. ap (λ vs. fold (part_added names scopes types) (fold added before vs) parts) (ap (λ m. variants_of types (type_number m)) seen.2
+            ∙ get_or_from_slice_get types seen.0 (once seen.1) [] seen.4)
             ∙ rest.2 (fold added before (once seen.1)) ∙ sym (fold_append added before (once seen.1) rest.0),
       )
       by_form decl there is (Decl-F.SigDecl own sig) at kind seen = cc
@@ -94,5 +96,6 @@ module _ (names : List (List ℕ)) (types : List (List Labels)) (scopes : Scopes
       later_part r (in_part at one) = fine r (in_part (later at) one)
 
   -- the variants of the parts of a type in which nothing is refused
-  pub type_gives : (parts : List TypePart) → ((r : Refusal) → TypeBreaks around parts r → ⊥) → (vs : List Labels) × VariantsOf names around parts vs × (type_at names scopes types parts ≡ once vs)
+  pub type_gives : (parts : List TypePart) → ((r : Refusal) → TypeBreaks around parts r → ⊥)
+      → (vs : List Labels) × VariantsOf names around parts vs × (type_at names scopes types parts ≡ once vs)
   type_gives parts fine = let all = gives parts fine in (all.0, all.1, all.2 [])
