@@ -1,7 +1,7 @@
 -- What declarations add to the tables is what they declare.
 use Rattle.std.proofs.Common.{◌≡◌, ℕ, suc, ◌<◌, ◌+◌, ◌==◌, ◌&&◌, Bool, true, false, if◌then◌else◌, List, [], ◌∷◌, ◌++◌, length, map as each, Option, Some, None, option_map, slice_get, unwrap_or, bytes_eq, codes, refl, sym, ap, ◌∙◌, subst, subst₂, append-nil, append_assoc, map-id, arith}
-use Rattle.std.specs.List.{flat_map}
-use Rattle.std.proofs.lemmas.List.{length-append, length-map, length_push}
+use Rattle.std.proofs.lemmas.List.{length-append, length-map, length_push, map-append}
+use Rattle.std.proofs.lemmas.Grind.{flat_map-append}
 use Rattle.std.proofs.lemmas.Bool.Decides.{nat_tests}
 use Rattle.sn_ast.specs.declared.declaration.BoxDecl.{BoxDecl}
 use Rattle.sn_ast.specs.declared.declaration.Decl.{Decl}
@@ -53,6 +53,7 @@ use Rattle.sn_scope_rules.proofs.Declarations.{left_entered, more, more_matches}
 use Rattle.sn_scope_rules.proofs.Known.{Grows, Knows, Means, MeansForm, NetMeans, SignatureMeans, declared_meaning, grows_itself, grows_on, known, known_form, means_grow, more_named, net_grows, sees_parts, sees_types, signature_grows, still_there}
 use Rattle.sn_scope_rules.proofs.Levels.{At, Ties}
 use Rattle.sn_scope_rules.proofs.Mains.{inner_main, main_append, main_from}
+use Rattle.sn_scope_rules.proofs.Standing.{together_map}
 use Rattle.sn_scope_rules.proofs.Trees.{network_ties}
 use Rattle.sn_scope_rules.proofs.Types.{found_kind, type_gives}
 use Rattle.sn_scope_rules.proofs.Visible.{Matches, around_of, decl_sort, empty_matches, entered_matches, fold_last, form_sort, get_last, meaning_sort}
@@ -75,25 +76,13 @@ beside_length P [] (y ∷ ys) one = absurd one
 beside_length P (x ∷ xs) [] one = absurd one
 beside_length P (x ∷ xs) (y ∷ ys) one = ap suc (beside_length P xs ys one.1)
 
-map_append : {A B : Type 0} (f : A → B) (xs ys : List A) → each f (xs ++ ys) ≡ each f xs ++ each f ys
-map_append f [] ys = refl
-map_append f (x ∷ xs) ys = ap (λ more. f x ∷ more) (map_append f xs ys)
-
-boxes_append : (xs ys : List Decl) → boxes_in (xs ++ ys) ≡ boxes_in xs ++ boxes_in ys
-boxes_append [] ys = refl
-boxes_append (x ∷ xs) ys = ap (λ more. boxes_of x ++ more) (boxes_append xs ys) ∙ sym (append_assoc (boxes_of x) (boxes_in xs) (boxes_in ys))
-
 -- the boxes within a net
 abbrev pub net_boxes_of : NetDecl → List BoxDecl
 net_boxes_of = fold-NetDecl (List BoxDecl) (List BoxDecl) boxes_step net_boxes
 
-pub all_boxes : (decls : List Decl) → flat_map (λ (xs : List BoxDecl). xs) (each boxes_of decls) ≡ boxes_in decls
-all_boxes [] = refl
-all_boxes (d ∷ ds) = ap (λ xs. boxes_of d ++ xs) (all_boxes ds)
-
 -- one more declaration in the scope
 before_more : (scope : List Decl) (d : Decl) (outer : Around) → boxes_before ((scope ++ d ∷ []) ∷ outer) ≡ boxes_before (scope ∷ outer) ++ boxes_of d
-before_more scope d outer = ap (λ xs. boxes_before outer ++ xs) (boxes_append scope (d ∷ []) ∙ ap (λ xs. boxes_in scope ++ xs) (append-nil (boxes_of d)))
+before_more scope d outer = ap (λ xs. boxes_before outer ++ xs) (flat_map-append boxes_of scope (d ∷ []) ∙ ap (λ xs. boxes_in scope ++ xs) (append-nil (boxes_of d)))
     ∙ sym (append_assoc (boxes_before outer) (boxes_in scope) (boxes_of d))
 
 -- nothing is refused in a declaration, or in several that stand in a row
@@ -185,7 +174,7 @@ module _ (names : List (List ℕ)) (boxes : List BoxProgram) where
   knows_more st new scope outer d knows fresh tells = record {
     matches = subst (λ s. Matches s (scope ++ d ∷ []) outer) (sym tells.scopes_are) (more_matches st.scopes scope outer knows.matches d tells.m tells.sort);
     depth = ap (λ (s : Scopes). length s.outer) tells.scopes_are ∙ knows.depth;
-    boxes_are = tells.boxes_are ∙ ap (λ xs. xs ++ each (box_at names) (boxes_of d)) knows.boxes_are ∙ sym (map_append (box_at names) (boxes_before (scope ∷ outer)) (boxes_of d))
+    boxes_are = tells.boxes_are ∙ ap (λ xs. xs ++ each (box_at names) (boxes_of d)) knows.boxes_are ∙ sym (map-append (box_at names) (boxes_before (scope ∷ outer)) (boxes_of d))
         ∙ ap (each (box_at names)) (sym (before_more scope d outer));
     current = λ n. subst₂ (Means names boxes new) (sym (meaning_is n)) (sym (ap (option_map (within_outer outer)) (more_named scope d fresh n))) (by_name n (bytes_eq
         (name_of d).text n));
@@ -405,7 +394,7 @@ module _ (names : List (List ℕ)) (all : List BoxDecl) where
     grows = grows_on st mid new first.grows others.grows;
     boxes_are = others.boxes_are ∙ ap (λ xs. xs ++ each (box_at names) (boxes_in ds)) first.boxes_are
         ∙ append_assoc st.boxes (each (box_at names) (boxes_of d)) (each (box_at names) (boxes_in ds))
-        ∙ ap (λ xs. st.boxes ++ xs) (sym (map_append (box_at names) (boxes_of d) (boxes_in ds)));
+        ∙ ap (λ xs. st.boxes ++ xs) (sym (map-append (box_at names) (boxes_of d) (boxes_in ds)));
     outer_is = others.outer_is ∙ ap (λ (s : Scopes). s.outer) first.scopes_are;
     knows = subst (λ s. Knows names boxes new s outer) (append_assoc scope (d ∷ []) ds) others.knows;
     own = first.own ++ others.own;
@@ -666,7 +655,7 @@ module _ (names : List (List ℕ)) (all : List BoxDecl) where
       (net_form name sig (each (λ (e : Told). e.0) decls) connect))
       (row_tells (λ (e : Told). e.0) (λ e. e.1) decls) d at
       (has ∙ fold-roll-NetDecl (List BoxDecl) (List BoxDecl) boxes_step net_boxes (net_form name sig (each (λ (e : Told). e.0) decls) connect)
-      ∙ all_boxes (each (λ (e : Told). e.0) decls)) st scope outer knows fine begin)
+      ∙ together_map boxes_of (each (λ (e : Told). e.0) decls)) st scope outer knows fine begin)
 
   after_roll : (x : Decl-F Decl NetDecl) → after names (roll-Decl x) ≡ decl_step names (map-Decl Decl NetDecl Change Change (after names) (after_net names) x)
   after_roll x = fold-roll-Decl Change Change (decl_step names) (net_step names) x

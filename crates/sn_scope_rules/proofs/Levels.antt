@@ -21,9 +21,8 @@ use Rattle.sn_scope_rules.specs.Limits.{Fits, parts_in, parts_of}
 use Rattle.sn_scope_rules.specs.Standing.{Beside}
 use Rattle.sn_scope_rules.specs.Standing.StandsIn.{here, later}
 use Rattle.sn_scope_rules.specs.Standing.StandsWithin.{itself}
-use Rattle.sn_scope_rules.proofs.Held.{Each}
+use Rattle.sn_scope_rules.proofs.Held.{Each, each_cons, each_nil}
 use Rattle.sn_scope_rules.proofs.Limits.{fits_none, fits_parts, fits_up}
-use Rattle.sn_scope_rules.proofs.Standing.{none_in}
 
 pub then_to : {A B : Type 0} (o : Option A) (f : A → Option B) (y : B) → then_some o f ≡ Some y → (x : A) × (o ≡ Some x) × (f x ≡ Some y)
 then_to None f y is = absurd (none-some y is)
@@ -32,13 +31,6 @@ then_to (Some x) f y is = (x, refl, is)
 pub map_to : {A B : Type 0} (o : Option A) (f : A → B) (y : B) → option_map f o ≡ Some y → (x : A) × (o ≡ Some x) × (f x ≡ y)
 map_to None f y is = absurd (none-some y is)
 map_to (Some x) f y is = (x, refl, same_Some (f x) y is)
-
-pub each_nil : {A : Type 0} (P : A → Type 0) → Each P []
-each_nil P x at = absurd (none_in x at)
-
-pub each_cons : {A : Type 0} (P : A → Type 0) (x : A) (xs : List A) → P x → Each P xs → Each P (x ∷ xs)
-each_cons P x xs first rest y here = first
-each_cons P x xs first rest y (later at) = rest y at
 
 -- the parts of each form
 pub parts-Box : (place number : ℕ) → parts_of (net.Box place number) ≡ []

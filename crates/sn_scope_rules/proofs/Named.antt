@@ -1,6 +1,7 @@
 -- The names of a program are those of its labels, entered from the first place to the last.
 use Rattle.std.proofs.Common.{◌≡◌, List, [], ◌∷◌, ◌++◌, map as each, Option, Some, None, fold, refl, sym, ap, ◌∙◌, subst, subst₂, map-id}
 use Rattle.std.specs.List.{flat_map}
+use Rattle.std.proofs.lemmas.List.{map-append}
 use Rattle.sn_ast.specs.declared.declaration.BoxDecl.{BoxDecl}
 use Rattle.sn_ast.specs.declared.declaration.Decl.{Decl}
 use Rattle.sn_ast.specs.declared.declaration.Decl.TheFolds.{fold-roll-Decl, fold-roll-NetDecl, ind-Decl, map-Decl}
@@ -33,6 +34,7 @@ use Rattle.sn_names.proofs.NamesLaws.{all_entered-append}
 use Rattle.sn_scope.specs.Numbering.{Entry, Names, after_box, after_decl, after_guard, after_item, after_label, after_labels, after_net, after_network, after_part, after_sig, after_signature, after_source, after_tags, after_template, after_tuple, after_types, after_variant, all_after, decl_step, names_of, net_step, network_step, tags_step as entry_step}
 use Rattle.sn_scope_rules.specs.Filters.{tags_in, tags_step}
 use Rattle.sn_scope_rules.specs.Named.{in_box, in_decl, in_guard, in_item, in_labels, in_net, in_network, in_part, in_program, in_sig, in_signature, in_source, in_template, in_tuple, in_type, in_variant, together, Named, decl_step as named_decl, net_step as named_net, network_step as named_network}
+use Rattle.sn_scope_rules.proofs.Standing.{together_map}
 
 abbrev texts : Named → Names
 texts names = each (λ (name : Ident). name.text) names
@@ -41,13 +43,9 @@ texts names = each (λ (name : Ident). name.text) names
 abbrev Lists : Entry → Named → Type 0
 Lists entry named = (names : Names) → entry names ≡ all_entered names (texts named)
 
-texts_append : (xs ys : Named) → texts (xs ++ ys) ≡ texts xs ++ texts ys
-texts_append [] ys = refl
-texts_append (x ∷ xs) ys = ap (λ more. x.text ∷ more) (texts_append xs ys)
-
 lists_both : (one other : Entry) (xs ys : Named) → Lists one xs → Lists other ys → Lists (λ names. other (one names)) (xs ++ ys)
 lists_both one other xs ys first second names =
-    second (one names) ∙ ap (λ ns. all_entered ns (texts ys)) (first names) ∙ sym (all_entered-append names (texts xs) (texts ys)) ∙ ap (all_entered names) (sym (texts_append xs ys))
+    second (one names) ∙ ap (λ ns. all_entered ns (texts ys)) (first names) ∙ sym (all_entered-append names (texts xs) (texts ys)) ∙ ap (all_entered names) (sym (map-append (λ (name : Ident). name.text) xs ys))
 
 lists_each : {A : Type 0} (enter : Names → A → Names) (named : A → Named) → ((x : A) → Lists (λ names. enter names x) (named x)) → (xs : List A)
     → Lists (λ names. fold enter names xs) (flat_map named xs)
@@ -221,12 +219,8 @@ decl_lists = ind-Decl DeclLists NetDeclLists
     ]))
     (λ x y is. subst (λ z. NetDeclLists (roll-NetDecl z)) is (net_lists y.name y.sig y.decls y.connect))
 
-all_named : (decls : List Decl) → together (each in_decl decls) ≡ flat_map in_decl decls
-all_named [] = refl
-all_named (d ∷ ds) = ap (λ more. in_decl d ++ more) (all_named ds)
-
 -- the names of a program
 pub program_names : (program : Program) → names_of program ≡ all_entered [] (in_program program)
 program_names program =
     subst (λ (ds : List Decl). Lists (all_after (each after_decl ds)) (together (each in_decl ds))) (map-id program.decls) (decls_list (λ d. d) decl_lists program.decls) []
-    ∙ ap (λ named. all_entered [] (texts named)) (all_named program.decls)
+    ∙ ap (λ named. all_entered [] (texts named)) (together_map in_decl program.decls)

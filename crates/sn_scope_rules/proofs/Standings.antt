@@ -17,10 +17,11 @@ use Rattle.sn_scope_rules.specs.Results.{boxes_of as program_boxes}
 use Rattle.sn_scope_rules.specs.Standing.{StandsBehind}
 use Rattle.sn_scope_rules.specs.Standing.StandsBehind.{foremost, further}
 use Rattle.sn_scope_rules.specs.Visible.{Around, first_named, found_at, further_on, has_name, within}
-use Rattle.sn_scope_rules.proofs.Declaring.{all_boxes, net_boxes_of}
+use Rattle.sn_scope_rules.proofs.Declaring.{net_boxes_of}
 use Rattle.sn_scope_rules.proofs.Known.{still_there}
 use Rattle.sn_scope_rules.proofs.Levels.{map_to}
 use Rattle.sn_scope_rules.proofs.Places.{Found, first_step}
+use Rattle.sn_scope_rules.proofs.Standing.{together_map}
 use Rattle.sn_scope_rules.proofs.Visible.{get_last}
 
 -- the first with the name stands behind those before it
@@ -86,7 +87,7 @@ module _ (program : Program) where
   net_has : (d : Decl) (net : NetDecl) → out-Decl d ≡ Decl-F.NetDecl net → boxes_of d ≡ boxes_in (out-NetDecl net).decls
   net_has d net is = fold_out-Decl (List BoxDecl) (List BoxDecl) boxes_step net_step d
       ∙ ap (λ x. boxes_step (map-Decl Decl NetDecl (List BoxDecl) (List BoxDecl) boxes_of net_boxes_of x)) is
-      ∙ fold_out-NetDecl (List BoxDecl) (List BoxDecl) boxes_step net_step net ∙ all_boxes (out-NetDecl net).decls
+      ∙ fold_out-NetDecl (List BoxDecl) (List BoxDecl) boxes_step net_step net ∙ together_map boxes_of (out-NetDecl net).decls
 
   standing_begin : (around : Around) (d : Decl) → StandsAt program around d → Begin (boxes_in program.decls) (boxes_before around ++ boxes_of d)
   standing_begin around d (outermost {before} at) = behind_begin d before program.decls at

@@ -48,8 +48,8 @@ use Rattle.sn_scope_rules.specs.Trees.TreeOf.{cell, choice, filter, identity, in
 use Rattle.sn_scope_rules.specs.Trees.SeriesOf.{several, two}
 use Rattle.sn_scope_rules.specs.Trees.TreesOf.{branch, no_branch}
 use Rattle.sn_scope_rules.specs.Visible.{Around, found_at, is_part, stands_for, stands_for_a}
-use Rattle.sn_scope_rules.proofs.Held.{Each}
-use Rattle.sn_scope_rules.proofs.Levels.{At, InSeries, Level, Ties, choice_level, each_cons, each_nil, leaf_level, level_same, one_level, parts-Box, parts-Choice, parts-Filter, parts-Star, parts-Split, parts-Sync, tied, ties_made, ties_same, two_level}
+use Rattle.sn_scope_rules.proofs.Held.{Each, each_cons, each_nil}
+use Rattle.sn_scope_rules.proofs.Levels.{At, InSeries, Level, Ties, choice_level, leaf_level, level_same, one_level, parts-Box, parts-Choice, parts-Filter, parts-Star, parts-Split, parts-Sync, tied, ties_made, ties_same, two_level}
 use Rattle.sn_scope_rules.proofs.Places.{decl_of, found_stands}
 
 module _ (names : List (List ℕ)) (boxes : List BoxProgram) where

@@ -1,5 +1,6 @@
 -- The variants of a type are those of its parts.
 use Rattle.std.proofs.Common.{◌≡◌, ℕ, Bool, true, false, List, [], ◌∷◌, ◌++◌, Option, Some, None, option_map, slice_get, unwrap_or, fold, refl, sym, ap, ◌∙◌}
+use Rattle.std.proofs.lemmas.List.Sums.{fold-append}
 use Rattle.std.proofs.lemmas.Option.{get_or_from_slice_get}
 use Rattle.sn_ast.specs.declared.declaration.Decl.{Decl}
 use Rattle.sn_ast.specs.declared.declaration.Decl.TheOpen.{Decl-F}
@@ -44,10 +45,6 @@ found_kind kind around name stands = cases (found_at around name) refl
     cases None none = absurd (stands (ap (is_kind kind) (sym (found_stands around name) ∙ ap (option_map decl_of) none)))
     cases (Some found) is = by_kind found.0 found.1 is (kind (out-Decl found.0)) refl
 
-fold_append : {A B : Type 0} (f : B → A → B) (b : B) (xs ys : List A) → fold f b (xs ++ ys) ≡ fold f (fold f b xs) ys
-fold_append f b [] ys = refl
-fold_append f b (x ∷ xs) ys = fold_append f (f b x) xs ys
-
 -- the table has a type by its number
 abbrev pub TypeMeans : List (List ℕ) → List (List Labels) → Option Meaning → List TypePart → Around → Type 0
 TypeMeans names types m parts there = (k : ℕ) × (vs : List Labels) × (m ≡ Some (meaning.«Type» k)) × VariantsOf names there parts vs × (slice_get types k ≡ Some (once vs))
@@ -78,7 +75,7 @@ module _ (names : List (List ℕ)) (types : List (List Labels)) (scopes : Scopes
         named is at seen.3 rest.1,
         λ before. ap (λ vs. fold (part_added names scopes types) (fold added before vs) parts) (ap (λ m. variants_of types (type_number m)) seen.2
             ∙ get_or_from_slice_get types seen.0 (once seen.1) [] seen.4)
-            ∙ rest.2 (fold added before (once seen.1)) ∙ sym (fold_append added before (once seen.1) rest.0),
+            ∙ rest.2 (fold added before (once seen.1)) ∙ sym (fold-append added before (once seen.1) rest.0),
       )
       by_form decl there is (Decl-F.SigDecl own sig) at kind seen = cc
 

@@ -72,7 +72,8 @@ pub record AreFitting (names : List (List ℕ)) (boxes : List BoxProgram) (all :
   pub each_fits : Beside (λ signed tree. TreeOfNet names boxes signed tree × Fits boxes most_levels tree) all trees
   pub room : all_nodes trees ≤ most_nodes
 
--- the net whose name stands at the place is the first whose tree is too high, has too wide a face in it, or has too many nodes together with the trees of the nets before it
+-- the net whose name stands at the place is the first whose tree is too high, has too wide a face in it, or has too many nodes together with the trees of the nets before it;
+-- or it has no tree, as no series of fewer than two parts has, which no source spells
 pub record IsTooLarge (names : List (List ℕ)) (boxes : List BoxProgram) (all : List Signed) (at : ℕ) : Type 0 where
   pub before : List Signed
   pub net : Signed

@@ -34,19 +34,20 @@ pub fn resolution_refuses_the_least()
     ensures unrefused { (program : SomeProgram) → ((refusal : SomeRefusal) → resolution program ≢ Err (fault_at refusal.reason refusal.at)) ↔ ((refusal : SomeRefusal) → ProgramBreaks program refusal → ⊥) }
 {}
 
-/// Where a name stands for a declaration, that one is found, with the declarations that stand before it.
+/// A name is found to be the declaration that it stands for, beside which it is told which declarations stand before that one.
 pub fn names_find_what_they_stand_for()
     ensures stands { (around : Around) (name : List ℕ) → option_map (λ found. found.0) (found_at around name) ≡ stands_for around name }
 {}
 
-/// What a program is resolved to is its boxes in the order of their places, and a claim for each net with a signature: the tree of
-/// that net's network where it stands, and the types of its signature. The one of the outermost net `main` is the program's.
+/// A program is resolved to its boxes in the order of their places and to a claim for each net with a signature, in the order of
+/// the nets' names: the tree of the net's network where it stands, and the types of its signature. That of the outermost net
+/// `main` is the program's. Nothing else is given, and this wherever it is so.
 pub fn resolution_gives_what_is_declared()
     ensures resolved { (program : SomeProgram) (parts : SomeParts) → (resolution program ≡ Ok parts) ↔ IsResolved program parts }
 {}
 
-/// A program that breaks no rule is refused exactly where it has no outermost net `main` with a signature, or too many names, or a tree that is too large, in this order, and is
-/// resolved exactly where it has none of these.
+/// A program that breaks no rule is refused exactly where no outermost net `main` has a signature, or else where its labels have
+/// too many names, or else for the first tree that is too large. It is resolved exactly where none of this is so.
 pub fn resolution_keeps_its_limits()
     ensures no_main { (program : SomeProgram) → (resolution program ≡ Err NoMain) ↔ HasNoMain program }
     ensures too_many_names { (program : SomeProgram) → (resolution program ≡ Err TooManyNames) ↔ HasTooManyNames program }
@@ -54,13 +55,14 @@ pub fn resolution_keeps_its_limits()
     ensures whole { (program : SomeProgram) → ((parts : SomeParts) × (resolution program ≡ Ok parts)) ↔ IsWhole program }
 {}
 
-/// The names of a program are those of its labels, entered one after another from the first place to the last: the number of a name is how many others come first.
+/// The names of a program are those of its labels, each once: they are entered one after another, from the first place to the
+/// last.
 pub fn names_are_those_of_labels()
     ensures names { (program : SomeProgram) → names_of program ≡ all_entered [] (in_program program) }
 {}
 
-/// What a name stands for in a net's network is a declaration of the program, at the place where it is found. The number of a box, which is how many boxes stand before it, is that of its
-/// own declaration among the boxes of the program.
+/// What a name in a net's network is found to be is a declaration of the program, behind those that stand before it there. The
+/// number of a box, which is how many boxes stand before it, is that of its own declaration among the boxes of the program.
 pub fn calls_are_of_the_boxes_that_names_stand_for()
     ensures found { (program : SomeProgram) (around there : Around) (decl found : SomeDecl) (net : SomeNet) (name : List ℕ) → StandsAt program around decl → out-Decl decl ≡ Decl-F.NetDecl net → found_at ((out-NetDecl net).decls ∷ around) name ≡ Some (found, there) → StandsAt program there found }
     ensures numbered { (program : SomeProgram) (around : Around) (decl : SomeDecl) (declaration : SomeBox) → StandsAt program around decl → out-Decl decl ≡ Decl-F.BoxDecl declaration → slice_get (boxes_of program) (length (boxes_before around)) ≡ Some (box_at (names_of program) declaration) }
