@@ -36,7 +36,7 @@ use Rattle.sn_scope.specs.declared.scopes.Meaning.TheVariants as meaning
 use Rattle.sn_scope.specs.declared.scopes.Scopes.{Scopes}
 use Rattle.sn_scope.proofs.Levels.{component-Named, part-Made}
 use Rattle.sn_scope_rules.specs.Claims.{Signed, SignedIn, is_main, is_net, name_of as signed_name}
-use Rattle.sn_scope_rules.specs.Claims.SignedIn.{no_more, no_net, with_one, without}
+use Rattle.sn_scope_rules.specs.Claims.SignedIn.{no_more, no_net, signed_net, unsigned_net}
 use Rattle.sn_scope_rules.specs.Declared.{boxes_before, boxes_in, boxes_of, boxes_step, net_step as net_boxes}
 use Rattle.sn_scope_rules.specs.Labels.{SigBreaks}
 use Rattle.sn_scope_rules.specs.Labels.SigBreaks.{in_input, in_output, no_such_signature}
@@ -569,7 +569,7 @@ module _ (names : List (List ℕ)) (all : List BoxDecl) where
       claims_are = λ i. kept.claims i ++ inner_claims i;
       beside = pendings_grow names boxes inner (claimed_by None) (grows_on inner closed (claimed_by None) closed_grows (same_grows closed
           (claimed_by None) refl refl refl)) row.own row.nets row.beside;
-      signed_in = λ ds rest one. without net at (ap (λ (f : NetDecl-F Decl NetDecl). f.sig) out ∙ sym none) inner_signed one;
+      signed_in = λ ds rest one. unsigned_net net at (ap (λ (f : NetDecl-F Decl NetDecl). f.sig) out ∙ sym none) inner_signed one;
       main_is = closed_main ∙ sym (inner_mains (length st.claims) st.main);
     }
     claim_part (Some s) some = record {
@@ -580,7 +580,7 @@ module _ (names : List (List ℕ)) (all : List BoxDecl) where
       nets = entry ∷ row.nets;
       claims_are = (λ i. (kept.claims i ++ pending ∷ []) ++ inner_claims i) ∙ append_assoc st.claims (pending ∷ []) row.own;
       beside = (own_means, pendings_grow names boxes inner (claimed_by (Some s)) (grows_on inner closed (claimed_by (Some s)) closed_grows grows) row.own row.nets row.beside);
-      signed_in = λ ds rest one. with_one net s at (ap (λ (f : NetDecl-F Decl NetDecl). f.sig) out ∙ sym some) inner_signed one;
+      signed_in = λ ds rest one. signed_net net s at (ap (λ (f : NetDecl-F Decl NetDecl). f.sig) out ∙ sym some) inner_signed one;
       main_is = main_same ∙ sym (inner_mains (suc (length st.claims)) (if is_main entry then Some (length st.claims) else st.main));
     }
       where

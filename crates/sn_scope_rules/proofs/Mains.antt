@@ -4,7 +4,7 @@ use Rattle.std.proofs.lemmas.Bool.Decides.{nat_tests}
 use Rattle.std.proofs.lemmas.Option.{none-some, same_Some}
 use Rattle.sn_ast.specs.declared.declaration.Decl.{Decl}
 use Rattle.sn_scope_rules.specs.Claims.{Signed, SignedIn, is_main}
-use Rattle.sn_scope_rules.specs.Claims.SignedIn.{no_more, no_net, with_one, without}
+use Rattle.sn_scope_rules.specs.Claims.SignedIn.{no_more, no_net, signed_net, unsigned_net}
 use Rattle.sn_scope_rules.specs.Standing.{StandsIn}
 use Rattle.sn_scope_rules.specs.Standing.StandsIn.{here, later}
 use Rattle.sn_scope_rules.specs.Visible.{Around}
@@ -31,10 +31,10 @@ pub inner_main : (before : List Decl) (outer : Around) (decls : List Decl) (nets
     → (place : ℕ) (found : Option ℕ) → main_from place found nets ≡ found
 inner_main before outer decls nets no_more within place found = refl
 inner_main before outer decls nets (no_net kind rest) within place found = inner_main _ _ _ _ rest within place found
-inner_main before outer decls nets (without {inner} {more} net at none own rest) within place found =
+inner_main before outer decls nets (unsigned_net {inner} {more} net at none own rest) within place found =
     main_append place found inner more ∙ ap (λ f. main_from (place + length inner) f more) (inner_main _ _ _ _ own (omega arith) place found)
     ∙ inner_main _ _ _ _ rest within (place + length inner) found
-inner_main before outer decls nets (with_one {inner} {more} net sig at some own rest) within place found =
+inner_main before outer decls nets (signed_net {inner} {more} net sig at some own rest) within place found =
     ap (λ b. main_from (suc place) (if b then Some place else found) (inner ++ more)) (not_outermost outer _ within)
     ∙ main_append (suc place) found inner more ∙ ap (λ f. main_from (suc place + length inner) f more) (inner_main _ _ _ _ own (omega arith) (suc place) found)
     ∙ inner_main _ _ _ _ rest within (suc place + length inner) found

@@ -8,7 +8,7 @@ use Rattle.sn_ast.specs.declared.declaration.Decl.TheViews.{out-Decl, out-NetDec
 use Rattle.sn_ast.specs.declared.declaration.NetDecl.{NetDecl}
 use Rattle.sn_names.proofs.NamesLaws.{same_text}
 use Rattle.sn_scope_rules.specs.Claims.{Signed, SignedIn, is_main}
-use Rattle.sn_scope_rules.specs.Claims.SignedIn.{no_more, no_net, with_one, without}
+use Rattle.sn_scope_rules.specs.Claims.SignedIn.{no_more, no_net, signed_net, unsigned_net}
 use Rattle.sn_scope_rules.specs.Standing.{StandsIn}
 use Rattle.sn_scope_rules.specs.Standing.StandsIn.{here, later}
 use Rattle.sn_scope_rules.specs.Visible.{Around, has_name, is_declared, name_in, name_of}
@@ -45,9 +45,9 @@ inner_none : (before : List Decl) (outer : Around) (decls : List Decl) (nets : L
     → StandsIn m nets → is_main m ≡ false
 inner_none before outer decls nets no_more within m at = absurd (none_in m at)
 inner_none before outer decls nets (no_net kind rest) within m at = inner_none _ _ _ _ rest within m at
-inner_none before outer decls nets (without {inner} {more} net is none own rest) within m at =
+inner_none before outer decls nets (unsigned_net {inner} {more} net is none own rest) within m at =
     of_both m inner more (inner_none _ _ _ _ own (omega arith)) (inner_none _ _ _ _ rest within) at
-inner_none before outer decls nets (with_one {inner} {more} net sig is some own rest) within m at =
+inner_none before outer decls nets (signed_net {inner} {more} net sig is some own rest) within m at =
     of_first m _ (inner ++ more) (not_outermost outer _ within) (λ n there. of_both n inner more (inner_none _ _ _ _ own (omega arith)) (inner_none _ _ _ _ rest within) there) at
 
 -- one more declaration
@@ -79,9 +79,9 @@ later_none : (before : List Decl) (outer : Around) (decls : List Decl) (nets : L
 later_none before outer decls nets no_more fine there m at = absurd (none_in m at)
 later_none before outer decls nets (no_net {decls = rest_of} {decl} kind rest) fine there m at = later_none _ _ _ _ rest (fine_rest before outer decl rest_of fine)
     (still_declared before decl there) m at
-later_none before outer decls nets (without {decls = rest_of} {decl} {inner} {more} net is none own rest) fine there m at =
+later_none before outer decls nets (unsigned_net {decls = rest_of} {decl} {inner} {more} net is none own rest) fine there m at =
     of_both m inner more (inner_none _ _ _ _ own (omega arith)) (later_none _ _ _ _ rest (fine_rest before outer decl rest_of fine) (still_declared before decl there)) at
-later_none before outer decls nets (with_one {decls = rest_of} {decl} {inner} {more} net sig is some own rest) fine there m at =
+later_none before outer decls nets (signed_net {decls = rest_of} {decl} {inner} {more} net sig is some own rest) fine there m at =
     of_first m _ (inner ++ more) (not_again before outer decl net (fine_name before outer decl (fine_first before outer decl rest_of fine)) there is (suc (length outer) == 1))
     (λ n within. of_both n inner more (inner_none _ _ _ _ own (omega arith)) (later_none _ _ _ _ rest (fine_rest before outer decl rest_of fine)
     (still_declared before decl there)) within) at
@@ -140,9 +140,9 @@ named_main one false is = sym (and_false one) ∙ is
 pub one_main : (before : List Decl) (outer : Around) (decls : List Decl) (nets : List Signed) → SignedIn before outer decls nets → RowFine before outer decls → Alone nets
 one_main before outer decls nets no_more fine = λ i j one other. absurd (none-some one.0 one.1)
 one_main before outer decls nets (no_net {decls = rest_of} {decl} kind rest) fine = one_main _ _ _ _ rest (fine_rest before outer decl rest_of fine)
-one_main before outer decls nets (without {decls = rest_of} {decl} {inner} {more} net is none own rest) fine =
+one_main before outer decls nets (unsigned_net {decls = rest_of} {decl} {inner} {more} net is none own rest) fine =
     alone_behind inner more (inner_none _ _ _ _ own (omega arith)) (one_main _ _ _ _ rest (fine_rest before outer decl rest_of fine))
-one_main before outer decls nets (with_one {decls = rest_of} {decl} {inner} {more} net sig is some own rest) fine =
+one_main before outer decls nets (signed_net {decls = rest_of} {decl} {inner} {more} net sig is some own rest) fine =
     alone_first _ (inner ++ more)
     (λ main n within. of_both n inner more (inner_none _ _ _ _ own (omega arith)) (later_none _ _ _ _ rest (fine_rest before outer decl rest_of fine)
     (now_declared before decl (net_named decl net is ∙ named_main (suc (length outer) == 1) (bytes_eq (out-NetDecl net).name.text main_name) main))) within)

@@ -7,7 +7,7 @@ use Rattle.sn_ast.specs.declared.declaration.Decl.TheViews.{out-Decl, out-NetDec
 use Rattle.sn_ast.specs.declared.declaration.NetDecl.{NetDecl}
 use Rattle.sn_ast.specs.declared.label.Sig.{Sig}
 use Rattle.sn_scope_rules.specs.Claims.{Signed, SignedIn, is_net}
-use Rattle.sn_scope_rules.specs.Claims.SignedIn.{no_more, no_net, with_one, without}
+use Rattle.sn_scope_rules.specs.Claims.SignedIn.{no_more, no_net, signed_net, unsigned_net}
 use Rattle.sn_scope_rules.specs.Standing.{StandsIn}
 use Rattle.sn_scope_rules.specs.Standing.StandsIn.{here, later}
 use Rattle.sn_scope_rules.specs.Visible.{Around}
@@ -43,18 +43,18 @@ pub signed_once : (before : List Decl) (outer : Around) (decls : List Decl) (xs 
 unfolding entry
 signed_once before outer decls xs no_more ys no_more = refl
 signed_once before outer decls xs (no_net kind rest) ys (no_net kind' rest') = signed_once _ _ _ _ rest ys rest'
-signed_once before outer decls xs (no_net {decl} kind rest) ys (without net at none own rest') = absurd (no_net_there decl net kind at)
-signed_once before outer decls xs (no_net {decl} kind rest) ys (with_one net sig at some own rest') = absurd (no_net_there decl net kind at)
-signed_once before outer decls xs (without {decl} net at none own rest) ys (no_net kind rest') = absurd (no_net_there decl net kind at)
-signed_once before outer decls xs (without {decl} net at none own rest) ys (without {inner = inner'} {more = more'} net' at' none' own' rest') =
+signed_once before outer decls xs (no_net {decl} kind rest) ys (unsigned_net net at none own rest') = absurd (no_net_there decl net kind at)
+signed_once before outer decls xs (no_net {decl} kind rest) ys (signed_net net sig at some own rest') = absurd (no_net_there decl net kind at)
+signed_once before outer decls xs (unsigned_net {decl} net at none own rest) ys (no_net kind rest') = absurd (no_net_there decl net kind at)
+signed_once before outer decls xs (unsigned_net {decl} net at none own rest) ys (unsigned_net {inner = inner'} {more = more'} net' at' none' own' rest') =
     λ i. signed_once _ _ _ _ own inner' (subst (λ n. SignedIn [] (before ∷ outer) (out-NetDecl n).decls inner')
     (same_net decl net net' at at') own') i ++ signed_once _ _ _ _ rest more' rest' i
-signed_once before outer decls xs (without {decl} net at none own rest) ys (with_one net' sig' at' some' own' rest') =
+signed_once before outer decls xs (unsigned_net {decl} net at none own rest) ys (signed_net net' sig' at' some' own' rest') =
     absurd (none-some sig' (sym none ∙ ap (λ n. (out-NetDecl n).sig) (sym (same_net decl net net' at at')) ∙ some'))
-signed_once before outer decls xs (with_one {decl} net sig at some own rest) ys (no_net kind rest') = absurd (no_net_there decl net kind at)
-signed_once before outer decls xs (with_one {decl} net sig at some own rest) ys (without net' at' none' own' rest') =
+signed_once before outer decls xs (signed_net {decl} net sig at some own rest) ys (no_net kind rest') = absurd (no_net_there decl net kind at)
+signed_once before outer decls xs (signed_net {decl} net sig at some own rest) ys (unsigned_net net' at' none' own' rest') =
     absurd (none-some sig (sym none' ∙ ap (λ n. (out-NetDecl n).sig) (same_net decl net net' at at') ∙ some))
-signed_once before outer decls xs (with_one {decl} net sig at some own rest) ys (with_one {inner = inner'} {more = more'} net' sig' at' some' own' rest') =
+signed_once before outer decls xs (signed_net {decl} net sig at some own rest) ys (signed_net {inner = inner'} {more = more'} net' sig' at' some' own' rest') =
     λ i. entry (sym same i) (sigs i) (before ∷ outer) ∷ (signed_once _ _ _ _ own inner' (subst (λ n. SignedIn [] (before ∷ outer)
     (out-NetDecl n).decls inner') same own') i ++ signed_once _ _ _ _ rest more' rest' i)
   where

@@ -39,10 +39,10 @@ pub data SignedIn : List Decl → Around → List Decl → List Signed → Type 
   no_more : {before : List Decl} {outer : Around} → SignedIn before outer [] []
   no_net : {before decls : List Decl} {outer : Around} {decl : Decl} {more : List Signed} →
       is_net (out-Decl decl) ≡ false → SignedIn (before ++ decl ∷ []) outer decls more → SignedIn before outer (decl ∷ decls) more
-  without : {before decls : List Decl} {outer : Around} {decl : Decl} {inner more : List Signed} (net : NetDecl) →
+  unsigned_net : {before decls : List Decl} {outer : Around} {decl : Decl} {inner more : List Signed} (net : NetDecl) →
       out-Decl decl ≡ Decl-F.NetDecl net → (out-NetDecl net).sig ≡ None →
       SignedIn [] (before ∷ outer) (out-NetDecl net).decls inner → SignedIn (before ++ decl ∷ []) outer decls more → SignedIn before outer (decl ∷ decls) (inner ++ more)
-  with_one : {before decls : List Decl} {outer : Around} {decl : Decl} {inner more : List Signed} (net : NetDecl) (sig : Sig) →
+  signed_net : {before decls : List Decl} {outer : Around} {decl : Decl} {inner more : List Signed} (net : NetDecl) (sig : Sig) →
       out-Decl decl ≡ Decl-F.NetDecl net → (out-NetDecl net).sig ≡ Some sig →
       SignedIn [] (before ∷ outer) (out-NetDecl net).decls inner → SignedIn (before ++ decl ∷ []) outer decls more →
       SignedIn before outer (decl ∷ decls) (record { net = net; sig = sig; outside = before ∷ outer } ∷ (inner ++ more))
