@@ -351,7 +351,14 @@ module _ (names : List (List ℕ)) (all : List BoxDecl) where
           → Tells names boxes st (after_sig names name sig st) scope outer d
       by_sig (Arrow input output) grows means at = simple_tells names boxes st (after_sig names name (Arrow input output) st) scope outer d (Decl-F.SigDecl name
           (Arrow input output)) at refl
-          (record { nets = grows.nets; types = grows.types; signatures = grows.signatures; more_nets = grows.more_nets; more_types = grows.more_types; more_signatures = grows.more_signatures })
+          (record {
+            nets = grows.nets;
+            types = grows.types;
+            signatures = grows.signatures;
+            more_nets = grows.more_nets;
+            more_types = grows.more_types;
+            more_signatures = grows.more_signatures;
+          })
           (sym (append-nil st.boxes) ∙ ap (λ bs. st.boxes ++ each (box_at names) bs) (sym has)) (meaning.Signature (number_at (Arrow input output) st)) refl refl (
             number_at
                 (Arrow input output) st,
@@ -359,7 +366,14 @@ module _ (names : List (List ℕ)) (all : List BoxDecl) where
             means,
           ) refl refl
       by_sig (NamedSig other) grows means at = simple_tells names boxes st (after_sig names name (NamedSig other) st) scope outer d (Decl-F.SigDecl name (NamedSig other)) at refl
-          (record { nets = grows.nets; types = grows.types; signatures = grows.signatures; more_nets = grows.more_nets; more_types = grows.more_types; more_signatures = grows.more_signatures })
+          (record {
+            nets = grows.nets;
+            types = grows.types;
+            signatures = grows.signatures;
+            more_nets = grows.more_nets;
+            more_types = grows.more_types;
+            more_signatures = grows.more_signatures;
+          })
           (sym (append-nil st.boxes) ∙ ap (λ bs. st.boxes ++ each (box_at names) bs) (sym has)) (meaning.Signature (number_at (NamedSig other) st)) refl refl (
             number_at
                 (NamedSig other) st,

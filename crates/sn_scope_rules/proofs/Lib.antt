@@ -27,3 +27,4 @@ pub mod Once
 pub mod OneMain
 pub mod Standings
 pub mod OneTree
+pub mod Rooted

@@ -337,7 +337,16 @@ module _ (program : Program) where
       signed = row.signed_in;
       main = has_main i is;
       few = few;
-      large = record { before = large.before; net = large.net; behind = large.behind; order = large.order; place = large.place; trees = large.trees; fit = record { each_fits = large.each_fits; room = large.few }; too_large = large.too_large };
+      large = record {
+        before = large.before;
+        net = large.net;
+        behind = large.behind;
+        order = large.order;
+        place = large.place;
+        trees = large.trees;
+        fit = record { each_fits = large.each_fits; room = large.few };
+        too_large = large.too_large;
+      };
     })
 
     case_main : (main : Option ℕ) → state.main ≡ main → Case (resolution program)
@@ -455,4 +464,5 @@ module _ (program : Program) where
           let main = main_there u has.all has.signed has.main in
           let all = subst (Beside (PendingMeans names boxes state) state.claims) (same_nets u has.all has.signed ∙ large.order) (pendings u) in
           comes_large u main.0 at main.1 has.few
-          (one_large names boxes state (row u).boxes_are large.before large.net large.behind large.trees state.claims all large.fit.each_fits most_nodes large.fit.room large.too_large ∙ ap (λ place. Err place) large.place)
+          (one_large names boxes state (row u).boxes_are large.before large.net large.behind large.trees state.claims all large.fit.each_fits most_nodes large.fit.room large.too_large
+          ∙ ap (λ place. Err place) large.place)

@@ -25,11 +25,11 @@ net_in other (Decl-F.NetDecl net) = net
 net_in other (Decl-F.TypeDecl name parts) = other
 net_in other (Decl-F.SigDecl name sig) = other
 
-same_net : (decl : Decl) (net other : NetDecl) → out-Decl decl ≡ Decl-F.NetDecl net → out-Decl decl ≡ Decl-F.NetDecl other → other ≡ net
+pub same_net : (decl : Decl) (net other : NetDecl) → out-Decl decl ≡ Decl-F.NetDecl net → out-Decl decl ≡ Decl-F.NetDecl other → other ≡ net
 unfolding net_in
 same_net decl net other one two = ap (net_in net) (sym two ∙ one)
 
-no_net_there : (decl : Decl) (net : NetDecl) → is_net (out-Decl decl) ≡ false → out-Decl decl ≡ Decl-F.NetDecl net → ⊥
+pub no_net_there : (decl : Decl) (net : NetDecl) → is_net (out-Decl decl) ≡ false → out-Decl decl ≡ Decl-F.NetDecl net → ⊥
 no_net_there decl net kind at = absurd_by (sym kind ∙ ap is_net at)
   where
     absurd_by : false ≡ true → ⊥

@@ -37,7 +37,7 @@ first_behind name (d ∷ ds) found is = cases (has_name name d) refl (first_behi
         subst (λ (f : Decl × List Decl). StandsBehind f.0 f.1 (d ∷ ds)) more.2 (further (rest more.0 more.1))
 
 -- what stands before a declaration stands in the same list
-behind_before : (d e : Decl) (before some decls : List Decl) → StandsBehind e some before → StandsBehind d before decls → StandsBehind e some decls
+pub behind_before : (d e : Decl) (before some decls : List Decl) → StandsBehind e some before → StandsBehind d before decls → StandsBehind e some decls
 behind_before d e before some decls at foremost = elim at [ ]
 behind_before d e before some decls foremost (further rest) = foremost
 behind_before d e before some decls (further at) (further rest) = further (behind_before d e _ _ _ at rest)

@@ -73,7 +73,7 @@ module _ (names : List (List ℕ)) (boxes : List BoxProgram) where
       (guard_at names guard))
   FormTree around place (NetForm-F.Split det body tag) t = (m : Net) × TreeOf names boxes around body m × (t ≡ net.Split place (merge_of det) m (number_in names tag.text))
 
-  trees_to : (around : Around) (es : List NetExpr) (ts : List Net) → Beside (TreeOf names boxes around) es ts → TreesOf names boxes around es ts
+  pub trees_to : (around : Around) (es : List NetExpr) (ts : List Net) → Beside (TreeOf names boxes around) es ts → TreesOf names boxes around es ts
   trees_to around [] [] all = no_branch
   trees_to around [] (t ∷ ts) all = absurd all
   trees_to around (e ∷ es) [] all = absurd all
@@ -93,7 +93,7 @@ module _ (names : List (List ℕ)) (boxes : List BoxProgram) where
   named_to around network name t decl there (Decl-F.SigDecl own sig) is found at one = absurd one
 
   module _ (around : Around) (network : NetExpr) where
-    form_to : (t : Net) (x : NetForm-F NetForm NetExpr) → form_of network ≡ x → FormTree around (place_of network) x t → TreeOf names boxes around network t
+    pub form_to : (t : Net) (x : NetForm-F NetForm NetExpr) → form_of network ≡ x → FormTree around (place_of network) x t → TreeOf names boxes around network t
     form_to t (NetForm-F.Name name) is one = named_to around network name t one.0.0 one.0.1 (out-Decl one.0.0) is one.1 refl one.2
     form_to t NetForm-F.Identity is one = subst (TreeOf names boxes around network) (sym one) (identity is)
     form_to t (NetForm-F.Filter pattern templates) is one = subst (TreeOf names boxes around network) (sym one) (filter pattern templates is)
@@ -149,10 +149,10 @@ module _ (names : List (List ℕ)) (boxes : List BoxProgram) where
   abbrev pub Unbroken : Around → NetExpr → Type 0
   Unbroken around network = (r : Refusal) → NetworkBreaks around network r → ⊥
 
-  abbrev UnbrokenForm : Around → ℕ → NetForm-F NetForm NetExpr → Type 0
+  abbrev pub UnbrokenForm : Around → ℕ → NetForm-F NetForm NetExpr → Type 0
   UnbrokenForm around place x = ((r : Refusal) → FormBreaks around place x r → ⊥) × Each (Unbroken around) (parts_in x)
 
-  unbroken_form : (around : Around) (network : NetExpr) → Unbroken around network → UnbrokenForm around (place_of network) (form_of network)
+  pub unbroken_form : (around : Around) (network : NetExpr) → Unbroken around network → UnbrokenForm around (place_of network) (form_of network)
   unbroken_form around network fine = (λ r one. fine r (in_form itself one), λ part at r one. nested part at r one)
     where
       nested : (part : NetExpr) → StandsIn part (parts_of network) → (r : Refusal) → NetworkBreaks around part r → ⊥

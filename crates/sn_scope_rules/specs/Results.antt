@@ -1,5 +1,9 @@
 -- What a program is resolved to where it breaks no rule, and what it is refused for then.
 use Rattle.std.specs.Prelude.{◌≡◌, ℕ, ◌<◌, ◌≤◌, true, false, List, [], length, map as each, Some, slice_get}
+use Rattle.sn_ast.specs.declared.declaration.Decl.{Decl}
+use Rattle.sn_ast.specs.declared.declaration.Decl.TheOpen.{Decl-F}
+use Rattle.sn_ast.specs.declared.declaration.Decl.TheViews.{out-Decl, out-NetDecl}
+use Rattle.sn_ast.specs.declared.declaration.NetDecl.{NetDecl}
 use Rattle.sn_ast.specs.declared.declaration.Program.{Program}
 use Rattle.sn_box_scope.specs.Boxes.{box_at}
 use Rattle.sn_label_scope.specs.declared.refusal.Refusal.{Refusal}
@@ -9,12 +13,18 @@ use Rattle.sn_scope.specs.Numbering.{names_of}
 use Rattle.sn_scope.specs.Resolution.{most_names}
 use Rattle.sn_scope.specs.declared.resolved.Parts.{Parts}
 use Rattle.sn_scope_rules.specs.Claims.{AreFitting, ClaimOf, HasMain, IsTooLarge, Signed, SignedIn, is_main}
-use Rattle.sn_scope_rules.specs.Declared.{boxes_in}
+use Rattle.sn_scope_rules.specs.Declared.{StandsAt, boxes_in}
+use Rattle.sn_scope_rules.specs.Networks.{HasLongSeries}
 use Rattle.sn_scope_rules.specs.Programs.{ProgramBreaks}
 use Rattle.sn_scope_rules.specs.Standing.{Beside, StandsIn}
+use Rattle.sn_scope_rules.specs.Visible.{Around}
 
 abbrev pub Unbroken : Program → Type 0
 Unbroken program = (refusal : Refusal) → ProgramBreaks program refusal → ⊥
+
+-- each series in the networks of the program's nets has two parts or more
+abbrev pub HasLongSeriesIn : Program → Type 0
+HasLongSeriesIn program = (around : Around) (decl : Decl) (net : NetDecl) → StandsAt program around decl → out-Decl decl ≡ Decl-F.NetDecl net → HasLongSeries (out-NetDecl net).connect
 
 -- the boxes of the program, in the order of their places
 abbrev pub boxes_of : Program → List BoxProgram

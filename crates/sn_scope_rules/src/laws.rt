@@ -22,7 +22,7 @@ ghost use Rattle.sn_scope_rules.specs.Declared.{StandsAt, boxes_before};
 ghost use Rattle.sn_scope_rules.specs.Named.{in_program};
 ghost use Rattle.sn_scope_rules.specs.Programs.{ProgramBreaks};
 ghost use Rattle.sn_scope_rules.specs.Refusals.{IsFirst};
-ghost use Rattle.sn_scope_rules.specs.Results.{HasNoMain, HasTooLarge, HasTooManyNames, IsResolved, IsWhole, boxes_of};
+ghost use Rattle.sn_scope_rules.specs.Results.{HasLongSeriesIn, HasNoMain, HasTooLarge, HasTooManyNames, IsResolved, IsWhole, Unbroken, boxes_of};
 ghost use Rattle.sn_scope_rules.specs.Trees.{TreeOf};
 ghost use Rattle.sn_scope_rules.specs.Types.{SignatureOf};
 ghost use Rattle.sn_scope_rules.specs.Visible.{Around, found_at, stands_for};
@@ -72,4 +72,10 @@ pub fn calls_are_of_the_boxes_that_names_stand_for()
 pub fn what_stands_is_one_thing()
     ensures tree { (names : List (List ℕ)) (boxes : List SomeProgramOfBox) (around : Around) (network : SomeNetwork) (one other : SomeTree) → TreeOf names boxes around network one → TreeOf names boxes around network other → one ≡ other }
     ensures types { (names : List (List ℕ)) (around : Around) (sig : SomeSig) (input output other_input other_output : List Labels) → SignatureOf names around sig input output → SignatureOf names around sig other_input other_output → (input ≡ other_input) × (output ≡ other_output) }
+{}
+
+/// Where no rule is broken, and each series has two parts or more, as each that tokens spell has, the network of each net of the
+/// program is a tree.
+pub fn unbroken_nets_are_trees()
+    ensures tree { (names : List (List ℕ)) (boxes : List SomeProgramOfBox) (program : SomeProgram) → Unbroken program → HasLongSeriesIn program → (around : Around) (decl : SomeDecl) (net : SomeNet) → StandsAt program around decl → out-Decl decl ≡ Decl-F.NetDecl net → (tree : SomeTree) × TreeOf names boxes ((out-NetDecl net).decls ∷ around) (out-NetDecl net).connect tree }
 {}
