@@ -67,7 +67,7 @@ before_last : {A : Type 0} (xs : List A) (x : A) → take (length (xs ++ x ∷ [
 before_last xs x = ap (λ n. take n (xs ++ x ∷ [])) (one_fewer xs x) ∙ up_to_end xs x
 
 -- the scope that ends is the one that was entered
-left_entered : (inner : Scopes) (outer : List Scope) (current : Scope) → inner.outer ≡ outer ++ current ∷ [] → left_scope inner ≡ record { outer = outer; current = current }
+pub left_entered : (inner : Scopes) (outer : List Scope) (current : Scope) → inner.outer ≡ outer ++ current ∷ [] → left_scope inner ≡ record { outer = outer; current = current }
 left_entered inner outer current is =
     ap (λ (o : List Scope). let made : Scopes = record { outer = take (length o - 1) o; current = get_or o (length o - 1) empty_scope } in made) is
     ∙ (λ i. record { outer = before_last outer current i; current = last_of outer current empty_scope i })
@@ -139,10 +139,10 @@ taken_goes scopes scope outer same name least = subst (λ b. Goes least (Taken s
     (finds_required (not (is_declared scope name.text)) Twice name.at least)
 
 -- scopes with a name more in the innermost
-abbrev more : Scopes → Ident → Meaning → Scopes
+abbrev pub more : Scopes → Ident → Meaning → Scopes
 more scopes name m = record { outer = scopes.outer; current = declared scopes.current name.text m }
 
-more_matches : (scopes : Scopes) (scope : List Decl) (outer : Around) → Matches scopes scope outer → (d : Decl) (m : Meaning) → meaning_sort m ≡ decl_sort d → Matches (more scopes (name_of d) m) (scope ++ d ∷ []) outer
+pub more_matches : (scopes : Scopes) (scope : List Decl) (outer : Around) → Matches scopes scope outer → (d : Decl) (m : Meaning) → meaning_sort m ≡ decl_sort d → Matches (more scopes (name_of d) m) (scope ++ d ∷ []) outer
 more_matches scopes scope outer same d m sort = record { current = table_more scopes.current scope d m same.current sort; around = same.around }
 
 -- a change refuses the least of what there was and what breaks the rules

@@ -33,9 +33,9 @@ use Rattle.sn_names.proofs.NamesLaws.{is_held-entered}
 use Rattle.sn_scope.specs.Numbering.{Entry, after_box, after_decl, after_guard, after_item, after_label, after_labels, after_net, after_network, after_part, after_sig, after_signature, after_source, after_tags, after_template, after_tuple, after_types, after_variant, all_after, decl_step, names_of, net_step, network_step, tags_step as entry_step}
 use Rattle.sn_scope_rules.specs.Filters.{tags_in, tags_step}
 use Rattle.sn_scope_rules.specs.Standing.{StandsIn}
-use Rattle.sn_scope_rules.proofs.Held.{Each, HeldBox, HeldDecl, HeldDeclLevel, HeldGuard, HeldIdent, HeldItem, HeldLabel, HeldLabels, HeldLevel, HeldNet, HeldNetDecl, HeldNetSig, HeldPart, HeldSig, HeldSource, HeldTemplate, HeldTuple, HeldType, HeldVariant, Names, level_decl, level_net}
+use Rattle.sn_scope_rules.proofs.Held.{Each, HeldBox, HeldDecl, HeldDeclLevel, HeldGuard, HeldIdent, HeldItem, HeldLabel, HeldLabels, HeldLevel, HeldNet, HeldNetDecl, HeldNetSig, HeldPart, HeldSig, HeldSource, HeldTemplate, HeldTuple, HeldType, HeldVariant, Names, each_cons, each_nil, level_decl, level_net}
 use Rattle.sn_scope_rules.proofs.Idents.{held_entered}
-use Rattle.sn_scope_rules.proofs.Standing.{in_cons, in_either, none_in}
+use Rattle.sn_scope_rules.proofs.Standing.{in_either}
 
 -- what one has, the other has
 abbrev Within : Names → Names → Type 0
@@ -67,16 +67,6 @@ enters_name name = record {
   keeps = λ names n held. held_entered names name.text n ∙ or_left (is_held names n) (bytes_eq name.text n) held;
   holds = λ names all within. within name.text (is_held-entered names name.text);
 }
-
-each_nil : {A : Type 0} (P : A → Type 0) → Each P []
-each_nil P x at = absurd (none_in x at)
-
-each_cons : {A : Type 0} (P : A → Type 0) (x : A) (xs : List A) → P x → Each P xs → Each P (x ∷ xs)
-each_cons {A} P x xs one rest y at = side (in_cons (λ z. z ≡ y) x y xs at refl)
-  where
-    side : (x ≡ y) ⊎ ((z : A) × StandsIn z xs × (z ≡ y)) → P y
-    side (inl same) = subst P same one
-    side (inr found) = subst P found.2 (rest found.0 found.1)
 
 each_append : {A : Type 0} (P : A → Type 0) (xs ys : List A) → Each P xs → Each P ys → Each P (xs ++ ys)
 each_append P xs ys one other x at = side (in_either x xs ys at)

@@ -1,5 +1,5 @@
 -- That the names of the labels of a part of a source are held.
-use Rattle.std.proofs.Common.{◌≡◌, ℕ, true, List, [], Option, Some, None}
+use Rattle.std.proofs.Common.{◌≡◌, ℕ, true, List, [], ◌∷◌, Option, Some, None}
 use Rattle.sn_ast.specs.declared.declaration.BoxDecl.{BoxDecl}
 use Rattle.sn_ast.specs.declared.declaration.Decl.{Decl}
 use Rattle.sn_ast.specs.declared.declaration.Decl.TheOpen.{Decl-F}
@@ -25,6 +25,7 @@ use Rattle.sn_names.specs.Names.{is_held}
 use Rattle.sn_scope_rules.specs.Filters.{tags_in}
 use Rattle.sn_scope_rules.specs.Networks.{form_of, parts_in, parts_of}
 use Rattle.sn_scope_rules.specs.Standing.{StandsIn, StandsWithin}
+use Rattle.sn_scope_rules.specs.Standing.StandsIn.{here, later}
 use Rattle.sn_scope_rules.specs.Standing.StandsWithin.{deeper, itself}
 
 abbrev pub Names : Type 0
@@ -33,6 +34,13 @@ Names = List (List ℕ)
 -- each element
 abbrev pub Each : {A : Type 0} → (A → Type 0) → List A → Type 0
 Each {A} P xs = (x : A) → StandsIn x xs → P x
+
+pub each_nil : {A : Type 0} (P : A → Type 0) → Each P []
+each_nil P x at = elim at [ ]
+
+pub each_cons : {A : Type 0} (P : A → Type 0) (x : A) (xs : List A) → P x → Each P xs → Each P (x ∷ xs)
+each_cons P x xs first rest y here = first
+each_cons P x xs first rest y (later at) = rest y at
 
 abbrev pub HeldIdent : Names → Ident → Type 0
 HeldIdent all name = is_held all name.text ≡ true

@@ -51,11 +51,11 @@ refusal_of TooManyNames = None
 refusal_of (TooLarge at) = None
 refusal_of Memory = None
 
-abbrev refusal_in : Result Parts ScopeFault → Option Refusal
+abbrev pub refusal_in : Result Parts ScopeFault → Option Refusal
 refusal_in (Ok made) = None
 refusal_in (Err fault) = refusal_of fault
 
-fault_back : (r : Reason) (at : ℕ) → refusal_of (fault_at r at) ≡ Some (record { reason = r; at = at })
+pub fault_back : (r : Reason) (at : ℕ) → refusal_of (fault_at r at) ≡ Some (record { reason = r; at = at })
 fault_back reason.Unknown at = refl
 fault_back reason.Twice at = refl
 fault_back reason.Arity at = refl

@@ -1,5 +1,6 @@
 -- Elements of lists, and of lists that are made of others.
-use Rattle.std.proofs.Common.{List, [], ◌∷◌, ◌++◌, ◌⊎◌, inl, inr, fold}
+use Rattle.std.proofs.Common.{◌≡◌, List, [], ◌∷◌, ◌++◌, ◌⊎◌, inl, inr, fold, map as each, refl, ap}
+use Rattle.std.specs.List.{flat_map}
 use Rattle.sn_scope_rules.specs.Standing.{StandsBehind, StandsIn, StandsWithin}
 use Rattle.sn_scope_rules.specs.Standing.StandsBehind.{foremost, further}
 use Rattle.sn_scope_rules.specs.Standing.StandsIn.{here, later}
@@ -67,3 +68,8 @@ pub within_cases : {A : Type 0} (parts : A → List A) (P : A → Type 0) (x who
     → P whole ⊎ ((part : A) × StandsIn part (parts whole) × ((y : A) × StandsWithin parts y part × P y))
 within_cases parts P x whole itself p = inl p
 within_cases parts P x whole (deeper {part} at rest) p = inr (part, at, (x, rest, p))
+
+-- lists that are made of each element, one after another
+pub together_map : {A B : Type 0} (f : A → List B) (xs : List A) → flat_map (λ part. part) (each f xs) ≡ flat_map f xs
+together_map f [] = refl
+together_map f (x ∷ xs) = ap (λ more. f x ++ more) (together_map f xs)

@@ -44,7 +44,7 @@ pub record Table (scope : Scope) (decls : List Decl) : Type 0 where
   pub held : (n : List ℕ) → is_held scope.names n ≡ is_declared decls n
   pub sorts : (n : List ℕ) → option_map meaning_sort (meaning_in scope n) ≡ option_map decl_sort (find (has_name n) decls)
 
-abbrev around_of : List Scope → List ℕ → Option Meaning
+abbrev pub around_of : List Scope → List ℕ → Option Meaning
 around_of outer n = fold (λ found scope. first_of (meaning_in scope n) found) None outer
 
 -- so do the tables of the scope and of those around it
@@ -156,12 +156,12 @@ unfolding part_test
 part_stands scopes around same n = part_meaning (meaning_of scopes n) ∙ ap part_test (same n) ∙ test_of part_test is_part refl part_form (stands_for around n)
 
 -- look-ups in lists with one more at the end
-get_left : {A : Type 0} (xs ys : List A) (k : ℕ) → k < length xs → slice_get (xs ++ ys) k ≡ slice_get xs k
+pub get_left : {A : Type 0} (xs ys : List A) (k : ℕ) → k < length xs → slice_get (xs ++ ys) k ≡ slice_get xs k
 get_left [] ys k within = absurd (omega arith)
 get_left (x ∷ xs) ys zero within = refl
 get_left (x ∷ xs) ys (suc k) within = get_left xs ys k (omega arith)
 
-get_last : {A : Type 0} (xs : List A) (x : A) (k : ℕ) → k ≡ length xs → slice_get (xs ++ x ∷ []) k ≡ Some x
+pub get_last : {A : Type 0} (xs : List A) (x : A) (k : ℕ) → k ≡ length xs → slice_get (xs ++ x ∷ []) k ≡ Some x
 get_last xs x k is = ap (slice_get (xs ++ x ∷ [])) is ∙ at_length xs x
   where
     at_length : {A : Type 0} (xs : List A) (x : A) → slice_get (xs ++ x ∷ []) (length xs) ≡ Some x
@@ -182,7 +182,7 @@ find_new test (x ∷ xs) ys none = (elim (test x) as (λ b. (b || list_any test 
   | false ↦ λ rest. find_new test xs ys rest
 ]) none
 
-fold_last : {A B : Type 0} (f : B → A → B) (b : B) (xs : List A) (x : A) → fold f b (xs ++ x ∷ []) ≡ f (fold f b xs) x
+pub fold_last : {A B : Type 0} (f : B → A → B) (b : B) (xs : List A) (x : A) → fold f b (xs ++ x ∷ []) ≡ f (fold f b xs) x
 fold_last f b [] x = refl
 fold_last f b (y ∷ xs) x = fold_last f (f b y) xs x
 

@@ -1,8 +1,15 @@
-pub mod Standing
 pub mod Refusals
+pub mod Standing
 pub mod Visible
 pub mod Labels
 pub mod Filters
 pub mod Networks
 pub mod Boxes
 pub mod Programs
+pub mod Named
+pub mod Declared
+pub mod Trees
+pub mod Limits
+pub mod Types
+pub mod Claims
+pub mod Results

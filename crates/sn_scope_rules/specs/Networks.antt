@@ -1,5 +1,5 @@
 -- What is refused in networks.
-use Rattle.std.specs.Prelude.{◌≡◌, ℕ, Bool, false, List, [], ◌∷◌, length, Option, Some}
+use Rattle.std.specs.Prelude.{◌≡◌, ℕ, ◌≤◌, Bool, false, List, [], ◌∷◌, length, Option, Some}
 use Rattle.sn_ast.specs.declared.label.Ident.{Ident}
 use Rattle.sn_ast.specs.declared.label.Variant.{Variant}
 use Rattle.sn_ast.specs.declared.network.NetExpr.{NetExpr}
@@ -54,3 +54,7 @@ pub data FormBreaks (around : Around) (place : ℕ) : NetForm-F NetForm NetExpr 
 -- what is refused in a network that stands somewhere within it
 pub data NetworkBreaks (around : Around) (net : NetExpr) : Refusal → Type 0 where
   in_form : {part : NetExpr} {r : Refusal} → StandsWithin parts_of part net → FormBreaks around (place_of part) (form_of part) r → NetworkBreaks around net r
+
+-- each series in the network has two parts or more
+abbrev pub HasLongSeries : NetExpr → Type 0
+HasLongSeries net = (part : NetExpr) (parts : List NetExpr) → StandsWithin parts_of part net → form_of part ≡ NetForm-F.Serial parts → 2 ≤ length parts

@@ -15,3 +15,10 @@ pub data StandsBehind {A : Type 0} (x : A) : List A → List A → Type 0 where
 pub data StandsWithin {A : Type 0} (parts : A → List A) (x : A) : A → Type 0 where
   itself : StandsWithin parts x x
   deeper : {whole part : A} → StandsIn part (parts whole) → StandsWithin parts x part → StandsWithin parts x whole
+
+-- lists of one length, each element of the one beside that at its place in the other
+abbrev pub Beside : {A B : Type 0} → (A → B → Type 0) → List A → List B → Type 0
+Beside P [] [] = Unit {0}
+Beside P [] (y ∷ ys) = ⊥
+Beside P (x ∷ xs) [] = ⊥
+Beside P (x ∷ xs) (y ∷ ys) = P x y × Beside P xs ys

@@ -1,5 +1,5 @@
 -- What a name stands for: a declaration that stands before, in the same scope or in one around it.
-use Rattle.std.specs.Prelude.{ℕ, Bool, true, false, List, [], ◌∷◌, Option, None, find, option_map, unwrap_or}
+use Rattle.std.specs.Prelude.{ℕ, Bool, true, false, if◌then◌else◌, List, [], ◌∷◌, Option, Some, None, find, option_map, unwrap_or}
 use Rattle.std.specs.List.{list_any}
 use Rattle.std.specs.Option.{option_or}
 use Rattle.std.specs.Str.{bytes_eq}
@@ -57,3 +57,21 @@ is_part (Decl-F.BoxDecl declaration) = true
 is_part (Decl-F.NetDecl net) = true
 is_part (Decl-F.TypeDecl name parts) = false
 is_part (Decl-F.SigDecl name sig) = false
+
+-- a declaration with those that stand before it, behind one more
+abbrev pub further_on : Decl → Decl × List Decl → Decl × List Decl
+further_on decl found = (found.0, decl ∷ found.1)
+
+-- and with the scopes around it
+abbrev pub within : Around → Decl × List Decl → Decl × Around
+within outer found = (found.0, found.1 ∷ outer)
+
+-- the first declaration with the name, and those that stand before it
+abbrev pub first_named : List ℕ → List Decl → Option (Decl × List Decl)
+first_named name [] = None
+first_named name (decl ∷ decls) = if has_name name decl then Some (decl, []) else option_map (further_on decl) (first_named name decls)
+
+-- the declaration that the name stands for, and those that stand before that one, in its scope and in those around it
+abbrev pub found_at : Around → List ℕ → Option (Decl × Around)
+found_at [] name = None
+found_at (decls ∷ outer) name = option_or (option_map (within outer) (first_named name decls)) (found_at outer name)
