@@ -1,0 +1,10 @@
+//! Laws of the built-in source, each as the contract of a function that does nothing.
+ghost use Rattle.std.specs.Prelude.{◌≡◌, ℕ, List};
+ghost use Rattle.sn_lexer.specs.Answer.{LexesAs};
+ghost use Rattle.sn_lexer.specs.declared.token.Token.{Token as SomeToken};
+ghost use Rattle.sn_sample.specs.Source.{source_text};
+
+/// The built-in source has tokens.
+pub fn sample_is_lexed()
+    ensures lexed { (tokens : List SomeToken) × LexesAs source_text tokens }
+{}
