@@ -1,2 +1,4 @@
 pub mod Words
 pub mod Source
+pub mod Tree
+pub mod Spelled
