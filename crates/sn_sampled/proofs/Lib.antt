@@ -2,3 +2,8 @@ pub mod Words
 pub mod Source
 pub mod Tree
 pub mod Spelled
+pub mod Labels
+pub mod Entered
+pub mod Passed
+pub mod Declared
+pub mod Trees

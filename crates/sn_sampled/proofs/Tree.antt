@@ -1,12 +1,14 @@
 -- The tree of the built-in source, each part at its place.
 use Rattle.std.proofs.Common.{ℕ, true, false, pos, List, [], ◌∷◌, codes, Option, Some, None}
 use Rattle.sn_ast.specs.BoxExprs.{applied, Variant as VariantHead}
-use Rattle.sn_ast.specs.Declarations.{box_of, net_of}
+use Rattle.sn_ast.specs.Declarations.{net_of}
 use Rattle.sn_ast.specs.Networks.{same_item, computed_item, filter_at, serial_at, star_at, split_at}
 use Rattle.sn_ast.specs.Operators.{box_operations, tag_operations}
 use Rattle.sn_ast.specs.declared.box_expr.BExpr.{BExpr}
 use Rattle.sn_ast.specs.declared.box_expr.BForm.TheVariants as box_form
+use Rattle.sn_ast.specs.declared.declaration.BoxDecl.{BoxDecl}
 use Rattle.sn_ast.specs.declared.declaration.Decl.{Decl}
+use Rattle.sn_ast.specs.declared.declaration.Decl.TheVariants as decl_form
 use Rattle.sn_ast.specs.declared.declaration.Program.{Program}
 use Rattle.sn_ast.specs.declared.label.Ident.{Ident}
 use Rattle.sn_ast.specs.declared.label.LabelAt.{LabelAt}
@@ -48,8 +50,11 @@ twice_input = record { labels = field_at (codes "v") 12 ∷ []; at = 11 }
 abbrev pub twice_output : Tuple
 twice_output = record { labels = field_at (codes "w") 19 ∷ []; at = 18 }
 
+abbrev pub twice_box : BoxDecl
+twice_box = record { name = named (codes "twice") 4; input = twice_input; outputs = twice_output ∷ []; funs = []; body = twice_body }
+
 abbrev pub twice : Decl
-twice = box_of (named (codes "twice") 4) twice_input (twice_output ∷ []) [] twice_body
+twice = decl_form.BoxDecl twice_box
 
 -- {v,<k>,<n>} -> {w,<k>,<n>,<s>}
 abbrev pub input_variant : Variant

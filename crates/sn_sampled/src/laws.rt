@@ -1,9 +1,17 @@
 //! Laws of the built-in source, each as the contract of a function that does nothing.
-ghost use Rattle.std.specs.Prelude.{◌≡◌, ℕ, List};
+ghost use Rattle.std.specs.Prelude.{◌≡◌, ℕ, Bool, List, Ok};
 ghost use Rattle.sn_lexer.specs.Answer.{LexesAs};
 ghost use Rattle.sn_lexer.specs.declared.token.Token.{Token as SomeToken};
 ghost use Rattle.sn_ast.specs.declared.declaration.Program.{Program as SomeTree};
 ghost use Rattle.sn_parser.specs.Answer.{Spell};
+ghost use Rattle.sn_record.specs.declared.label.Label.{Label as SomeLabel};
+ghost use Rattle.sn_net.specs.Face.{variant_of};
+ghost use Rattle.sn_record.specs.LabelSet.{Labels as SomeLabels, contains};
+ghost use Rattle.sn_scope.specs.Declarations.{declarations_of};
+ghost use Rattle.sn_scope.specs.declared.declarations.Declarations.{Declarations as SomeDeclarations};
+ghost use Rattle.sn_scope.specs.Resolution.{resolution};
+ghost use Rattle.sn_scope.specs.declared.resolved.Parts.{Parts};
+ghost use Rattle.sn_scope.specs.Numbering.{names_of};
 ghost use Rattle.sn_sample.specs.Source.{source_text};
 
 /// The built-in source has tokens.
@@ -14,4 +22,12 @@ pub fn sample_is_lexed()
 /// Its tokens spell a program.
 pub fn sample_is_spelled()
     ensures spelled { (tree : SomeTree) × (tokens : List SomeToken) × LexesAs source_text tokens × Spell source_text tokens tree }
+{}
+
+/// Its names.
+pub fn sample_is_resolved()
+    ensures names { (tree : SomeTree) × (names : List (List ℕ)) × (names_of tree ≡ names) }
+    ensures resolved { (tree : SomeTree) × (parts : Parts) × (resolution tree ≡ Ok parts) }
+    ensures declared { (tree : SomeTree) × (names : List (List ℕ)) × (st : SomeDeclarations) × (declarations_of names tree ≡ st) }
+    ensures held { (labels : List SomeLabel) → (test : SomeLabel → Bool) × ((l : SomeLabel) → contains (variant_of labels) l ≡ test l) }
 {}
