@@ -7,3 +7,5 @@ pub mod Entered
 pub mod Passed
 pub mod Declared
 pub mod Trees
+pub mod Narrow
+pub mod Accepted

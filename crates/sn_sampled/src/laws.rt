@@ -9,6 +9,8 @@ ghost use Rattle.sn_net.specs.Face.{variant_of};
 ghost use Rattle.sn_record.specs.LabelSet.{Labels as SomeLabels, contains};
 ghost use Rattle.sn_scope.specs.Declarations.{declarations_of};
 ghost use Rattle.sn_scope.specs.declared.declarations.Declarations.{Declarations as SomeDeclarations};
+ghost use Rattle.std.specs.List.{All};
+ghost use Rattle.sn_typing.specs.Accepted.{IsAccepted as IsAcceptedClaim};
 ghost use Rattle.sn_scope.specs.Resolution.{resolution};
 ghost use Rattle.sn_scope.specs.declared.resolved.Parts.{Parts};
 ghost use Rattle.sn_scope.specs.Numbering.{names_of};
@@ -30,4 +32,9 @@ pub fn sample_is_resolved()
     ensures resolved { (tree : SomeTree) × (parts : Parts) × (resolution tree ≡ Ok parts) }
     ensures declared { (tree : SomeTree) × (names : List (List ℕ)) × (st : SomeDeclarations) × (declarations_of names tree ≡ st) }
     ensures held { (labels : List SomeLabel) → (test : SomeLabel → Bool) × ((l : SomeLabel) → contains (variant_of labels) l ≡ test l) }
+{}
+
+/// Its claim is accepted.
+pub fn sample_is_accepted()
+    ensures accepted { (parts : Parts) × All (IsAcceptedClaim parts.boxes) parts.claims }
 {}
