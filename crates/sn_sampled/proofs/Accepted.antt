@@ -19,7 +19,7 @@ use Rattle.sn_sampled.proofs.Labels.{Holds, has, holds_all, holds_flow, holds_sa
 use Rattle.sn_sampled.proofs.Narrow.{Narrow, narrow_component, narrow_series, narrow_star, narrow_split, narrow_bounded, narrow_declared, safe_series, safe_star, safe_from, takes_one}
 use Rattle.sn_sampled.proofs.Trees.{the_boxes, the_claim, main_net, behind_net, call_net, start_net, split_net, star_net, step_net}
 
-abbrev label_v : Label
+abbrev pub label_v : Label
 label_v = field 0
 
 abbrev label_w : Label

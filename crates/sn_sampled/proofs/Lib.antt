@@ -9,3 +9,4 @@ pub mod Declared
 pub mod Trees
 pub mod Narrow
 pub mod Accepted
+pub mod Samples
