@@ -10,3 +10,5 @@ pub mod Trees
 pub mod Narrow
 pub mod Accepted
 pub mod Samples
+pub mod Program
+pub mod Done

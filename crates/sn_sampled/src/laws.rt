@@ -1,48 +1,21 @@
 //! Laws of the built-in source, each as the contract of a function that does nothing.
-ghost use Rattle.std.specs.Prelude.{◌≡◌, ℕ, Bool, false, List, None, Ok};
-ghost use Rattle.sn_lexer.specs.Answer.{LexesAs};
-ghost use Rattle.sn_lexer.specs.declared.token.Token.{Token as SomeToken};
-ghost use Rattle.sn_ast.specs.declared.declaration.Program.{Program as SomeTree};
-ghost use Rattle.sn_parser.specs.Answer.{Spell};
-ghost use Rattle.sn_record.specs.declared.label.Label.{Label as SomeLabel};
-ghost use Rattle.sn_net.specs.Face.{variant_of};
-ghost use Rattle.sn_record.specs.LabelSet.{Labels as SomeLabels, contains};
-ghost use Rattle.sn_scope.specs.Declarations.{declarations_of};
-ghost use Rattle.sn_scope.specs.declared.declarations.Declarations.{Declarations as SomeDeclarations};
-ghost use Rattle.std.specs.List.{All, position};
-ghost use Rattle.sn_record.specs.declared.item.Item.{Item as SomeItem};
-ghost use Rattle.sn_record.specs.declared.item.Item.TheVariants as item;
-ghost use Rattle.sn_sample.specs.Records.{sample_record, sample_items};
-ghost use Rattle.sn_typing.specs.Accepted.{IsAccepted as IsAcceptedClaim};
-ghost use Rattle.sn_scope.specs.Resolution.{resolution};
-ghost use Rattle.sn_scope.specs.declared.resolved.Parts.{Parts};
-ghost use Rattle.sn_scope.specs.Numbering.{names_of};
-ghost use Rattle.sn_sample.specs.Source.{source_text};
+ghost use Rattle.std.specs.Prelude.{◌≡◌, ℕ, Err};
+ghost use Rattle.sn_output.specs.Printed.{ending};
+ghost use Rattle.sn_plain.specs.Answer.{FindsSample, IsAnswered, OfBuiltIn, Outside, ending_status};
+ghost use Rattle.sn_plain.specs.Sample.{AreTypedSamples, answers_to};
+ghost use Rattle.sn_stop.specs.declared.refusal.Refusal.{Refusal as SomeRefusal};
+ghost use Rattle.sn_stop.specs.declared.status.Status.{Status as SomeStatus};
+ghost use Rattle.sn_words.specs.declared.command.Command.TheVariants.{Sample};
 
-/// The built-in source has tokens.
-pub fn sample_is_lexed()
-    ensures lexed { (tokens : List SomeToken) × LexesAs source_text tokens }
+/// The built-in source is accepted, and so many records of a number find room for their names and are of its input type,
+/// whatever the number and the count.
+pub fn the_sample_is_accepted()
+    ensures { OfBuiltIn (λ program. (number count : ℕ) → AreTypedSamples program.names program.claim number count) }
 {}
 
-/// Its tokens spell a program.
-pub fn sample_is_spelled()
-    ensures spelled { (tree : SomeTree) × (tokens : List SomeToken) × LexesAs source_text tokens × Spell source_text tokens tree }
-{}
-
-/// Its names.
-pub fn sample_is_resolved()
-    ensures names { (tree : SomeTree) × (names : List (List ℕ)) × (names_of tree ≡ names) }
-    ensures resolved { (tree : SomeTree) × (parts : Parts) × (resolution tree ≡ Ok parts) }
-    ensures declared { (tree : SomeTree) × (names : List (List ℕ)) × (st : SomeDeclarations) × (declarations_of names tree ≡ st) }
-    ensures held { (labels : List SomeLabel) → (test : SomeLabel → Bool) × ((l : SomeLabel) → contains (variant_of labels) l ≡ test l) }
-{}
-
-/// Its claim is accepted.
-pub fn sample_is_accepted()
-    ensures accepted { (parts : Parts) × All (IsAcceptedClaim parts.boxes) parts.claims }
-{}
-
-/// Each record of a number has the labels.
-pub fn sample_is_typed()
-    ensures typed { (names : List (List ℕ)) × ((number count : ℕ) (fails : SomeItem → Bool) → ((x : ℕ) → fails (item.Rec (sample_record names x)) ≡ false) → position fails (sample_items names number count) ≡ None) }
+/// So a sample is never refused: it ends as its stream does, whole or at a fault.
+pub fn samples_are_done()
+    ensures never_refused { (number count : ℕ) (refusal : SomeRefusal) → FindsSample number count (Err refusal) → ⊥ }
+    ensures done { (outside : Outside) (number count : ℕ) (left : SomeStatus) → IsAnswered (Sample number count) outside left
+        → OfBuiltIn (λ program. left ≡ ending_status (ending (answers_to program number count))) }
 {}
