@@ -8,10 +8,8 @@ use Rattle.sn_box_scope.specs.Boxes.{box_at, box_required, tuple_required}
 use Rattle.sn_box_scope.specs.Expressions as box_exprs
 use Rattle.sn_box_scope.specs.Variables.{label_variable}
 use Rattle.sn_label_scope.specs.Labels.{variant_at, variant_required}
-use Rattle.sn_label_scope.specs.Refusals.{Check}
 use Rattle.sn_label_scope.specs.declared.refusal.Reason.TheVariants.{Unknown, GuardTag}
 use Rattle.sn_label_scope.specs.declared.refusal.Refusal.{Refusal}
-use Rattle.sn_names.specs.Names.{number_in}
 use Rattle.sn_net.specs.declared.net.Merge.TheVariants.{Det}
 use Rattle.sn_net.specs.Filter.{tag}
 use Rattle.sn_net.specs.declared.filter.Filter.{Filter}
@@ -32,10 +30,10 @@ use Rattle.sn_scope.specs.declared.network.Network.TheVariants.{Made}
 use Rattle.sn_scope.specs.declared.scopes.Meaning.TheVariants as meaning
 use Rattle.sn_scope.specs.declared.scopes.Scopes.{Scopes}
 use Rattle.sn_tagexpr.specs.declared.expr.TagExpr.{TagExpr}
-use Rattle.sn_sampled.proofs.Tree.{named, tag_at, twice, twice_box, twice_input, twice_output, twice_body, sum_of_v, main, main_type, main_network, input_variant, output_variant, twice_call, start_filter, start_pattern, start_template, step_filter, step_pattern, step_template, step_star, step_split, exit_pattern, zero_expr, one_less, sum_of_s, at_zero, source_tree}
+use Rattle.sn_sampled.proofs.Tree.{named, tag_at, twice, twice_box, twice_input, twice_output, twice_body, sum_of_v, main, main_type, main_network, input_variant, output_variant, twice_call, start_filter, start_pattern, start_template, step_filter, step_pattern, step_template, step_star, step_split, exit_pattern, one_less, sum_of_s, at_zero, source_tree}
 use Rattle.sn_sampled.proofs.Entered.{the_names}
 use Rattle.sn_sampled.proofs.Labels.{Holds, holds_all}
-use Rattle.sn_sampled.proofs.Passed.{Passes, labels_pass, number_passes, tag_passes, op_passes, same_passes, computed_passes, template_passes, filter_passes}
+use Rattle.sn_sampled.proofs.Passed.{Passes, labels_pass, number_passes, tag_passes, op_passes, same_passes, template_passes, filter_passes}
 
 -- the labels by their numbers
 abbrev pub label_k : Label
@@ -47,14 +45,23 @@ label_n = tag 3
 abbrev pub label_s : Label
 label_s = tag 4
 
+-- those of the patterns
+abbrev pattern_list : List Label
+pattern_list = label_n ∷ []
+
+abbrev step_list : List Label
+step_list = label_n ∷ label_s ∷ []
+
 -- the box
 v_passes : (at : ℕ) → Passes (box_exprs.expr_required twice_box (record { at = at; form = box_form.Name (named (codes "v") at) }) (each label_variable twice_input.labels))
-v_passes at least = ap (λ check. check (each label_variable twice_input.labels) least) (box_folds.fold_name (box_exprs.required_step twice_box) (λ e. e.form e.at) at (named (codes "v") at))
+v_passes at least =
+    ap (λ check. check (each label_variable twice_input.labels) least) (box_folds.fold_name (box_exprs.required_step twice_box) (λ e. e.form e.at) at (named (codes "v") at))
 
 sum_passes : Passes (box_exprs.expr_required twice_box sum_of_v (each label_variable twice_input.labels))
 sum_passes least =
     ap (λ check. check (each label_variable twice_input.labels) least) (box_folds.fold_op (box_exprs.required_step twice_box) (λ e. e.form e.at) 33 Add _ _)
-    ∙ ap (box_exprs.expr_required twice_box (record { at = 35; form = box_form.Name (named (codes "v") 35) }) (each label_variable twice_input.labels)) (v_passes 31 least) ∙ v_passes 35 least
+    ∙ ap (box_exprs.expr_required twice_box (record { at = 35; form = box_form.Name (named (codes "v") 35) }) (each label_variable twice_input.labels)) (v_passes 31 least)
+    ∙ v_passes 35 least
 
 body_passes : Passes (box_exprs.expr_required twice_box twice_body (each label_variable twice_input.labels))
 body_passes least =
@@ -63,15 +70,21 @@ body_passes least =
 
 box_passes : Passes (box_required the_names twice_box)
 box_passes least =
-    ap (λ before. box_exprs.expr_required twice_box twice_body (each label_variable twice_input.labels) (tuple_required the_names before twice_output)) (labels_pass the_names twice_input.labels refl least)
+    ap (λ before. box_exprs.expr_required twice_box twice_body (each label_variable twice_input.labels) (tuple_required the_names before twice_output))
+    (labels_pass the_names twice_input.labels refl least)
     ∙ ap (box_exprs.expr_required twice_box twice_body (each label_variable twice_input.labels)) (labels_pass the_names twice_output.labels refl least) ∙ body_passes least
 
 -- what is declared once the box is
 abbrev pub with_twice : Option Refusal → Declarations
 with_twice refused = record {
-  types = []; signatures = []; nets = []; boxes = box_at the_names twice_box ∷ [];
+  types = [];
+  signatures = [];
+  nets = [];
+  boxes = box_at the_names twice_box ∷ [];
   scopes = record { outer = []; current = record { names = codes "twice" ∷ []; meanings = meaning.Box 0 ∷ [] } };
-  claims = []; main = None; refusals = refused;
+  claims = [];
+  main = None;
+  refusals = refused;
 }
 
 twice_declared : after the_names twice start ≡ with_twice None
@@ -140,42 +153,44 @@ CheckPasses n = Passes (network_required the_names inner_scopes n)
 call_passes : CheckPasses twice_call
 call_passes least = ap (λ check. check least) (net_folds.fold_name (required_step the_names inner_scopes) (λ n. n.form n.at) 90 (named (codes "twice") 90))
 
-start_holds : Holds start_part.pattern (label_n ∷ [])
-start_holds = holds_all (label_n ∷ [])
+start_holds : Holds start_part.pattern pattern_list
+start_holds = holds_all pattern_list
 
 start_passes : CheckPasses start_filter
 start_passes least =
     ap (λ check. check least) (net_folds.fold_filter (required_step the_names inner_scopes) (λ n. n.form n.at) 99 start_pattern (start_template ∷ []))
     ∙ filter_passes the_names 99 start_pattern start_template refl
-        (template_passes the_names start_part.pattern (label_n ∷ []) start_holds start_template
-            (same_passes the_names start_part.pattern (label_n ∷ []) start_holds (tag_at (codes "n") 110) refl, (number_passes the_names start_part.pattern (label_n ∷ []) start_holds Unknown 118 (pos 0), tt)) refl) least
+    (template_passes the_names start_part.pattern pattern_list start_holds start_template (
+      same_passes the_names start_part.pattern pattern_list start_holds (tag_at (codes "n") 110) refl,
+      (number_passes the_names start_part.pattern pattern_list start_holds Unknown 118 (pos 0), tt),
+    ) refl) least
 
-step_holds : Holds step_part.pattern (label_n ∷ label_s ∷ [])
-step_holds = holds_all (label_n ∷ label_s ∷ [])
+step_holds : Holds step_part.pattern step_list
+step_holds = holds_all step_list
 
 abbrev StepPasses : TExpr → Type 0
 StepPasses e = Passes (tags_required the_names step_part.pattern Unknown e)
 
 less_passes : StepPasses one_less
-less_passes = op_passes the_names step_part.pattern (label_n ∷ label_s ∷ []) step_holds Unknown 149 Sub _ _
-    (tag_passes the_names step_part.pattern (label_n ∷ label_s ∷ []) step_holds Unknown 146 _ refl) (number_passes the_names step_part.pattern (label_n ∷ label_s ∷ []) step_holds Unknown 150 (pos 1))
+less_passes = op_passes the_names step_part.pattern step_list step_holds Unknown 149 Sub _ _
+    (tag_passes the_names step_part.pattern step_list step_holds Unknown 146 _ refl) (number_passes the_names step_part.pattern step_list step_holds Unknown 150 (pos 1))
 
 added_passes : StepPasses sum_of_s
-added_passes = op_passes the_names step_part.pattern (label_n ∷ label_s ∷ []) step_holds Unknown 159 Add _ _
-    (tag_passes the_names step_part.pattern (label_n ∷ label_s ∷ []) step_holds Unknown 156 _ refl) (tag_passes the_names step_part.pattern (label_n ∷ label_s ∷ []) step_holds Unknown 160 _ refl)
+added_passes = op_passes the_names step_part.pattern step_list step_holds Unknown 159 Add _ _
+    (tag_passes the_names step_part.pattern step_list step_holds Unknown 156 _ refl) (tag_passes the_names step_part.pattern step_list step_holds Unknown 160 _ refl)
 
 step_passes : CheckPasses step_filter
 step_passes least =
     ap (λ check. check least) (net_folds.fold_filter (required_step the_names inner_scopes) (λ n. n.form n.at) 127 step_pattern (step_template ∷ []))
     ∙ filter_passes the_names 127 step_pattern step_template refl
-        (template_passes the_names step_part.pattern (label_n ∷ label_s ∷ []) step_holds step_template (less_passes, (added_passes, tt)) refl) least
+    (template_passes the_names step_part.pattern step_list step_holds step_template (less_passes, (added_passes, tt)) refl) least
 
-exit_holds : Holds exit_labels (label_n ∷ [])
-exit_holds = holds_all (label_n ∷ [])
+exit_holds : Holds exit_labels pattern_list
+exit_holds = holds_all pattern_list
 
 guard_passes : Passes (tags_required the_names exit_labels GuardTag at_zero)
-guard_passes = op_passes the_names exit_labels (label_n ∷ []) exit_holds GuardTag 183 Eq _ _
-    (tag_passes the_names exit_labels (label_n ∷ []) exit_holds GuardTag 179 _ refl) (number_passes the_names exit_labels (label_n ∷ []) exit_holds GuardTag 186 (pos 0))
+guard_passes = op_passes the_names exit_labels pattern_list exit_holds GuardTag 183 Eq _ _
+    (tag_passes the_names exit_labels pattern_list exit_holds GuardTag 179 _ refl) (number_passes the_names exit_labels pattern_list exit_holds GuardTag 186 (pos 0))
 
 star_passes : CheckPasses step_star
 star_passes least =
@@ -196,10 +211,14 @@ network_passes least =
 -- what is declared once the net is, with its network and what is refused
 abbrev with_main_net : Network → Option Refusal → Declarations
 with_main_net made refused = record {
-  types = []; signatures = record { input = variant_at the_names input_variant ∷ []; output = variant_at the_names output_variant ∷ [] } ∷ [];
-  nets = with_net made []; boxes = box_at the_names twice_box ∷ [];
+  types = [];
+  signatures = record { input = variant_at the_names input_variant ∷ []; output = variant_at the_names output_variant ∷ [] } ∷ [];
+  nets = with_net made [];
+  boxes = box_at the_names twice_box ∷ [];
   scopes = record { outer = []; current = record { names = codes "twice" ∷ codes "main" ∷ []; meanings = meaning.Box 0 ∷ meaning.Net (net_at made []) ∷ [] } };
-  claims = record { place = 44; net = net_at made []; signature = 0 } ∷ []; main = Some 0; refusals = refused;
+  claims = record { place = 44; net = net_at made []; signature = 0 } ∷ [];
+  main = Some 0;
+  refusals = refused;
 }
 
 abbrev pub declared_all : Declarations

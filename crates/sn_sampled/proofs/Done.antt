@@ -14,9 +14,13 @@ use Rattle.sn_sampled.proofs.Program.{the_program, source_accepted, samples_type
 
 pub never_refused : (number count : ℕ) (refusal : Refusal) → FindsSample number count (Err refusal) → ⊥
 never_refused number count refusal finds =
-    let prints : FindsSample number count (Ok (tallied the_program number count)) = (the_program, source_accepted, record { typed = samples_typed number count; bytes_are = refl; ending_is = refl }) in
-    let same : ◌≡◌ {A = Result Printout Refusal} (Err refusal) (Ok (tallied the_program number count)) = finds_sample_once number count (Err refusal) (Ok (tallied the_program number count)) finds prints in
+    let prints : FindsSample number count (Ok (tallied the_program number count)) =
+    (the_program, source_accepted, record { typed = samples_typed number count; bytes_are = refl; ending_is = refl }) in
+    let same : ◌≡◌ {A = Result Printout Refusal} (Err refusal) (Ok (tallied the_program number count)) =
+    finds_sample_once number count (Err refusal) (Ok (tallied the_program number count)) finds prints in
     cc
 
-pub samples_done : (outside : Outside) (number count : ℕ) (left : Status) → IsAnswered (Sample number count) outside left → OfBuiltIn (λ program. left ≡ ending_status (ending (answers_to program number count)))
-samples_done outside number count left answered = (the_program, source_accepted, sample_done outside number count the_program left source_accepted (samples_typed number count) answered)
+pub samples_done : (outside : Outside) (number count : ℕ) (left : Status) → IsAnswered (Sample number count) outside left →
+    OfBuiltIn (λ program. left ≡ ending_status (ending (answers_to program number count)))
+samples_done outside number count left answered =
+    (the_program, source_accepted, sample_done outside number count the_program left source_accepted (samples_typed number count) answered)

@@ -1,7 +1,5 @@
 -- The names of the labels of the built-in source.
 use Rattle.std.proofs.Common.{◌≡◌, ℕ, true, List, [], ◌∷◌, codes, Some, ap, ◌∙◌}
-use Rattle.sn_ast.specs.declared.declaration.NetDecl.{NetDecl}
-use Rattle.sn_ast.specs.declared.network.NetForm.TheOpen.{NetForm-F}
 use Rattle.sn_ast.specs.declared.label.Ident.{Ident}
 use Rattle.sn_ast.specs.declared.tag_expr.Operator.{Operator}
 use Rattle.sn_ast.specs.declared.tag_expr.Operator.TheVariants.{Add, Sub, Eq}
@@ -11,7 +9,7 @@ use Rattle.sn_names.specs.Names.{entered}
 use Rattle.sn_roundtrip.proofs.Declarations as decl_folds
 use Rattle.sn_roundtrip.proofs.Networks as net_folds
 use Rattle.sn_roundtrip.proofs.Tags as tag_folds
-use Rattle.sn_scope.specs.Numbering.{Names, Entry, after_tags, tags_step, after_network, network_step, after_decl, decl_step, net_step, names_of}
+use Rattle.sn_scope.specs.Numbering.{Entry, after_tags, tags_step, after_network, network_step, after_decl, decl_step, net_step, names_of}
 use Rattle.sn_sampled.proofs.Tree.{named, twice, twice_box, main, main_type, main_network, twice_call, start_filter, start_pattern, start_template, step_filter, step_pattern, step_template, step_star, step_split, exit_pattern, zero_expr, one_less, sum_of_s, at_zero, source_tree}
 
 -- the names, in the order of their first places

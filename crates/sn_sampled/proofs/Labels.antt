@@ -1,5 +1,5 @@
 -- Sets of labels that are told by lists of the labels.
-use Rattle.std.proofs.Common.{◌≡◌, ◌&&◌, ◌||◌, Bool, true, false, not, IsTrue, List, [], ◌∷◌, ◌++◌, refl, sym, ap, ◌∙◌}
+use Rattle.std.proofs.Common.{◌≡◌, ◌&&◌, ◌||◌, Bool, true, false, not, List, [], ◌∷◌, ◌++◌, refl, sym, ap, ◌∙◌}
 use Rattle.std.specs.FinMap as map
 use Rattle.std.specs.List.{list_all, list_any}
 use Rattle.std.specs.Ordering.{eq_by_cmp}
@@ -77,7 +77,7 @@ pub holds_flow : (s t u : Labels) (xs ts us zs : List Label) → Holds s xs → 
 holds_flow s t u xs ts us zs s_holds t_holds u_holds own kept back l =
     contains-union s (minus t u) l ∙ ap (λ b. contains s l || b) (contains-minus t u l) ∙ (λ i. s_holds l i || (t_holds l i && not (u_holds l i)))
     ∙ both_ways _ (has zs l) (λ h. forth (has xs l) (has ts l) (has us l) (has zs l) (λ e. has_then (has zs) xs l e own) (λ e. has_then (λ q. has us q || has zs q) ts l e kept) h)
-        (λ h. has_then (λ q. has xs q || (has ts q && not (has us q))) zs l h back)
+    (λ h. has_then (λ q. has xs q || (has ts q && not (has us q))) zs l h back)
   where
     forth : (a b c d : Bool) → (a ≡ true → d ≡ true) → (b ≡ true → (c || d) ≡ true) → (a || (b && not c)) ≡ true → d ≡ true
     forth true b c d f g h = f refl

@@ -1,13 +1,12 @@
 -- Networks in which one variant alone reaches each part from a variant, and one alone flows out.
-use Rattle.std.proofs.Common.{◌≡◌, ℕ, zero, suc, ◌<◌, Bool, true, List, [], ◌∷◌, length, refl, sym, ap, ◌∙◌, subst, arith}
+use Rattle.std.proofs.Common.{◌≡◌, ℕ, zero, suc, Bool, List, [], ◌∷◌, refl, sym, ap, ◌∙◌, subst, arith}
 use Rattle.std.specs.List.{Contains}
-use Rattle.sn_net.specs.Filter.{tag}
-use Rattle.sn_record.specs.LabelSet.{Labels, IsSubset, contains, union, minus}
+use Rattle.sn_record.specs.LabelSet.{Labels, IsSubset, union, minus}
 use Rattle.sn_types.specs.RecordType.{HasSubset}
 use Rattle.sn_typing.specs.Accepted.{AreFew, ComesTo, IsBounded, IsDeclared, IsReached}
 use Rattle.sn_typing.specs.Flow.{Comes, Comes.{first, next}, Flows, Safe}
 use Rattle.sn_typing.specs.Outline.{Outline, Component, Series, Choice, Star, Split}
-use Rattle.sn_typing.specs.Reached.{Turn, Left, Right, Branch, Body, Reached, Reached.{here, left, right, branch, inside, replica}}
+use Rattle.sn_typing.specs.Reached.{Turn, Left, Right, Body, Reached, Reached.{here, left, right, inside, replica}}
 
 -- at most this one is among them
 abbrev pub Only : (Labels → Type 0) → Labels → Type 0

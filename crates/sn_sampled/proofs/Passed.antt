@@ -1,5 +1,5 @@
 -- Checks that pass: what is required holds, so no refusal is added.
-use Rattle.std.proofs.Common.{◌≡◌, ℕ, Bool, true, ◌&&◌, not, List, [], ◌∷◌, Option, Some, None, refl, ap, ◌∙◌}
+use Rattle.std.proofs.Common.{◌≡◌, ℕ, Bool, true, ◌&&◌, not, List, [], ◌∷◌, Option, refl, ap, ◌∙◌}
 use Rattle.std.specs.FinMap as map
 use Rattle.std.proofs.lemmas.Bool.{and_parts}
 use Rattle.sn_ast.specs.Networks.{same_item, computed_item}
@@ -11,17 +11,17 @@ use Rattle.sn_ast.specs.declared.network.TemplateAt.{TemplateAt}
 use Rattle.sn_ast.specs.declared.tag_expr.Operator.{Operator}
 use Rattle.sn_ast.specs.declared.tag_expr.TExpr.{TExpr}
 use Rattle.sn_ast.specs.declared.tag_expr.TForm.TheVariants as tag_form
-use Rattle.sn_label_scope.specs.Labels.{label_at, labels_at, variant_at, no_repeats, variant_required}
+use Rattle.sn_label_scope.specs.Labels.{label_at, variant_at, no_repeats}
 use Rattle.sn_label_scope.specs.Refusals.{Check, required}
 use Rattle.sn_label_scope.specs.declared.refusal.Reason.{Reason}
-use Rattle.sn_label_scope.specs.declared.refusal.Reason.TheVariants.{Unknown, Twice, Arity}
+use Rattle.sn_label_scope.specs.declared.refusal.Reason.TheVariants.{Unknown, Twice}
 use Rattle.sn_label_scope.specs.declared.refusal.Refusal.{Refusal}
 use Rattle.sn_names.specs.Names.{number_in}
 use Rattle.sn_net.specs.Filter.{tag, target}
 use Rattle.sn_record.specs.declared.label.Label.{Label}
 use Rattle.sn_record.specs.LabelSet.{Labels, contains}
 use Rattle.sn_roundtrip.proofs.Tags as tag_folds
-use Rattle.sn_scope.specs.Filters.{is_between, part_at, source_required, items_required, template_required, filter_required}
+use Rattle.sn_scope.specs.Filters.{part_at, source_required, items_required, template_required, filter_required}
 use Rattle.sn_scope.specs.Tags.{tags_required, tags_step}
 use Rattle.sn_sampled.proofs.Labels.{has, Holds, holds_none, holds_more}
 
@@ -84,7 +84,8 @@ module _ (names : List (List ℕ)) where
     targets_apart seen [] = true
     targets_apart seen (item ∷ items) = not (has seen (target (part_at names item))) && targets_apart (target (part_at names item) ∷ seen) items
 
-    items_pass : (set : Labels) (seen : List Label) → Holds set seen → (items : List ItemAt) → ItemsPass items → targets_apart seen items ≡ true → Passes (items_required names pattern set items)
+    items_pass : (set : Labels) (seen : List Label) → Holds set seen → (items : List ItemAt) → ItemsPass items →
+        targets_apart seen items ≡ true → Passes (items_required names pattern set items)
     items_pass set seen set_holds [] each h least = refl
     items_pass set seen set_holds (item ∷ items) each h least =
         let parts = and_parts (not (has seen (target (part_at names item)))) (targets_apart (target (part_at names item) ∷ seen) items) h in
@@ -98,7 +99,8 @@ module _ (names : List (List ℕ)) where
     template_passes template = items_pass map.empty [] holds_none template.items
 
   -- a filter of one template
-  pub filter_passes : (place : ℕ) (pattern : Variant) (template : TemplateAt) → apart [] pattern.labels ≡ true → Passes (λ least. template_required names (variant_at names pattern) least template) →
+  pub filter_passes : (place : ℕ) (pattern : Variant) (template : TemplateAt) → apart [] pattern.labels ≡ true →
+      Passes (λ least. template_required names (variant_at names pattern) least template) →
       Passes (filter_required names place pattern (template ∷ []))
   filter_passes place pattern template labels passes least =
       ap (λ before. template_required names (variant_at names pattern) before template) (labels_pass pattern.labels labels least) ∙ passes least

@@ -1,8 +1,8 @@
 -- The program of the built-in source, which is accepted, and its stated records.
-use Rattle.std.proofs.Common.{◌≡◌, ℕ, not, List, [], ◌∷◌, refl, ap, ◌∙◌, arith}
+use Rattle.std.proofs.Common.{ℕ, not, [], ◌∷◌, refl, ap, arith}
 use Rattle.std.specs.List.{All}
 use Rattle.std.proofs.lemmas.List.Elements.{All-nil, All-cons}
-use Rattle.sn_load.specs.Scope.{IsMain, IsProgram, IsResolved, ResolvesTo}
+use Rattle.sn_load.specs.Scope.{IsMain, IsResolved}
 use Rattle.sn_load.specs.Source.{IsSource}
 use Rattle.sn_load.specs.declared.load.Program.{Program}
 use Rattle.sn_plain.specs.Answer.{IsAccepted, OfBuiltIn}

@@ -1,5 +1,5 @@
 -- The records of each number are of the input type.
-use Rattle.std.proofs.Common.{◌≡◌, ◌↔◌, ℕ, zero, suc, ◌+◌, ◌==◌, ◌||◌, ◌/◌, ◌%◌, nat_lt, Bool, true, false, cond, not, pos, List, [], ◌∷◌, ◌++◌, length, length-append, Option, Some, None, is_some, codes, refl, sym, ap, ◌∙◌, arith}
+use Rattle.std.proofs.Common.{◌≡◌, ℕ, zero, suc, ◌+◌, ◌==◌, ◌||◌, ◌/◌, ◌%◌, nat_lt, Bool, true, false, cond, pos, List, [], ◌∷◌, ◌++◌, length, length-append, Some, None, is_some, refl, sym, ap, ◌∙◌, arith}
 use Rattle.std.specs.FinMap as map
 use Rattle.std.specs.List.{position, position_or_len, list_any}
 use Rattle.std.specs.Ordering.{eq_by_cmp}
@@ -11,7 +11,7 @@ use Rattle.sn_record.specs.declared.label.Label.{Label}
 use Rattle.sn_record.specs.declared.value.Value.{Value}
 use Rattle.sn_record.specs.declared.value.Value.TheVariants.{Int}
 use Rattle.sn_record.specs.Label.{label_cmp}
-use Rattle.sn_record.specs.Record.{Entries, Matches, is_match}
+use Rattle.sn_record.specs.Record.{is_match}
 use Rattle.sn_record.proofs.Records.{contains_key-insert}
 use Rattle.sn_record.proofs.Scores.{is_match-Matches}
 use Rattle.sn_sample.specs.Numbers.{number_at}
@@ -51,7 +51,8 @@ module _ (fails : Item → Bool) (never : (x : ℕ) → fails (item.Rec (sample_
       let pushed = position_or_len_push fails before last in
       let size = length-append before (last ∷ []) in
       let here = never (number_at number (suc count)) in
-      at_end (position_or_len fails before) (length before) (fails last) (position_or_len fails (before ++ last ∷ [])) (length (before ++ last ∷ [])) pushed (none_first number count) here size
+      let all = before ++ last ∷ [] in
+      at_end (position_or_len fails before) (length before) (fails last) (position_or_len fails all) (length all) pushed (none_first number count) here size
     where
       at_end : (p n : ℕ) (b : Bool) (q m : ℕ) → q ≡ cond (p == n) (n + cond b 0 1) p → p ≡ n → b ≡ false → m ≡ n + 1 → q ≡ m
       at_end p n b q m is same fresh size = grind (arith, nat_tests)

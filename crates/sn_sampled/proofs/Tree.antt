@@ -1,5 +1,5 @@
 -- The tree of the built-in source, each part at its place.
-use Rattle.std.proofs.Common.{ℕ, true, false, pos, List, [], ◌∷◌, codes, Option, Some, None}
+use Rattle.std.proofs.Common.{ℕ, true, false, pos, List, [], ◌∷◌, codes, Some}
 use Rattle.sn_ast.specs.BoxExprs.{applied, Variant as VariantHead}
 use Rattle.sn_ast.specs.Declarations.{net_of}
 use Rattle.sn_ast.specs.Networks.{same_item, computed_item, filter_at, serial_at, star_at, split_at}
@@ -17,7 +17,6 @@ use Rattle.sn_ast.specs.declared.label.Sig.TheVariants.{Arrow}
 use Rattle.sn_ast.specs.declared.label.Tuple.{Tuple}
 use Rattle.sn_ast.specs.declared.label.TypePart.TheVariants.{Set}
 use Rattle.sn_ast.specs.declared.label.Variant.{Variant}
-use Rattle.sn_ast.specs.declared.network.ItemAt.{ItemAt}
 use Rattle.sn_ast.specs.declared.network.NetExpr.{NetExpr}
 use Rattle.sn_ast.specs.declared.network.NetForm.TheVariants as net_form
 use Rattle.sn_ast.specs.declared.network.TemplateAt.{TemplateAt}

@@ -1,15 +1,13 @@
 -- The tree of the built-in source's claim.
-use Rattle.std.proofs.Common.{◌≡◌, ℕ, suc, ◌+◌, ◌<◌, ◌≤◌, cond, List, [], ◌∷◌, ◌++◌, option_map, length, map as each, Option, Some, None, refl, sym, ap, ◌∙◌, subst, arith}
+use Rattle.std.proofs.Common.{◌≡◌, ℕ, suc, ◌+◌, ◌<◌, ◌≤◌, cond, List, [], ◌∷◌, ◌++◌, option_map, length, map as each, Option, Some, None, refl, sym, ap, ◌∙◌, arith}
 use Rattle.std.specs.FinMap as map
 use Rattle.std.proofs.lemmas.Bool.{le-leb, lt-ltb}
 use Rattle.std.proofs.lemmas.List.{length-map}
-use Rattle.sn_ast.specs.declared.declaration.Program.{Program}
 use Rattle.sn_box_scope.specs.Boxes.{box_at}
 use Rattle.sn_label_scope.specs.Labels.{variant_at}
 use Rattle.sn_net.specs.Face.{variants, variants_step, variant_cmp, ascending, face, with_tag, box_variant}
 use Rattle.sn_net.specs.Net.{nodes}
 use Rattle.sn_net.specs.declared.expr.BoxProgram.{BoxProgram}
-use Rattle.sn_net.specs.declared.filter.Filter.{Filter}
 use Rattle.sn_net.specs.declared.net.Claim.{Claim}
 use Rattle.sn_net.specs.declared.net.Merge.TheVariants.{Det}
 use Rattle.sn_net.specs.declared.net.Net.{Net}
@@ -30,8 +28,7 @@ use Rattle.sn_scope.specs.declared.resolved.Parts.{Parts}
 use Rattle.sn_scope.proofs.Fitting.{tree_at}
 use Rattle.sn_scope.proofs.Levels.{node-Box, node-Filter, node-Serial, node-Star, node-Split, part-Made}
 use Rattle.sn_scope.proofs.Nodes.{nodes-Box, nodes-Filter, nodes-Serial, nodes-Star, nodes-Split}
-use Rattle.std.specs.Prelude.{Result, Ok, Err}
-use Rattle.sn_label_scope.specs.declared.fault.ScopeFault.{ScopeFault}
+use Rattle.std.specs.Prelude.{Ok, Err}
 use Rattle.sn_label_scope.specs.declared.fault.ScopeFault.TheVariants.{NoMain, TooManyNames}
 use Rattle.sn_sampled.proofs.Tree.{twice_box, input_variant, output_variant, source_tree}
 use Rattle.sn_sampled.proofs.Entered.{the_names, source_names}
@@ -61,26 +58,18 @@ the_boxes = box_at the_names twice_box ∷ []
 abbrev the_nets : List Component
 the_nets = main_component ∷ []
 
--- a tree whose face is narrow stands for its component
-pub record IsTree (levels : ℕ) (made : Component) (tree_is : Net) : Type 0 where
-  pub variants_are : List Labels
-  pub same : variants the_boxes tree_is ≡ variants_are
-  pub few : length variants_are ≤ 1024
-  pub is : tree the_boxes levels the_nets made ≡ Some tree_is
+-- the component has the tree, with so many levels
+abbrev IsTree : ℕ → Component → Net → Type 0
+IsTree levels made t = tree the_boxes levels the_nets made ≡ Some t
 
+-- a node whose face is narrow is a tree
 made_tree : (levels : ℕ) (made : Component) (t : Net) (sets : List Labels) → node_of the_boxes levels the_nets made ≡ Some t → variants the_boxes t ≡ sets → length sets ≤ 1024 →
     IsTree (suc levels) made t
 made_tree levels made t sets node_is same few =
     let short = ascending_short (variants the_boxes t) in
     let size = ap length same in
     let narrow_face : length (face the_boxes t) ≤ 1024 = omega arith in
-    let wide = le-leb (length (face the_boxes t)) 1024 narrow_face in
-    record {
-      variants_are = sets;
-      same = same;
-      few = few;
-      is = ap (λ o. then_some o (narrow the_boxes)) node_is ∙ ap (λ b. cond b (Some t) None) wide;
-    }
+    ap (λ o. then_some o (narrow the_boxes)) node_is ∙ ap (λ b. cond b (Some t) None) (le-leb (length (face the_boxes t)) 1024 narrow_face)
 
 -- the trees of the parts
 abbrev pub step_net : Net
@@ -105,10 +94,11 @@ abbrev pub main_net : Net
 main_net = net.Serial call_net behind_net
 
 part_is : (levels : ℕ) (made : Component) (t : Net) → IsTree levels made t → part_of the_boxes levels the_nets (Made made) ≡ Some t
-part_is levels made t made_is = part-Made the_boxes levels the_nets (Made made) made refl ∙ made_is.is
+part_is levels made t made_is = part-Made the_boxes levels the_nets (Made made) made refl ∙ made_is
 
 step_tree : IsTree 252 (component.Filter step_part) step_net
-step_tree = made_tree 251 (component.Filter step_part) step_net (step_part.pattern ∷ []) (node-Filter the_boxes (part_of the_boxes 251 the_nets) (parts_of the_boxes 251 the_nets) step_part)
+step_tree = made_tree 251 (component.Filter step_part) step_net (step_part.pattern ∷ [])
+    (node-Filter the_boxes (part_of the_boxes 251 the_nets) (parts_of the_boxes 251 the_nets) step_part)
     (variants-Filter the_boxes step_part) (omega arith)
 
 star_variants : variants the_boxes star_net ≡ step_part.pattern ∷ exit_labels ∷ []
@@ -117,17 +107,18 @@ star_variants = variants-Star the_boxes 166 Det step_net exit_labels exit_guard 
 star_tree : IsTree 253 star_component star_net
 star_tree = made_tree 252 star_component star_net (step_part.pattern ∷ exit_labels ∷ [])
     (node-Star the_boxes (part_of the_boxes 252 the_nets) (parts_of the_boxes 252 the_nets) 166 Det (Made (component.Filter step_part)) exit_labels exit_guard
-        ∙ ap (option_map (λ made. net.Star 166 Det made exit_labels exit_guard)) (part_is 252 (component.Filter step_part) step_net step_tree))
+    ∙ ap (option_map (λ made. net.Star 166 Det made exit_labels exit_guard)) (part_is 252 (component.Filter step_part) step_net step_tree))
     star_variants (omega arith)
 
 split_tree : IsTree 254 split_component split_net
 split_tree = made_tree 253 split_component split_net (with_tag 2 step_part.pattern ∷ with_tag 2 exit_labels ∷ [])
     (node-Split the_boxes (part_of the_boxes 253 the_nets) (parts_of the_boxes 253 the_nets) 190 Det (Made star_component) 2
-        ∙ ap (option_map (λ made. net.Split 190 Det made 2)) (part_is 253 star_component star_net star_tree))
+    ∙ ap (option_map (λ made. net.Split 190 Det made 2)) (part_is 253 star_component star_net star_tree))
     (variants-Split the_boxes 190 Det star_net 2 ∙ ap (each (with_tag 2)) star_variants) (omega arith)
 
 start_tree : IsTree 254 (component.Filter start_part) start_net
-start_tree = made_tree 253 (component.Filter start_part) start_net (start_part.pattern ∷ []) (node-Filter the_boxes (part_of the_boxes 253 the_nets) (parts_of the_boxes 253 the_nets) start_part)
+start_tree = made_tree 253 (component.Filter start_part) start_net (start_part.pattern ∷ [])
+    (node-Filter the_boxes (part_of the_boxes 253 the_nets) (parts_of the_boxes 253 the_nets) start_part)
     (variants-Filter the_boxes start_part) (omega arith)
 
 abbrev behind_component : Component
@@ -136,7 +127,7 @@ behind_component = component.Serial (Made (component.Filter start_part) ∷ Made
 behind_tree : IsTree 255 behind_component behind_net
 behind_tree = made_tree 254 behind_component behind_net (start_part.pattern ∷ [])
     (node-Serial the_boxes (part_of the_boxes 254 the_nets) (parts_of the_boxes 254 the_nets) (Made (component.Filter start_part) ∷ Made split_component ∷ [])
-        ∙ (λ i. in_series (part_is 254 (component.Filter start_part) start_net start_tree i) (part_is 254 split_component split_net split_tree i)))
+    ∙ (λ i. in_series (part_is 254 (component.Filter start_part) start_net start_tree i) (part_is 254 split_component split_net split_tree i)))
     (variants-Serial the_boxes start_net split_net ∙ variants-Filter the_boxes start_part) (omega arith)
 
 call_variants : variants the_boxes call_net ≡ box_variant the_boxes 0 ∷ []
@@ -149,7 +140,7 @@ call_tree = made_tree 254 call_component call_net (box_variant the_boxes 0 ∷ [
 main_tree : IsTree 256 main_component main_net
 main_tree = made_tree 255 main_component main_net (box_variant the_boxes 0 ∷ [])
     (node-Serial the_boxes (part_of the_boxes 255 the_nets) (parts_of the_boxes 255 the_nets) (Made call_component ∷ Made (component.Filter start_part) ∷ Made split_component ∷ [])
-        ∙ (λ i. in_series (part_is 255 call_component call_net call_tree i) (behind_tree.is i)))
+    ∙ (λ i. in_series (part_is 255 call_component call_net call_tree i) (behind_tree i)))
     (variants-Serial the_boxes call_net behind_net ∙ call_variants) (omega arith)
 
 main_nodes : nodes main_net ≡ 7
@@ -174,7 +165,7 @@ fits : (room : ℕ) (defined : Option Net) (t : Net) → defined ≡ Some t → 
 fits room defined t is few = ap (fitting room) is ∙ ap (λ b. cond b (Some t) None) (le-leb (nodes t) room few)
 
 main_found : tree_of the_boxes the_nets 0 ≡ Some main_net
-main_found = tree_at the_boxes the_nets 0 main_component (omega arith) refl ∙ main_tree.is
+main_found = tree_at the_boxes the_nets 0 main_component (omega arith) refl ∙ main_tree
 
 main_fits : fitting most_nodes (tree_of the_boxes the_nets 0) ≡ Some main_net
 main_fits = fits most_nodes (tree_of the_boxes the_nets 0) main_net main_found (let count = main_nodes in omega arith)
@@ -185,8 +176,8 @@ one_claim : (st : Declarations) (room place number signature : ℕ) (t : Net) �
 one_claim st room place number signature t is =
     ap (λ made. or_refused place made (λ t. led_by (claim_at st (record { place = place; net = number; signature = signature }) t ∷ []) (Ok []))) is
 
-no_refusal : (names : List (List ℕ)) (st : Declarations) (claims : List Claim) → st.refusals ≡ None → st.main ≡ Some 0 → length names ≤ most_names → claims_within st most_nodes st.claims ≡ Ok claims →
-    0 < length claims → unless_refused names st st.refusals ≡ Ok (record { names = names; boxes = st.boxes; claims = claims; main = 0 })
+no_refusal : (names : List (List ℕ)) (st : Declarations) (claims : List Claim) → st.refusals ≡ None → st.main ≡ Some 0 → length names ≤ most_names →
+    claims_within st most_nodes st.claims ≡ Ok claims → 0 < length claims → unless_refused names st st.refusals ≡ Ok (record { names = names; boxes = st.boxes; claims = claims; main = 0 })
 no_refusal names st claims none main few fit some =
     ap (unless_refused names st) none
     ∙ ap (with_main names st) main

@@ -1,6 +1,6 @@
 -- Words in a row, each told from the next, have tokens that say them.
-use Rattle.std.proofs.Common.{◌≡◌, ℕ, ◌+◌, ◌≤◌, ◌==◌, ◌||◌, ◌&&◌, Bool, true, false, nat_le, pos, List, [], ◌∷◌, ◌++◌, append-nil, length, refl, sym, ap, ◌∙◌, subst, arith}
-use Rattle.std.specs.Prelude.{not, codes, encode_utf8_all}
+use Rattle.std.proofs.Common.{◌≡◌, ℕ, ◌+◌, ◌==◌, ◌||◌, ◌&&◌, Bool, true, false, nat_le, pos, List, [], ◌∷◌, ◌++◌, length, refl, ap, ◌∙◌, subst, arith}
+use Rattle.std.specs.Prelude.{not, encode_utf8_all}
 use Rattle.std.specs.Str.Parse.{digits_value}
 use Rattle.std.specs.Char.{is_ascii_digit, is_ascii_alphabetic, is_ascii_alphanumeric}
 use Rattle.std.specs.List.{list_all}
@@ -17,7 +17,7 @@ use Rattle.sn_ast.specs.declared.terminal.Terminal.TheVariants as terminal
 use Rattle.sn_lexer.specs.Answer.{LexesAs}
 use Rattle.sn_lexer.specs.Lexes.{width, Lexes}
 use Rattle.sn_lexer.specs.Lexes.Lexes.{end}
-use Rattle.sn_lexer.specs.Spelling.{starts_name, is_name, is_identifier, is_keyword, is_numeral}
+use Rattle.sn_lexer.specs.Spelling.{is_name, is_keyword, is_numeral}
 use Rattle.sn_lexer.specs.declared.token.Token.{Token}
 use Rattle.sn_lexer.proofs.Heads.{is_ascii, starts_name_ascii}
 use Rattle.sn_lexer.specs.declared.token.TokenKind.TheVariants as kind
@@ -28,7 +28,7 @@ use Rattle.sn_terminal.proofs.Bytes.{number_bytes, numeral_digits}
 use Rattle.sn_roundtrip.specs.Words.{IsIdentifier}
 use Rattle.sn_roundtrip.proofs.Spans.{Exactly, End, Free, Whole, After, Follows, adjoin, Stands, Told}
 use Rattle.sn_roundtrip.proofs.Joins.{follows, stands_behind, scalars_append}
-use Rattle.sn_roundtrip.proofs.Singles.{symbol_end, symbol_encoded, symbol_scalar, symbol_tells, keyword_encoded, keyword_scalar, keyword_tells, gap_encoded, gap_scalar, gap_tells, name_tells, tag_encoded, tag_scalar, tag_tells, told_first}
+use Rattle.sn_roundtrip.proofs.Singles.{symbol_end, symbol_encoded, symbol_scalar, symbol_tells, keyword_encoded, keyword_scalar, keyword_tells, gap_encoded, gap_tells, name_tells, tag_encoded, tag_scalar, tag_tells, told_first}
 
 -- What may stand in a source that is plain ASCII: a word, or one blank.
 pub data Word : Type 0 where
@@ -212,7 +212,8 @@ words_scalar (w ∷ ws) h =
     scalars_append (word_text w) (words_text ws) (word_scalar w (and_parts (is_word w) _ parts.0).0) (words_scalar ws parts.1)
 
 -- words that stand alone have tokens that say them
-pub words_lexed : (text : List ℕ) (ws : List Word) → words_text ws ≡ text → list_all is_ascii text ≡ true → are_words ws ≡ true → (tokens : List Token) × LexesAs text tokens × Say text tokens (words_said ws 0)
+pub words_lexed : (text : List ℕ) (ws : List Word) → words_text ws ≡ text → list_all is_ascii text ≡ true → are_words ws ≡ true →
+    (tokens : List Token) × LexesAs text tokens × Say text tokens (words_said ws 0)
 words_lexed text ws is ascii h =
     let told = words_told ws h (words_text ws) 0 (record { front = []; is = refl; place = refl }) in
     let encoded = ap encode_utf8_all is ∙ ascii_bytes text ascii in
