@@ -1,0 +1,14 @@
+pub mod Words
+pub mod Source
+pub mod Tree
+pub mod Spelled
+pub mod Labels
+pub mod Entered
+pub mod Passed
+pub mod Declared
+pub mod Trees
+pub mod Narrow
+pub mod Accepted
+pub mod Samples
+pub mod Program
+pub mod Done
