@@ -120,8 +120,13 @@ fn two_calls_run_at_once(rt: HostRuntime) {
 }
 
 /// Whether the four calls of four boxes overlap so, be they merged in order or freely.
-fn boxes_overlap<R: Abort + Threads + Wait + Sync>(rt: &R, alloc: Global, overlap: &Overlap) -> bool {
-    overlaps(rt, alloc, FOUR_IN_ORDER, ONE_EACH, overlap) && overlaps(rt, alloc, FOUR_FREE, ONE_EACH, overlap)
+fn boxes_overlap<R: Abort + Threads + Wait + Sync>(
+    rt: &R,
+    alloc: Global,
+    overlap: &Overlap,
+) -> bool {
+    overlaps(rt, alloc, FOUR_IN_ORDER, ONE_EACH, overlap)
+        && overlaps(rt, alloc, FOUR_FREE, ONE_EACH, overlap)
 }
 
 #[test]
