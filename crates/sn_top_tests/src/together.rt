@@ -28,7 +28,7 @@ const FOUR_FREE: &str =
 const ONE_EACH: &str = "{a=1}\n{b=2}\n{c=3}\n{d=4}\n";
 
 /// A call waits for others that must come for at most so many milliseconds, after which they have failed to.
-const LIMIT: u64 = 10_000;
+const LIMIT: u64 = 5_000;
 
 /// It waits so many milliseconds for one that must never come, in which an idle worker would have come.
 const PATIENCE: u64 = 100;
@@ -79,6 +79,7 @@ fn a_free_choice_prints_what_it_may(rt: HostRuntime) {
 }
 
 /// How many calls of four run at once, where each is held until this many are inside or for so many milliseconds: from the least to the most.
+#[derive(Drop)]
 struct Overlap<'a> {
     workers: &'a str,
     until: u64,
