@@ -1,0 +1,15 @@
+-- Entries of records that no route was for.
+use Rattle.std.specs.Prelude.{Bool, false, List}
+use Rattle.std.specs.List.{list_any}
+use Rattle.sn_histories.specs.Entries.{Entry, Item, To, Mark, End}
+use Rattle.sn_net.specs.Item.{ModelItem, is_stuck}
+
+abbrev pub lacks_route : Entry ModelItem → Bool
+lacks_route (Item x) = is_stuck x
+lacks_route (To k) = false
+lacks_route Mark = false
+lacks_route End = false
+
+-- whether some entry is an item that is stuck
+abbrev pub has_stuck : List (Entry ModelItem) → Bool
+has_stuck entries = list_any lacks_route entries
