@@ -1,7 +1,7 @@
 -- What comes to a component is answered there, and what comes to a dispatcher has a key.
-use Rattle.std.proofs.Common.{◌≡◌, ◌↔◌, ℕ, zero, suc, Bool, true, false, cond, ◌||◌, IsTrue, List, [], ◌∷◌, ◌++◌, map, refl, sym, ap, ap₂, ◌∙◌, subst}
+use Rattle.std.proofs.Common.{◌≡◌, ℕ, zero, suc, Bool, true, false, cond, ◌||◌, List, [], ◌∷◌, ◌++◌, map, refl, sym, ap, ap₂, ◌∙◌, subst}
 use Rattle.std.specs.Prelude.{Option, None, Some, slice_get}
-use Rattle.std.specs.List.{All, AllByRecursion as Each, Contains, list_any}
+use Rattle.std.specs.List.{AllByRecursion as Each, Contains, list_any}
 use Rattle.std.specs.Option.{option_map}
 use Rattle.std.proofs.lemmas.Bool.{false≢true}
 use Rattle.std.proofs.lemmas.List.{map-append}
@@ -29,16 +29,15 @@ use Rattle.sn_net.specs.declared.routing.Key.TheVariants as key
 use Rattle.sn_net.specs.Answer.{filter_answer}
 use Rattle.sn_net.specs.BoxEvaluation.{box_answer}
 use Rattle.sn_net.specs.Cell.{CellState, Slots, Passed, Unmatched, emitted_then, new_cell, placed, with_record}
-use Rattle.sn_net.specs.Dispatchers.{Network, choice, level, level_key, merge_of, router, split}
+use Rattle.sn_net.specs.Dispatchers.{Network, level, level_key, merge_of, router}
 use Rattle.sn_net.specs.Face.{variant_of}
-use Rattle.sn_net.specs.Item.{ModelItem, Rec, Fault, Stuck, holds_stuck, modelled}
-use Rattle.sn_net.specs.Route.{choice_key, of_record, split_key}
-use Rattle.sn_net.specs.WellFormed.{IsWellFormed}
+use Rattle.sn_net.specs.Item.{ModelItem, Rec, Stuck, holds_stuck}
+use Rattle.sn_net.specs.Route.{of_record}
 use Rattle.sn_model.specs.declared.run.Run.{Run}
 use Rattle.sn_model.specs.Components.{alone, box_item, call_record, cell, filter_item}
 use Rattle.sn_model.specs.Meaning.{tree}
 use Rattle.sn_model.specs.Run.{input_of, setting_of}
-use Rattle.sn_typing.specs.Typed.{IsTyped, MatchesOne}
+use Rattle.sn_typing.specs.Typed.{MatchesOne}
 use Rattle.sn_sound.specs.Conveyed.{Conveys}
 use Rattle.sn_sound.proofs.Follows.{Goes}
 use Rattle.sn_sound.proofs.Scores.{contains_behind, contains_head}

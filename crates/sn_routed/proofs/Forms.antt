@@ -1,6 +1,6 @@
 -- Which forms of network have the tree of a series, of a choice, of a level of a star or of a split, and what stands in them.
-use Rattle.std.proofs.Common.{◌≡◌, ℕ, ℤ, zero, suc, Bool, true, false, cond, List, [], ◌∷◌, map, refl, sym, ap, ◌∙◌, subst}
-use Rattle.std.specs.Prelude.{Option, None, Some, is_some, slice_get, unwrap_or, pos, Result, Ok, Err}
+use Rattle.std.proofs.Common.{◌≡◌, ℕ, ℤ, zero, suc, Bool, true, false, cond, List, refl, sym, ap, ◌∙◌}
+use Rattle.std.specs.Prelude.{Option, None, Some, is_some, slice_get, pos, Result, Ok, Err}
 use Rattle.std.specs.FinMap as finite
 use Rattle.std.specs.Option.{option_map}
 use Rattle.std.specs.Ordering.{int_eq}
@@ -15,9 +15,8 @@ use Rattle.sn_tagexpr.specs.declared.expr.TagExpr.{TagExpr}
 use Rattle.sn_tagexpr.specs.declared.fault.ExprFault.{ExprFault}
 use Rattle.sn_tagexpr.specs.Evaluation.{worth}
 use Rattle.sn_streams.specs.Keys.{Key, Own, Branch, Inside, Value}
-use Rattle.sn_streams.specs.Trees.{Component, Series, Fork}
+use Rattle.sn_streams.specs.Trees.{Series, Fork}
 use Rattle.sn_histories.specs.Sites.{Left, Right, Into}
-use Rattle.sn_net.specs.declared.expr.BoxProgram.{BoxProgram}
 use Rattle.sn_net.specs.declared.net.Merge.{Merge}
 use Rattle.sn_net.specs.declared.net.Net.{Net}
 use Rattle.sn_net.specs.declared.net.Net.TheOpen.{Net-F}
@@ -26,14 +25,14 @@ use Rattle.sn_net.specs.declared.routing.Key.{Key as NetKey}
 use Rattle.sn_net.specs.declared.routing.Key.TheVariants as key
 use Rattle.sn_net.proofs.BestBranches.{best_branch-Some}
 use Rattle.sn_net.specs.Answer.{tag_number}
-use Rattle.sn_net.specs.Dispatchers.{Network, choice, level, level_key, no_way_inside, split, stream_key}
+use Rattle.sn_net.specs.Dispatchers.{Network, level, no_way_inside, split, stream_key}
 use Rattle.sn_net.specs.Face.{face}
 use Rattle.sn_net.specs.Filter.{tag}
 use Rattle.sn_net.specs.Item.{ModelItem, Rec}
-use Rattle.sn_net.specs.Route.{best_branch, branch_key, choice_key, exit_key, guarded, replica_key, split_key, tap_key}
+use Rattle.sn_net.specs.Route.{best_branch, branch_key, exit_key, guarded, replica_key, tap_key}
 use Rattle.sn_net.specs.WellFormed.{IsSound, IsSoundChoice}
 use Rattle.sn_model.specs.Meaning.{Setting, tree, tree_step}
-use Rattle.sn_net_histories.specs.Histories.{Spot, Whole}
+use Rattle.sn_net_histories.specs.Histories.{Whole}
 use Rattle.sn_routed.specs.Spots.{from_form, from_level}
 
 abbrev pub is_series : Network → Bool

@@ -1,5 +1,5 @@
 -- Steps that lead somewhere lead on.
-use Rattle.std.proofs.Common.{◌≡◌, ℕ, ℤ, zero, suc, Bool, true, false, List, [], ◌∷◌, ◌++◌, map, refl, sym, ap, ◌∙◌, subst}
+use Rattle.std.proofs.Common.{◌≡◌, ℕ, ℤ, zero, suc, true, List, [], ◌∷◌, ◌++◌, map, refl, sym, ap, ◌∙◌, subst}
 use Rattle.std.specs.Prelude.{Option, None, Some, is_some, slice_get}
 use Rattle.std.specs.Option.{option_and_then, option_map}
 use Rattle.std.proofs.lemmas.Bool.{false≢true}
@@ -9,7 +9,7 @@ use mathlib.Core.Logic.{∥∥₁_elim}
 use Rattle.sn_record.specs.LabelSet.{Labels}
 use Rattle.sn_record.specs.Record.{Entries}
 use Rattle.sn_tagexpr.specs.declared.expr.TagExpr.{TagExpr}
-use Rattle.sn_streams.specs.Keys.{Key, Branch, Inside, Value}
+use Rattle.sn_streams.specs.Keys.{Branch, Inside, Value}
 use Rattle.sn_streams.specs.Segments.{Segments}
 use Rattle.sn_streams.specs.Trees.{Series}
 use Rattle.sn_histories.specs.Sites.{Site, Step, Left, Right, Into}
@@ -24,7 +24,7 @@ use Rattle.sn_net.specs.Cell.{CellState}
 use Rattle.sn_net.specs.Dispatchers.{Network, choice, level, split, stream_key}
 use Rattle.sn_net.specs.Item.{ModelItem, Rec, Fault, Stuck}
 use Rattle.sn_net.specs.Route.{choice_key, of_record}
-use Rattle.sn_net.specs.WellFormed.{IsSound, IsWellFormed}
+use Rattle.sn_net.specs.WellFormed.{IsSound}
 use Rattle.sn_model.specs.declared.run.Run.{Run}
 use Rattle.sn_model.specs.Meaning.{Setting, tree}
 use Rattle.sn_model.specs.Run.{input_of, setting_of}

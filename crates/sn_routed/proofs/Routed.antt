@@ -1,5 +1,5 @@
 -- No record lacks a route at any place of a run.
-use Rattle.std.proofs.Common.{◌≡◌, Bool, true, false, ◌||◌, List, [], ◌∷◌, ◌++◌, map, refl, sym, ap, ap₂, ◌∙◌, subst}
+use Rattle.std.proofs.Common.{◌≡◌, Bool, false, ◌||◌, List, [], ◌∷◌, map, refl, ap₂}
 use Rattle.std.specs.Prelude.{Option, None, Some, unwrap_or}
 use Rattle.std.specs.List.{All, AllByRecursion as Each}
 use Rattle.std.specs.Option.{option_map}
@@ -7,12 +7,12 @@ use mathlib.Core.Logic.{∥∥₁_elim}
 use mathlib.Core.Bool.{Bool-set}
 use Rattle.sn_streams.specs.Segments.{Segments}
 use Rattle.sn_streams.specs.Trees.{Component, Series, Fork, one}
-use Rattle.sn_histories.specs.Entries.{Entry, Item, To, Mark, End, entries}
-use Rattle.sn_histories.specs.Histories.{Port, In, Out, Decisions, decision, decisions, passing_at}
+use Rattle.sn_histories.specs.Entries.{Entry, Item, To, Mark, End}
+use Rattle.sn_histories.specs.Histories.{Port, In, Out, Decisions, decision, passing_at}
 use Rattle.sn_histories.specs.Sites.{Site, Step, reached, has_marks}
 use Rattle.sn_net.specs.Cell.{CellState}
 use Rattle.sn_net.specs.Dispatchers.{Network}
-use Rattle.sn_net.specs.Item.{ModelItem, Rec, Fault, Stuck, modelled}
+use Rattle.sn_net.specs.Item.{ModelItem, modelled}
 use Rattle.sn_net.specs.WellFormed.{IsWellFormed}
 use Rattle.sn_model.specs.declared.run.Run.{Run}
 use Rattle.sn_model.specs.Meaning.{tree}
@@ -23,7 +23,7 @@ use Rattle.sn_sound.proofs.Follows.{Goes}
 use Rattle.sn_sound.proofs.Items.{FlowsFrom, each_of_all, net_conveys, safely, typed_is_safe}
 use Rattle.sn_net_histories.specs.Histories.{IsAtRun, history}
 use Rattle.sn_net_histories.proofs.Passing.{all_pass}
-use Rattle.sn_routed.specs.Routed.{has_stuck, lacks_route}
+use Rattle.sn_routed.specs.Routed.{has_stuck}
 use Rattle.sn_routed.proofs.Known.{KnownAt, OfItem, comes_sorted, decided_sorted, each_entry, each_framed, gives_each, known_reached, leaves_sorted}
 
 -- no entry is of an item that is stuck, where each item goes

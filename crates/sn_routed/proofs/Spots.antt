@@ -6,9 +6,8 @@ use Rattle.std.proofs.lemmas.Option.{none-some, same_Some}
 use Rattle.sn_record.specs.LabelSet.{Labels}
 use Rattle.sn_tagexpr.specs.declared.expr.TagExpr.{TagExpr}
 use Rattle.sn_streams.specs.Forks.{by_item}
-use Rattle.sn_streams.specs.Keys.{Key, Own, Branch, Inside, Value}
+use Rattle.sn_streams.specs.Keys.{Branch, Inside, Value}
 use Rattle.sn_streams.specs.Segments.{Segments}
-use Rattle.sn_streams.specs.Trees.{one}
 use Rattle.sn_histories.specs.Sites.{Site, Step, Left, Right, Into, stepped, reached}
 use Rattle.sn_net.specs.declared.net.Merge.{Merge}
 use Rattle.sn_net.specs.declared.net.Net.{Net}
@@ -16,9 +15,9 @@ use Rattle.sn_net.specs.declared.net.Net.TheOpen.{Net-F}
 use Rattle.sn_net.specs.declared.net.Net.TheFolds.{fold_out-Net, map-Net}
 use Rattle.sn_net.specs.declared.net.Net.TheViews.{out-Net}
 use Rattle.sn_net.specs.Cell.{CellState}
-use Rattle.sn_net.specs.Dispatchers.{Network, level, level_key, router}
+use Rattle.sn_net.specs.Dispatchers.{Network, level, router}
 use Rattle.sn_net.specs.Item.{ModelItem}
-use Rattle.sn_net.specs.Route.{choice_key, of_record, split_key}
+use Rattle.sn_net.specs.Route.{choice_key, of_record}
 use Rattle.sn_model.specs.Meaning.{Setting, tree, tree_step}
 use Rattle.sn_net_histories.specs.Histories.{in_branch, in_level, leads_step, leads_somewhere, Spot, Whole, Level, Replica, tree_of}
 use Rattle.sn_net_histories.proofs.Roots.{root_leads}

@@ -27,7 +27,7 @@ ghost use Rattle.sn_model.specs.declared.run.Run.{Run};
 ghost use Rattle.sn_model.specs.Components.{alone, box_item, cell, filter_item};
 ghost use Rattle.sn_model.specs.Run.{setting_of};
 ghost use Rattle.sn_typing.specs.Typed.{MatchesOne};
-ghost use Rattle.sn_net_histories.specs.Histories.{IsAtRun, Level, Replica, Spot, Whole, history, leads_somewhere, tree_of};
+ghost use Rattle.sn_net_histories.specs.Histories.{IsAtRun, Spot, Whole, history, leads_somewhere, tree_of};
 ghost use Rattle.sn_routed.specs.Routed.{has_stuck, items_in};
 ghost use Rattle.sn_routed.specs.Spots.{from_level, spot_at, spot_behind};
 
