@@ -30,7 +30,8 @@ use Rattle.sn_model.specs.Meaning.{Setting, tree}
 use Rattle.sn_model.specs.Run.{input_of, setting_of}
 use Rattle.sn_net_histories.specs.Histories.{IsAtRun, leads_somewhere, Spot, Whole, Level, Replica, tree_of}
 use Rattle.sn_routed.specs.Spots.{from_form, from_level, spot_at, spot_behind}
-use Rattle.sn_routed.proofs.Forms.{branch_form, holds_series, inside_form, is_branch, is_series, is_value, level_inside, level_no_series, level_sends, sent_as, series_form, tagged, tagged_goes, value_form}
+use Rattle.sn_routed.proofs.Forms.{holds_series, is_branch, is_series, is_value, sent_as, tagged}
+use Rattle.sn_routed.proofs.Forms.{branch_form, inside_form, level_inside, level_no_series, level_sends, series_form, tagged_goes, value_form}
 use Rattle.sn_routed.proofs.Spots.{leads_spot, spot_further, spot_reached, tree_out}
 
 -- the same of spots as of forms

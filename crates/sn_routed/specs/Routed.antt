@@ -1,4 +1,4 @@
--- Entries of records that no route was for.
+-- Entries of records that no route was for, and the items among entries.
 use Rattle.std.specs.Prelude.{Bool, false, List, [], ◌∷◌}
 use Rattle.std.specs.List.{list_any}
 use Rattle.sn_histories.specs.Entries.{Entry, Item, To, Mark, End}

@@ -38,7 +38,8 @@ pub fn no_record_lacks_a_route_at_a_place()
 
 /// What a component answers to an item that comes to it, in the state after those before, is not stuck.
 pub fn what_comes_has_a_route()
-    ensures { (run : Run) (steps : List Step) (m : Machine ModelItem CellState) (start : CellState) (xss : Segments ModelItem) (before behind : List (Entry ModelItem)) (x : ModelItem) →
+    ensures { (run : Run) (steps : List Step) (m : Machine ModelItem CellState) (start : CellState)
+        (xss : Segments ModelItem) (before behind : List (Entry ModelItem)) (x : ModelItem) →
         IsAtRun run steps (record { part = Component m start; seg = xss }) → history run steps In ≡ before ++ (Item x ∷ behind) →
         holds_stuck (m.emits (after m start (items_in before)) x) ≡ false }
 {}
@@ -46,31 +47,38 @@ pub fn what_comes_has_a_route()
 /// A record that comes to a box, which is there, matches its input; one that comes to a filter matches its pattern, and one that comes
 /// to a synchrocell matches one of its patterns.
 pub fn records_match_where_they_come()
-    ensures of_box { (run : Run) (steps : List Step) (boxes : List BoxProgram) (fuel place number : ℕ) (xss : Segments ModelItem) (before behind : List (Entry ModelItem)) (r : Entries) →
+    ensures of_box { (run : Run) (steps : List Step) (boxes : List BoxProgram) (fuel place number : ℕ)
+        (xss : Segments ModelItem) (before behind : List (Entry ModelItem)) (r : Entries) →
         IsAtRun run steps (record { part = alone (box_item boxes fuel place number); seg = xss }) → history run steps In ≡ before ++ (Item (Rec r) ∷ behind) →
         (program : BoxProgram) × (slice_get boxes number ≡ Some program) × Matches r (variant_of program.input) }
-    ensures of_filter { (run : Run) (steps : List Step) (filter : Filter) (xss : Segments ModelItem) (before behind : List (Entry ModelItem)) (r : Entries) →
+    ensures of_filter { (run : Run) (steps : List Step) (filter : Filter)
+        (xss : Segments ModelItem) (before behind : List (Entry ModelItem)) (r : Entries) →
         IsAtRun run steps (record { part = alone (filter_item filter); seg = xss }) → history run steps In ≡ before ++ (Item (Rec r) ∷ behind) →
         Matches r filter.pattern }
-    ensures of_cell { (run : Run) (steps : List Step) (place : ℕ) (patterns : List Labels) (xss : Segments ModelItem) (before behind : List (Entry ModelItem)) (r : Entries) →
+    ensures of_cell { (run : Run) (steps : List Step) (place : ℕ) (patterns : List Labels)
+        (xss : Segments ModelItem) (before behind : List (Entry ModelItem)) (r : Entries) →
         IsAtRun run steps (record { part = Component (cell place patterns) (new_cell patterns); seg = xss }) → history run steps In ≡ before ++ (Item (Rec r) ∷ behind) →
         MatchesOne (Contains patterns) r }
 {}
 
 /// An item that comes to a choice, to a level of a star or to a split never has the key of one without a route.
 pub fn items_have_keys()
-    ensures of_choice { (run : Run) (steps : List Step) (place : ℕ) (m : Merge) (faces : List (List Labels)) (branches : List Network) (xss : Segments ModelItem) (before behind : List (Entry ModelItem)) (x : ModelItem) →
+    ensures of_choice { (run : Run) (steps : List Step) (place : ℕ) (m : Merge) (faces : List (List Labels)) (branches : List Network)
+        (xss : Segments ModelItem) (before behind : List (Entry ModelItem)) (x : ModelItem) →
         IsAtRun run steps (record { part = choice place m faces branches; seg = xss }) → history run steps In ≡ before ++ (Item x ∷ behind) →
         of_record (choice_key faces) x ≡ key.Stuck → ⊥ }
-    ensures of_level { (run : Run) (steps : List Step) (place : ℕ) (m : Merge) (exit : Labels) (guard : Option TagExpr) (body : Network) (left : ℕ) (xss : Segments ModelItem) (before behind : List (Entry ModelItem)) (x : ModelItem) →
+    ensures of_level { (run : Run) (steps : List Step) (place : ℕ) (m : Merge) (exit : Labels) (guard : Option TagExpr) (body : Network) (left : ℕ)
+        (xss : Segments ModelItem) (before behind : List (Entry ModelItem)) (x : ModelItem) →
         IsAtRun run steps (record { part = level place m exit guard body left; seg = xss }) → history run steps In ≡ before ++ (Item x ∷ behind) →
         of_record (level_key place exit guard left) x ≡ key.Stuck → ⊥ }
-    ensures of_split { (run : Run) (steps : List Step) (place : ℕ) (m : Merge) (id : ℕ) (body : Network) (xss : Segments ModelItem) (before behind : List (Entry ModelItem)) (x : ModelItem) →
+    ensures of_split { (run : Run) (steps : List Step) (place : ℕ) (m : Merge) (id : ℕ) (body : Network)
+        (xss : Segments ModelItem) (before behind : List (Entry ModelItem)) (x : ModelItem) →
         IsAtRun run steps (record { part = split place m id body; seg = xss }) → history run steps In ≡ before ++ (Item x ∷ behind) →
         of_record (split_key id) x ≡ key.Stuck → ⊥ }
 {}
 
-/// Steps lead somewhere just where they reach a spot; in the tree its network stands there. Further steps go on from it.
+/// Steps lead somewhere just where they reach a spot, and what stands at the spot is what they reach in the tree. Further steps go on
+/// from there.
 pub fn what_stands_at_steps()
     ensures leads { (depth : ℕ) (net : Net) (steps : List Step) → leads_somewhere depth net steps ≡ is_some (spot_at depth (Whole net) steps) }
     ensures reached { (run : Run) (steps : List Step) (spot : Spot) → spot_at run.depth (Whole run.net) steps ≡ Some spot →
@@ -92,7 +100,8 @@ pub fn spots_of_forms()
 {}
 
 /// Steps that lead somewhere lead on: to both parts of a series, to the branch that a choice sends an item to, into a level of a star
-/// that has replicas left, and to each replica of a split.
+/// that has replicas left, and to each replica of a split. Without the item, a tree doesn't tell how many branches the choice has, since
+/// a branch that lets items pass as the choice itself does may stand behind the last.
 pub fn steps_lead_on()
     ensures left { (run : Run) (steps : List Step) (a b : Network) (xss : Segments ModelItem) → leads_somewhere run.depth run.net steps ≡ true →
         IsAtRun run steps (record { part = Series a b; seg = xss }) → leads_somewhere run.depth run.net (steps ++ (Left ∷ [])) ≡ true }
