@@ -81,7 +81,9 @@ fn goes_through_a_filter(alloc: Global, run: &Run, names: &Names, graph: &mut Gr
     }
     let is_out = match does(alloc, run, graph, Event::Emit) {
         Some(Effect::Out(item)) => has_one(names, b"b", &item),
-        _ => false,
+        Some(Effect::Call(_job)) => false,
+        Some(Effect::Moved) => false,
+        None => false,
     };
     let local = Event::Local { node: 0 };
     if !moves(alloc, run, graph, Event::Take) || !moves(alloc, run, graph, local) {
