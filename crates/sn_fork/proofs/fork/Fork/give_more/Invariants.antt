@@ -1,0 +1,6 @@
+use Rattle.sn_fork.specs.Turns.{GoesOn}
+use Rattle.sn_fork.proofs.fork.Fork.give_more.Given as goal
+
+-- the node goes on
+abbrev pub invariant-loop : goal.invariant-loop
+invariant-loop g l = record { goes : GoesOn l.initial.self l.self }
