@@ -9,4 +9,3 @@ mod streams;
 mod whole;
 
 pub use node::Node;
-pub use whole::network;

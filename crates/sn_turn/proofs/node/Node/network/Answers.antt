@@ -5,7 +5,7 @@ use Rattle.sn_net_histories.specs.Histories.{history}
 use Rattle.sn_net_histories.specs.Places.{history_at, tree_step}
 use Rattle.sn_component.specs.Facts.{history_for}
 use Rattle.sn_stream.specs.Ends.{End}
-use Rattle.sn_turn.proofs.whole.network.Goals as goal
+use Rattle.sn_turn.proofs.node.Node.network.Goals as goal
 
 pub grow-requires-clause-ends : goal.grow-requires-clause-ends
 grow-requires-clause-ends c = record {
