@@ -10,7 +10,7 @@ mod pass;
 mod source;
 
 pub use component::Component;
-pub use moved::Moved;
+pub use moved::{Moved, some_or_idle};
 pub use outbox::{Outbox, Sent, Until};
 pub use pass::Keeps;
 pub use source::Source;

@@ -13,7 +13,7 @@ pub enum Moved {
 }
 
 /// Where something was put, or else nothing.
-pub(crate) fn some_or_idle(some: bool) -> Moved
+pub fn some_or_idle(some: bool) -> Moved
     ensures { result ≡ (if some then moved.Some else moved.Idle) }
 {
     if some { Moved::Some } else { Moved::Idle }

@@ -142,7 +142,7 @@ fn pass_cell(
 }
 
 /// One record through a component, which has a route for it. For want of memory it comes back, and nothing has changed. A part that is no
-/// component would give it back.
+/// component is not asked, and would pass the record on.
 fn pass_record<G: Gate>(
     alloc: Global,
     run: &Run,

@@ -14,6 +14,7 @@ mod occurrences;
 mod part;
 mod reading;
 mod render;
+mod sentences;
 mod variant;
 
 pub use explanation::{File, Given, explain_line};

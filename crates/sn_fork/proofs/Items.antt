@@ -20,7 +20,7 @@ use Rattle.sn_fork.specs.Seen.{AllHold, ChildSeen, Forking, IsNew, keys_of}
 use Rattle.sn_fork.specs.Turns.{Lacks}
 use Rattle.sn_fork.proofs.Steps.{apart_back, apart_front, child_read, routed, seen_around, seen_at, seen_other}
 use Rattle.sn_fork.proofs.Taking.{after_growing, takes_end, takes_item}
-use Rattle.sn_fork.proofs.Children.{none_of_key}
+use Rattle.sn_fork.proofs.OneChild.{none_of_key}
 use Rattle.std.specs.List.{All}
 use Rattle.sn_stream.specs.declared.item.StreamItem.TheVariants as stream_item
 

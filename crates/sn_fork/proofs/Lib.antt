@@ -2,7 +2,7 @@ pub mod Forks
 mod Taking
 mod Steps
 mod Groups
-mod Children
+mod OneChild
 mod Items
 mod Moves
 pub mod Routed

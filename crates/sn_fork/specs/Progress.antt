@@ -6,13 +6,13 @@ use Rattle.sn_component.specs.declared.moved.Moved.{Moved}
 use Rattle.sn_component.specs.declared.moved.Moved.TheVariants as moved
 use Rattle.sn_fork.specs.Seen.{Forking}
 use Rattle.sn_fork.specs.Turns.{ChildFull, Lacks, MovedIf, moves_of}
-use Rattle.sn_fork.specs.declared.fork.Gave.{Gave}
-use Rattle.sn_fork.specs.declared.fork.Progress.{Progress}
-use Rattle.sn_fork.specs.declared.fork.Progress.TheVariants as progress
-use Rattle.sn_fork.specs.declared.fork.Served.{Served}
-use Rattle.sn_fork.specs.declared.fork.Served.TheVariants as served
-use Rattle.sn_fork.specs.declared.fork.Stop.{Stop}
-use Rattle.sn_fork.specs.declared.fork.Stop.TheVariants as stop
+use Rattle.sn_fork.specs.declared.progress.Gave.{Gave}
+use Rattle.sn_fork.specs.declared.progress.Progress.{Progress}
+use Rattle.sn_fork.specs.declared.progress.Progress.TheVariants as progress
+use Rattle.sn_fork.specs.declared.progress.Served.{Served}
+use Rattle.sn_fork.specs.declared.progress.Served.TheVariants as served
+use Rattle.sn_fork.specs.declared.progress.Stop.{Stop}
+use Rattle.sn_fork.specs.declared.progress.Stop.TheVariants as stop
 
 -- Something was got or put; or the way in was found empty, or the way out or that to a child full; or the end was put.
 abbrev pub WentForking : Forking → Forking → Moved → Type 0

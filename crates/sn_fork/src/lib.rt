@@ -2,7 +2,13 @@
 //! keeps that.
 #![tactic(auto)]
 
+mod children;
+mod deciding;
 mod fork;
 pub mod laws;
+mod progress;
+mod serving;
+mod turn;
 
-pub use fork::{Child, Fork, Progress};
+pub use fork::{Child, Fork};
+pub use progress::Progress;

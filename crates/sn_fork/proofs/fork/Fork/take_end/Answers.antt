@@ -3,7 +3,7 @@ use Rattle.sn_dispatch.specs.declared.det_fork.Decision.TheVariants as decision
 use Rattle.sn_fork.specs.Fork.{child_seen, forking_of}
 use Rattle.sn_fork.specs.Seen.{Forking}
 use Rattle.sn_fork.specs.Turns.{without_held}
-use Rattle.sn_fork.proofs.Children.{held_by_all}
+use Rattle.sn_fork.proofs.OneChild.{held_by_all}
 use Rattle.sn_fork.proofs.Items.{after_ending}
 use Rattle.sn_fork.proofs.fork.Fork.take_end.Goals as goal
 

@@ -3,7 +3,7 @@ use Rattle.std.specs.Prelude.{slice_get, Some, ◌≡◌}
 use Rattle.sn_fork.specs.declared.fork.Child.{Child}
 use Rattle.sn_fork.specs.Fork.{forking_of}
 use Rattle.sn_fork.specs.Seen.{Forking}
-use Rattle.sn_fork.proofs.Children.{found_child}
+use Rattle.sn_fork.proofs.OneChild.{found_child}
 use Rattle.sn_fork.proofs.Items.{lacking}
 use Rattle.sn_fork.proofs.fork.Fork.take_for.Goals as goal
 

@@ -9,7 +9,7 @@ use Rattle.sn_fork.specs.Fork.{child_seen, forking_of}
 use Rattle.sn_fork.specs.Seen.{ChildSeen, Forking}
 use Rattle.sn_fork.specs.Turns.{without_held}
 use Rattle.sn_net.specs.Dispatchers.{stream_key}
-use Rattle.sn_fork.proofs.Children.{held_alone, unchanged_child}
+use Rattle.sn_fork.proofs.OneChild.{held_alone, unchanged_child}
 use Rattle.sn_fork.proofs.Items.{after_noting, item_child}
 use Rattle.sn_fork.proofs.fork.Fork.take_item.Goals as goal
 

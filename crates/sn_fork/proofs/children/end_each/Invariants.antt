@@ -3,8 +3,8 @@ use Rattle.std.specs.List.{All}
 use Rattle.sn_component.specs.Outbox.{room}
 use Rattle.sn_fork.specs.declared.fork.Child.{Child}
 use Rattle.sn_fork.specs.Fork.{child_seen}
-use Rattle.sn_fork.proofs.Children.{FirstHold}
-use Rattle.sn_fork.proofs.fork.end_each.Given as goal
+use Rattle.sn_fork.proofs.OneChild.{FirstHold}
+use Rattle.sn_fork.proofs.children.end_each.Given as goal
 
 -- up to here each holds the end; behind nothing has changed, and there is room
 abbrev pub invariant-loop-c : goal.invariant-loop-c

@@ -4,7 +4,7 @@ use Rattle.std.proofs.lemmas.List.{take_all}
 use Rattle.std.proofs.lemmas.Option.{slice_get_read}
 use Rattle.std.specs.List.{All}
 use Rattle.sn_fork.specs.declared.fork.Child.{Child}
-use Rattle.sn_fork.proofs.fork.number_of.Goals as goal
+use Rattle.sn_fork.proofs.children.number_of.Goals as goal
 
 pub returns-then-eq-clause-some : goal.returns-then-eq-clause-some
 returns-then-eq-clause-some c =

@@ -7,8 +7,8 @@ use Rattle.std.proofs.lemmas.Option.{slice_get_read}
 use Rattle.sn_component.specs.Outbox.{room}
 use Rattle.sn_fork.specs.declared.fork.Child.{Child}
 use Rattle.sn_fork.specs.Fork.{child_seen}
-use Rattle.sn_fork.proofs.Children.{FirstHold, all_hold, one_more_holds}
-use Rattle.sn_fork.proofs.fork.end_each.Goals as goal
+use Rattle.sn_fork.proofs.OneChild.{FirstHold, all_hold, one_more_holds}
+use Rattle.sn_fork.proofs.children.end_each.Goals as goal
 
 pub hold-requires : goal.hold-requires
 hold-requires c =

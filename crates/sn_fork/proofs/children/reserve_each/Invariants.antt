@@ -3,7 +3,7 @@ use Rattle.std.specs.List.{All}
 use Rattle.sn_component.specs.Outbox.{room}
 use Rattle.sn_fork.specs.declared.fork.Child.{Child}
 use Rattle.sn_fork.specs.Fork.{child_seen}
-use Rattle.sn_fork.proofs.fork.reserve_each.Given as goal
+use Rattle.sn_fork.proofs.children.reserve_each.Given as goal
 
 -- nothing is seen of it, and up to here there is room
 abbrev pub invariant-loop-c : goal.invariant-loop-c

@@ -6,8 +6,8 @@ use Rattle.std.proofs.lemmas.List.Elements.{All-append, All-cons, All-nil}
 use Rattle.std.proofs.lemmas.Option.{slice_get_read}
 use Rattle.sn_component.specs.Outbox.{room}
 use Rattle.sn_fork.specs.declared.fork.Child.{Child}
-use Rattle.sn_fork.proofs.Children.{unchanged_child}
-use Rattle.sn_fork.proofs.fork.reserve_each.Goals as goal
+use Rattle.sn_fork.proofs.OneChild.{unchanged_child}
+use Rattle.sn_fork.proofs.children.reserve_each.Goals as goal
 
 pub returns-in_err-reserve-clause-same : goal.returns-in_err-reserve-clause-same
 returns-in_err-reserve-clause-same c =

@@ -1,0 +1,104 @@
+//! The children of a fork: where the one of a key is, and what is held for them.
+ghost use Rattle.std.specs.Prelude.{◌≡◌, ◌<◌, ◌++◌, ◌∷◌, [], IfErr, IfSome, OnErr, OnOk, map, slice_get, None, Some};
+ghost use Rattle.sn_histories.specs.Entries.{End, Mark};
+ghost use Rattle.std.specs.List.{All};
+ghost use Rattle.sn_stream.specs.Ends.{entry_of};
+ghost use Rattle.sn_component.specs.Outbox.{given, room};
+ghost use Rattle.sn_fork.specs.Fork.{child_seen};
+ghost use Rattle.sn_fork.specs.declared.fork.Child.{Child};
+ghost use Rattle.sn_fork.specs.Seen.{AllHold};
+ghost use Rattle.sn_dispatch.specs.declared.det_fork.Decision.TheVariants as some_decision;
+
+use crate::fork::Child;
+use indexmap::IndexMap;
+use sn_component::Outbox;
+use sn_dispatch::{Decision, DetFork};
+use sn_list::Memory;
+use sn_net::Key;
+use sn_stream::StreamItem;
+
+/// Where the child of a key is likely to be: branches stand in order, a level of a star has one child, and replicas are noted.
+pub(crate) fn likely(replicas: &IndexMap<i64, usize>, key: Key) -> usize {
+    match key {
+        Key::Branch(i) => i as usize,
+        Key::Value(n) => match replicas.get(&n) {
+            Some(c) => *c,
+            None => 0,
+        },
+        _ => 0,
+    }
+}
+
+/// Notes where the child of a key is likely to be.
+pub(crate) fn expect(
+    replicas: &mut IndexMap<i64, usize>,
+    key: Key,
+    number: usize,
+) -> Result<(), Memory> {
+    if let Key::Value(n) = key {
+        replicas.insert(n, number)?;
+    }
+    Ok(())
+}
+
+/// The number of the child of a key, if there is one: it is looked for where it is likely to be, and then among all.
+pub(crate) fn number_of(children: &[Child], key: Key, likely: usize) -> Option<usize>
+    ensures some { IfSome result (λ c. (child : Child) × (slice_get children.now c ≡ Some child) × (child.key ≡ key)) }
+    ensures none { result ≡ None → All (λ (child : Child). child.key ≡ key → ⊥) children.now }
+{
+    if likely < children.len() && children[likely].key == key {
+        return Some(likely);
+    }
+    for c in 0..children.len() {
+        if children[c].key == key {
+            return Some(c);
+        }
+    }
+    None
+}
+
+/// Makes room for the end in the way to each child.
+pub(crate) fn reserve_each(children: &mut Vec<Child>) -> Result<(), Memory>
+    ensures same { map child_seen children.new.items ≡ map child_seen children.old.items }
+    ensures room { OnOk result (All (λ (c : Child). 0 < room c.to) children.new.items) }
+{
+    for c in 0..children.len() {
+        children[c].to.reserve(1)?;
+    }
+    Ok(())
+}
+
+/// Holds the end for each child.
+pub(crate) fn end_each(children: &mut Vec<Child>)
+    requires { All (λ (c : Child). 0 < room c.to) children.old.items }
+    ensures { AllHold End (map child_seen children.old.items) (map child_seen children.new.items) }
+{
+    for c in 0..children.len() {
+        children[c].to.hold(StreamItem::End);
+    }
+}
+
+/// Notes that an item goes to a child, and holds it for the child with a mark behind it. For want of memory the item comes back.
+pub(crate) fn note_for(
+    decisions: &mut DetFork,
+    to: &mut Outbox,
+    key: Key,
+    x: StreamItem,
+) -> Result<(), StreamItem>
+    ensures noted { OnOk result (decisions.new ≡ decisions.old ++ some_decision.To key ∷ []) }
+    ensures put { to.new.put ≡ to.old.put }
+    ensures given { OnOk result (given to.new ≡ given to.old ++ entry_of x ∷ Mark ∷ []) }
+    ensures decisions { OnErr result (decisions.new ≡ decisions.old) }
+    ensures held { OnErr result (to.new.held.items ≡ to.old.held.items) }
+    ensures back { IfErr result (λ refused. refused ≡ x) }
+{
+    if to.reserve(2).is_err() {
+        return Err(x);
+    }
+    if decisions.note(Decision::To(key)).is_err() {
+        return Err(x);
+    }
+    to.hold(x);
+    to.hold(StreamItem::Mark);
+    Ok(())
+}
