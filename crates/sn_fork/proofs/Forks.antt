@@ -2,12 +2,16 @@
 use Rattle.std.proofs.Common.{◌≡◌, Bool, true, false, cond, List, [], ◌∷◌, ◌++◌, map, refl, sym, ap, ◌∙◌, subst, append_assoc, append-nil}
 use Rattle.std.proofs.lemmas.Bool.{false≢true}
 use mathlib.Core.List.{IsPrefix}
-use Rattle.sn_streams.specs.Keys.{AreDistinct, Key, is_among, key_eq}
+use Rattle.sn_streams.specs.Keys.{AreDistinct, Branch, Key, is_among, key_eq}
 use Rattle.sn_streams.proofs.Keys.{key_eq-refl, same_key}
 use Rattle.sn_histories.specs.Entries.{Entry, Item, To, Mark, End as TheEnd}
 use Rattle.sn_histories.specs.Histories.{In, Out}
 use Rattle.sn_histories.specs.Sites.{Into, Step}
 use Rattle.sn_net.specs.Item.{ModelItem, modelled}
+use Rattle.sn_net.specs.declared.net.Net.{Net}
+use Rattle.sn_net.specs.declared.net.Net.TheOpen.{Net-F}
+use Rattle.sn_net.specs.declared.net.Net.TheViews.{out-Net}
+use Rattle.sn_view.specs.Placed.{HasBranches}
 use Rattle.sn_model.specs.declared.run.Run.{Run}
 use Rattle.sn_model.specs.Meaning.{tree}
 use Rattle.sn_model.specs.Run.{input_of, setting_of}
@@ -66,6 +70,25 @@ sent_begins f h c here is =
     subst (λ l. IsPrefix l (history_for c.to.made)) (sym is)
     (subst (IsPrefix (to_child h.stands.router c.key h.received)) (sym here.comes)
     (sends-beginning (tree (setting_of f.run) f.run.net) (input_of f.run) (steps_to f) s.merge s.router s.child s.seg s.at c.key h.received (received_begins f h)))
+
+-- a choice that has all its branches still has them with one child more
+among_longer : (k : Key) (cs : List ChildSeen) (c : ChildSeen) → is_among k (keys_of cs) ≡ true → is_among k (keys_of (cs ++ c ∷ [])) ≡ true
+among_longer k [] c is = absurd (false≢true is)
+among_longer k (d ∷ cs) c is = at (key_eq k d.key) is (among_longer k cs c)
+  where
+    at : (b : Bool) → cond b true (is_among k (keys_of cs)) ≡ true → (is_among k (keys_of cs) ≡ true → is_among k (keys_of (cs ++ c ∷ [])) ≡ true)
+        → cond b true (is_among k (keys_of (cs ++ c ∷ []))) ≡ true
+    at true is rest = refl
+    at false is rest = rest is
+
+pub whole_longer : (form : Net-F Net) (cs : List ChildSeen) (c : ChildSeen) → HasBranches form (keys_of cs) → HasBranches form (keys_of (cs ++ c ∷ []))
+whole_longer (Net-F.Box place number) cs c whole = tt
+whole_longer (Net-F.Filter filter) cs c whole = tt
+whole_longer (Net-F.Sync place patterns) cs c whole = tt
+whole_longer (Net-F.Serial left right) cs c whole = tt
+whole_longer (Net-F.Choice place merge branches faces) cs c whole = λ i branch there. among_longer (Branch i) cs c (whole i branch there)
+whole_longer (Net-F.Star place merge body exit guard) cs c whole = tt
+whole_longer (Net-F.Split place merge body id) cs c whole = tt
 
 -- one child is replaced
 pub each_with : {A : Type 0} (P : A → Type 0) (front back : List A) (c d : A) → (P c → P d) → Each P (front ++ c ∷ back) → Each P (front ++ d ∷ back)
@@ -139,12 +162,14 @@ module _ (f : Forking) (h : Forks f) where
         routes = s.routes;
         seg = s.seg;
         at = s.at;
+        onward = s.onward;
         comes = s.comes;
         leaves = s.leaves;
         children = each_with (IsChildAt f.run (steps_to f)) front back c (record c { from = from })
             (λ i. record { apart = i.apart; comes = i.comes; leaves = ap history_for made ∙ i.leaves; begins = begins })
             (subst (Each (IsChildAt f.run (steps_to f))) are s.children);
         apart = subst AreDistinct (ap keys_of are ∙ sym (same_keys front back c from)) s.apart;
+        whole = subst (HasBranches (out-Net s.net)) (ap keys_of are ∙ sym (same_keys front back c from)) s.whole;
       }
 
   served_with : (front back : List ChildSeen) (c : ChildSeen) (from : End) (decisions : List Decision) (served : List (Entry ModelItem)) (held : List StreamItem)
@@ -241,10 +266,12 @@ module _ (f : Forking) (h : Forks f) where
           routes = s.routes;
           seg = s.seg;
           at = s.at;
+          onward = s.onward;
           comes = s.comes;
           leaves = s.leaves;
           children = s.children;
           apart = s.apart;
+          whole = s.whole;
         };
         received = h.received;
         served = h.served ++ decision_entry d ∷ [];

@@ -5,4 +5,6 @@ mod Groups
 mod OneChild
 mod Items
 mod Moves
+mod Table
+pub mod Growing
 pub mod Routed

@@ -1,6 +1,6 @@
 -- A list of children of which one is changed.
 use Rattle.std.proofs.Common.{◌≡◌, ◌≤◌, ℕ, zero, suc, false, Bool, true, cond, List, [], ◌∷◌, ◌++◌, length, map, take, drop, set, Some, arith, refl, sym, ap, ap₂, ◌∙◌}
-use Rattle.std.specs.Prelude.{slice_get}
+use Rattle.std.specs.Prelude.{slice_get, ℤ}
 use Rattle.std.specs.List.{All}
 use Rattle.std.proofs.lemmas.Bool.{false≢true}
 use Rattle.std.proofs.lemmas.List.Elements.{All-head, All-tail}
@@ -100,6 +100,14 @@ back_again key.Inside apart = refl
 back_again (key.Value n) apart = refl
 back_again (key.Broken fault) apart = absurd (false≢true (sym apart))
 back_again key.Stuck apart = absurd (false≢true (sym apart))
+
+pub value_key : (k : Key) (n : ℤ) → stream_key k ≡ stream.Value n → k ≡ key.Value n
+unfolding key_back
+value_key k n is = sym (back_again k (ap (λ j. key_eq j Own) is)) ∙ ap key_back is
+
+pub inside_key : (k : Key) → stream_key k ≡ stream.Inside → k ≡ key.Inside
+unfolding key_back
+inside_key k is = sym (back_again k (ap (λ j. key_eq j Own) is)) ∙ ap key_back is
 
 -- no child has the key, so none has that of its stream
 pub none_of_key : (xs : List Child) (k : Key) → key_eq (stream_key k) Own ≡ false → All (λ (child : Child). child.key ≡ k → ⊥) xs

@@ -11,6 +11,8 @@ use Rattle.sn_histories.specs.Entries.{Entry, Item, To, Mark, End as TheEnd, End
 use Rattle.sn_histories.specs.Histories.{In, decision_on}
 use Rattle.sn_histories.proofs.Histories.{in-ends}
 use Rattle.sn_net.specs.Item.{ModelItem, modelled}
+use Rattle.sn_net.specs.declared.net.Net.TheViews.{out-Net}
+use Rattle.sn_view.specs.Placed.{HasBranches}
 use Rattle.sn_record.specs.declared.item.Item.{Item as RecordItem}
 use Rattle.sn_model.specs.Meaning.{tree}
 use Rattle.sn_model.specs.Run.{input_of, setting_of}
@@ -28,7 +30,7 @@ use Rattle.sn_component.specs.Facts.{history_for}
 use Rattle.sn_component.specs.Seen.{given_by}
 use Rattle.sn_fork.specs.Facts.{Each, Forks, ForksAt, IsChildAt, steps_to}
 use Rattle.sn_fork.specs.Seen.{AllHold, ChildSeen, Forking, IsNew, came_from, decision_entry, keys_of}
-use Rattle.sn_fork.proofs.Forks.{each_at, each_with, not_same, received_begins}
+use Rattle.sn_fork.proofs.Forks.{each_at, each_with, not_same, received_begins, whole_longer}
 
 -- what is known of each child, said of another
 each_alike : {A : Type 0} (P Q : A → Type 0) (all : List A) → Each (λ a. P a → Q a) all → Each P all → Each Q all
@@ -116,10 +118,12 @@ module _ (f : Forking) (h : Forks f) where
           routes = s.routes;
           seg = s.seg;
           at = s.at;
+          onward = s.onward;
           comes = ap history_for made ∙ s.comes;
           leaves = s.leaves;
           children = s.children;
           apart = s.apart;
+          whole = s.whole;
         };
         received = h.received;
         served = h.served;
@@ -146,10 +150,12 @@ module _ (f : Forking) (h : Forks f) where
           routes = s.routes;
           seg = s.seg;
           at = s.at;
+          onward = s.onward;
           comes = s.comes;
           leaves = ap history_for made ∙ s.leaves;
           children = s.children;
           apart = s.apart;
+          whole = s.whole;
         };
         received = h.received;
         served = h.served;
@@ -176,12 +182,14 @@ module _ (f : Forking) (h : Forks f) where
           routes = s.routes;
           seg = s.seg;
           at = s.at;
+          onward = s.onward;
           comes = s.comes;
           leaves = s.leaves;
           children = each_with (IsChildAt f.run (steps_to f)) front back c (record c { to = to; held = held })
               (λ i. record { apart = i.apart; comes = ap history_for made ∙ i.comes; leaves = i.leaves; begins = i.begins })
               (subst (Each (IsChildAt f.run (steps_to f))) are s.children);
           apart = subst AreDistinct (ap keys_of are ∙ sym (same_keys front back c to held)) s.apart;
+          whole = subst (HasBranches (out-Net s.net)) (ap keys_of are ∙ sym (same_keys front back c to held)) s.whole;
         };
         received = h.received;
         served = h.served;
@@ -216,10 +224,12 @@ module _ (f : Forking) (h : Forks f) where
           routes = s.routes;
           seg = s.seg;
           at = s.at;
+          onward = s.onward;
           comes = s.comes;
           leaves = s.leaves;
           children = there;
           apart = subst AreDistinct (sym keys) s.apart;
+          whole = subst (HasBranches (out-Net s.net)) (sym keys) s.whole;
         };
         received = h.received ++ entry_of x ∷ [];
         served = h.served;
@@ -395,10 +405,12 @@ module _ (f : Forking) (h : Forks f) where
           routes = s.routes;
           seg = s.seg;
           at = s.at;
+          onward = s.onward;
           comes = s.comes;
           leaves = s.leaves;
           children = each_end (IsChildAt f.run (steps_to f)) f.children (c ∷ []) s.children (there, tt);
           apart = distinct f.children s.apart new;
+          whole = whole_longer (out-Net s.net) f.children c s.whole;
         };
         received = h.received;
         served = h.served;

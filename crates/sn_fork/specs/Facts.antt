@@ -16,12 +16,14 @@ use Rattle.sn_net.specs.declared.net.Net.TheOpen.{Net-F}
 use Rattle.sn_net.specs.declared.net.Net.TheViews.{out-Net}
 use Rattle.sn_net.specs.declared.routing.Key.{Key as NetKey}
 use Rattle.sn_view.specs.Parts.{part_at}
+use Rattle.sn_view.specs.Placed.{HasBranches}
 use Rattle.sn_net.specs.Item.{ModelItem, modelled}
 use Rattle.sn_record.specs.declared.item.Item.{Item}
 use Rattle.sn_stream.specs.declared.item.StreamItem.TheVariants as stream_item
 use Rattle.sn_model.specs.declared.run.Run.{Run}
-use Rattle.sn_net_histories.specs.Histories.{IsAtRun, history}
+use Rattle.sn_net_histories.specs.Histories.{IsAtRun, Whole, history}
 use Rattle.sn_net_histories.specs.Places.{tree_step}
+use Rattle.sn_routed.specs.Spots.{from_form, spot_at}
 use Rattle.sn_stream.specs.Ends.{passed}
 use Rattle.sn_facts.specs.Forking.{Decides, Merges, to_child}
 use Rattle.sn_component.specs.Facts.{history_for}
@@ -59,8 +61,8 @@ place_in net = 0
 abbrev pub router_of : ℕ → Net-F Net → Router ModelItem
 router_of left net = router (place_in net) (key_in left net)
 
--- At its steps stands the choice, the split or the level of a star that the part at a path is, with the ends for its places and for those
--- of the children that it has, each of which has a key of its own.
+-- At its steps stands the choice, the split or the level of a star that the part at a path is, and one step further what stands behind such
+-- a part; with the ends for its places and for those of the children that it has, each of which has a key of its own; a choice has all its branches.
 pub record ForksAt (f : Forking) : Type 0 where
   pub net : Net
   pub there : part_at f.run.net f.path ≡ Some net
@@ -71,10 +73,12 @@ pub record ForksAt (f : Forking) : Type 0 where
   pub routes : router ≡ router_of f.left (out-Net net)
   pub seg : Segments ModelItem
   pub at : IsAtRun f.run (steps_to f) (record { part = Fork merge router child; seg = seg })
+  pub onward : (step : Step) → spot_at f.run.depth (Whole f.run.net) (steps_to f ++ step ∷ []) ≡ from_form f.left (out-Net net) step
   pub comes : history_for f.input.made ≡ history f.run (steps_to f) In
   pub leaves : history_for f.output.made ≡ history f.run (steps_to f) Out
   pub children : Each (IsChildAt f.run (steps_to f)) f.children
   pub apart : AreDistinct (keys_of f.children)
+  pub whole : HasBranches (out-Net net) (keys_of f.children)
 
 -- A fork: its decisions are those on what it has received; to each child it has given the items of its key, each with a mark, and the end;
 -- nothing of a key without a child was received but the end; and what it has given is its served decisions with the groups that came.

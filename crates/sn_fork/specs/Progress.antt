@@ -1,6 +1,7 @@
 -- What a turn of a fork comes to.
-use Rattle.std.specs.Prelude.{◌≡◌, ◌<◌, ◌⊎◌, length, IsFalse, IsTrue, Option, None, Some}
+use Rattle.std.specs.Prelude.{◌≡◌, ◌<◌, ◌⊎◌, Bool, true, false, length, IsFalse, IsTrue, Option, None, Some}
 use Rattle.sn_stream.specs.Ends.{WasEmpty, WasFull}
+use Rattle.sn_component.specs.Moved.{is_done}
 use Rattle.sn_component.specs.Outbox.{Ends}
 use Rattle.sn_component.specs.declared.moved.Moved.{Moved}
 use Rattle.sn_component.specs.declared.moved.Moved.TheVariants as moved
@@ -51,3 +52,22 @@ pub record GaveAs (old new : Forking) (gave : Gave) : Type 0 where
 abbrev pub GaveOne : Forking → Forking → Option Gave → Type 0
 GaveOne old new None = moves_of old < moves_of new
 GaveOne old new (Some gave) = GaveAs old new gave
+
+-- giving stopped since the end was put
+abbrev pub is_over : Stop → Bool
+is_over stop.Done = true
+is_over stop.Full = false
+is_over stop.Rest = false
+
+abbrev pub gave_last : Option Gave → Bool
+gave_last None = false
+gave_last (Some gave) = is_over gave.why
+
+-- the turn put the end
+abbrev pub is_finished : Progress → Bool
+is_finished (progress.Moved m) = is_done m
+is_finished (progress.Missing key some) = false
+
+abbrev pub took_last : Option Progress → Bool
+took_last None = false
+took_last (Some p) = is_finished p

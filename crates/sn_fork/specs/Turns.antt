@@ -1,9 +1,12 @@
 -- What the steps of a turn do to a fork.
-use Rattle.std.specs.Prelude.{◌≡◌, ◌≤◌, ◌<◌, ◌+◌, ℕ, Bool, true, false, slice_get, [], length, map, Option, None, Some}
+use Rattle.std.specs.Prelude.{◌≡◌, ◌≤◌, ◌<◌, ◌+◌, ℕ, ℤ, suc, Bool, true, false, slice_get, [], length, map, Option, None, Some}
 use Rattle.std.specs.List.{sum_by}
 use Rattle.sn_streams.specs.Keys.{Key as StreamKey, Own, is_among, key_eq}
 use Rattle.sn_net.specs.Dispatchers.{stream_key}
+use Rattle.sn_net.specs.declared.net.Net.{Net}
+use Rattle.sn_net.specs.declared.net.Net.TheOpen.{Net-F}
 use Rattle.sn_net.specs.declared.routing.Key.{Key}
+use Rattle.sn_net.specs.declared.routing.Key.TheVariants as some_key
 use Rattle.sn_stream.specs.Ends.{Made, WasFull}
 use Rattle.sn_fork.specs.Facts.{Wants}
 use Rattle.sn_fork.specs.Seen.{ChildSeen, Forking, keys_of}
@@ -11,6 +14,12 @@ use Rattle.sn_fork.specs.Seen.{ChildSeen, Forking, keys_of}
 -- an item waits that goes to the child of the key, and there is no such child
 abbrev pub Lacks : Forking → Key → Type 0
 Lacks f key = Wants f key × (key_eq (stream_key key) Own ≡ false) × (is_among (stream_key key) (keys_of f.children) ≡ false)
+
+-- a child of that key can be made there: the next level of a star that has replicas left, or a replica of a split
+abbrev pub Grows : ℕ → Net-F Net → Key → Type 0
+Grows left (Net-F.Star place merge body exit guard) key = (key ≡ some_key.Inside) × (less : ℕ) × (left ≡ suc less)
+Grows left (Net-F.Split place merge body id) key = (n : ℤ) × (key ≡ some_key.Value n)
+Grows left net key = ⊥
 
 -- Nothing waits any more; or an item waits that has no child yet, and nothing has changed.
 abbrev pub Decided : Forking → Forking → Option Key → Type 0

@@ -1,5 +1,9 @@
 //! The children of a fork: where the one of a key is, and what is held for them.
-ghost use Rattle.std.specs.Prelude.{◌≡◌, ◌<◌, ◌++◌, ◌∷◌, [], IfErr, IfSome, OnErr, OnOk, map, slice_get, None, Some};
+ghost use Rattle.std.specs.Prelude.{◌≡◌, ◌<◌, ◌++◌, ◌∷◌, [], IfErr, IfSome, OnErr, OnOk, map, slice_get, None, Some, ℤ};
+ghost use Rattle.std.specs.Ordering.{int_eq};
+ghost use Rattle.indexmap.specs.IndexMap.{get};
+ghost use Rattle.sn_net.specs.Dispatchers.{stream_key};
+ghost use Rattle.sn_node.specs.Children.{found_with};
 ghost use Rattle.sn_histories.specs.Entries.{End, Mark};
 ghost use Rattle.std.specs.List.{All};
 ghost use Rattle.sn_stream.specs.Ends.{entry_of};
@@ -7,6 +11,7 @@ ghost use Rattle.sn_component.specs.Outbox.{given, room};
 ghost use Rattle.sn_fork.specs.Fork.{child_seen};
 ghost use Rattle.sn_fork.specs.declared.fork.Child.{Child};
 ghost use Rattle.sn_fork.specs.Seen.{AllHold};
+ghost use Rattle.sn_fork.specs.Table.{AreKeyed};
 ghost use Rattle.sn_dispatch.specs.declared.det_fork.Decision.TheVariants as some_decision;
 
 use crate::fork::Child;
@@ -17,32 +22,33 @@ use sn_list::Memory;
 use sn_net::Key;
 use sn_stream::StreamItem;
 
-/// Where the child of a key is likely to be: branches stand in order, a level of a star has one child, and replicas are noted.
-pub(crate) fn likely(replicas: &IndexMap<i64, usize>, key: Key) -> usize {
-    match key {
-        Key::Branch(i) => i as usize,
-        Key::Value(n) => match replicas.get(&n) {
-            Some(c) => *c,
-            None => 0,
-        },
-        _ => 0,
-    }
-}
-
-/// Notes where the child of a key is likely to be.
-pub(crate) fn expect(
+/// Notes the number of a new child for its value, where its key is one.
+pub(crate) fn enter(
     replicas: &mut IndexMap<i64, usize>,
     key: Key,
     number: usize,
-) -> Result<(), Memory> {
-    if let Key::Value(n) = key {
-        replicas.insert(n, number)?;
+) -> Result<(), Memory>
+    ensures ok { OnOk result ((v : ℤ) → get int_eq replicas.new v ≡ found_with (stream_key key) number v (get int_eq replicas.old v)) }
+    ensures err { OnErr result ((v : ℤ) → get int_eq replicas.new v ≡ get int_eq replicas.old v) }
+{
+    match key {
+        Key::Value(n) => {
+            replicas.insert(n, number)?;
+            Ok(())
+        }
+        Key::Bypass | Key::Branch(_) | Key::Inside | Key::Broken(_) | Key::Stuck => Ok(()),
     }
-    Ok(())
 }
 
-/// The number of the child of a key, if there is one: it is looked for where it is likely to be, and then among all.
-pub(crate) fn number_of(children: &[Child], key: Key, likely: usize) -> Option<usize>
+/// The number of the replica for a value.
+fn replica_of(replicas: &IndexMap<i64, usize>, n: i64) -> Option<usize>
+    ensures { result ≡ get int_eq replicas.now n }
+{
+    replicas.get(&n).copied()
+}
+
+/// The number of the child of a key, by a search among all where it isn't at the place where it is likely to be.
+fn find(children: &[Child], key: Key, likely: usize) -> Option<usize>
     ensures some { IfSome result (λ c. (child : Child) × (slice_get children.now c ≡ Some child) × (child.key ≡ key)) }
     ensures none { result ≡ None → All (λ (child : Child). child.key ≡ key → ⊥) children.now }
 {
@@ -55,6 +61,24 @@ pub(crate) fn number_of(children: &[Child], key: Key, likely: usize) -> Option<u
         }
     }
     None
+}
+
+/// The number of the child of a key, if there is one. A replica is found by its value at once; the branches of a choice are few and stand in
+/// order, and a level of a star has one child.
+pub(crate) fn number_of(
+    children: &[Child],
+    replicas: &IndexMap<i64, usize>,
+    key: Key,
+) -> Option<usize>
+    requires { AreKeyed (map child_seen children.now) replicas.now }
+    ensures some { IfSome result (λ c. (child : Child) × (slice_get children.now c ≡ Some child) × (child.key ≡ key)) }
+    ensures none { result ≡ None → All (λ (child : Child). child.key ≡ key → ⊥) children.now }
+{
+    match key {
+        Key::Value(n) => replica_of(replicas, n),
+        Key::Branch(i) => find(children, key, i as usize),
+        Key::Bypass | Key::Inside | Key::Broken(_) | Key::Stuck => find(children, key, 0),
+    }
 }
 
 /// Makes room for the end in the way to each child.

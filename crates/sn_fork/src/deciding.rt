@@ -14,7 +14,7 @@ ghost use Rattle.sn_fork.specs.Seen.{ChildSeen};
 ghost use Rattle.sn_net.specs.declared.routing.Key.TheVariants as some_key;
 ghost use Rattle.sn_stream.specs.declared.item.StreamItem.TheVariants as stream_item;
 
-use crate::children::{end_each, likely, note_for, number_of, reserve_each};
+use crate::children::{end_each, note_for, number_of, reserve_each};
 use crate::fork::Fork;
 use sn_dispatch::Decision;
 use sn_list::Memory;
@@ -154,7 +154,7 @@ impl Fork {
         ensures ok { IfOk result (Decided self.old self.new) }
         ensures err { OnErr result (self.new ≡ self.old) }
     {
-        match number_of(self.children.as_slice(), key, likely(&self.replicas, key)) {
+        match number_of(self.children.as_slice(), &self.replicas, key) {
             Some(c) => {
                 self.take_item(key, c)?;
                 Ok(None)

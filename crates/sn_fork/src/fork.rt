@@ -1,12 +1,13 @@
 //! The node of a choice, a level of a star or a split: it decides on each entry that it receives, sends each item with a mark behind it to
 //! the child of its key, and serves its decisions in order, by what passes by or by the next group of a child.
-ghost use Rattle.std.specs.Prelude.{◌≡◌, ◌<◌, ◌++◌, ◌∷◌, [], IsTrue, OnErr, OnOk, length, map};
+ghost use Rattle.std.specs.Prelude.{◌≡◌, ◌<◌, ◌++◌, ◌∷◌, [], IsTrue, OnErr, OnOk, false, length, map, ℤ};
+ghost use Rattle.sn_streams.specs.Keys.{Value, is_among};
 ghost use Rattle.sn_fork.specs.Turns.{Lacks};
 ghost use Rattle.sn_fork.specs.Facts.{Each, ForksAt, IsChildAt, steps_to};
 ghost use Rattle.sn_fork.specs.Fork.{child_seen};
-ghost use Rattle.sn_fork.specs.Seen.{IsNew};
+ghost use Rattle.sn_fork.specs.Seen.{IsNew, keys_of};
 
-use crate::children::expect;
+use crate::children::enter;
 use indexmap::IndexMap;
 use sn_component::Outbox;
 use sn_dispatch::DetFork;
@@ -58,16 +59,15 @@ impl Model for Fork {
 
     ghost coded = { forking_code };
 
-    ghost use Rattle.sn_fork.specs.Facts.{Forks};
-    ghost use Rattle.sn_fork.specs.Fork.{forking_of};
+    ghost use Rattle.sn_fork.specs.Fork.{Keeps, forking_of};
 
     ghost view = { forking_of };
 
-    ghost invariant = { λ f. Forks (forking_of f) };
+    ghost invariant = { Keeps };
 }
 
 impl Fork {
-    /// A node that has received nothing.
+    /// A node that has received nothing. A replica of a split is added when its first item waits, and is none of these children.
     pub fn new(
         alloc: Global,
         run: Arc<Run>,
@@ -82,6 +82,7 @@ impl Fork {
         requires got { input.moved ≡ [] }
         requires put { output.moved ≡ [] }
         requires children { Each IsNew (map child_seen children.items) }
+        requires replicas { (v : ℤ) → is_among (Value v) (keys_of (map child_seen children.items)) ≡ false }
         ensures { result ≡ record { run = run.value; path = path; left = left; steps = steps; input = input; waiting = []; decisions = []; children = map child_seen children.items; output = output; held = [] } }
     {
         Fork {
@@ -137,7 +138,7 @@ impl Fork {
         ensures err { OnErr result (self.new ≡ self.old) }
     {
         self.children.reserve(1)?;
-        expect(&mut self.replicas, child.key, self.children.len())?;
+        enter(&mut self.replicas, child.key, self.children.len())?;
         self.children.push_reserved(child);
         Ok(())
     }

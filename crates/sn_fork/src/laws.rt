@@ -19,6 +19,9 @@ ghost use Rattle.sn_dispatch.specs.declared.det_fork.Decision.TheVariants as dec
 ghost use Rattle.sn_stream.specs.Ends.{history_of, moves};
 ghost use Rattle.sn_stream.specs.declared.item.StreamItem.TheVariants as stream_item;
 ghost use Rattle.sn_fork.specs.Facts.{Each, ForksAt};
+ghost use Rattle.sn_fork.specs.Turns.{Grows, Lacks};
+ghost use Rattle.sn_net.specs.declared.net.Net.TheViews.{out-Net};
+ghost use Rattle.sn_net.specs.declared.routing.Key.{Key};
 
 /// What a fork has given is a beginning of what leaves it, and what it has given to a child of what comes in there: so the next entry that it
 /// holds may be put.
@@ -77,6 +80,11 @@ pub fn a_fork_takes_in()
         Forks (record f { waiting = []; decisions = f.decisions ++ d ∷ []; children = front ++ record c { held = held } ∷ back }) }
     ensures end { (f : Forking) → Forks f → (children : List ChildSeen) → f.waiting ≡ stream_item.End ∷ [] → AllHold TheEnd f.children children →
         Forks (record f { waiting = []; decisions = f.decisions ++ decision.End ∷ []; children = children }) }
+{}
+
+/// A child that a fork lacks is the next level of a star that has replicas left, or a replica of a split: a choice has all its branches.
+pub fn what_a_fork_lacks_can_be_made()
+    ensures { (f : Forking) (s : ForksAt f) (key : Key) → Lacks f key → Grows f.left (out-Net s.net) key }
 {}
 
 /// A child is made while an entry waits, so that the end was not received yet: nothing was given for it before.

@@ -6,7 +6,7 @@ ghost use Rattle.sn_fork.specs.Progress.{ServedAs};
 ghost use Rattle.sn_stream.specs.Ends.{entry_of};
 ghost use Rattle.sn_fork.specs.Seen.{AsksFor, asks_child, decision_entry, serves_now};
 
-use crate::children::{likely, number_of};
+use crate::children::number_of;
 use crate::fork::Fork;
 use crate::progress::Served;
 use sn_dispatch::{Decision, DetFork};
@@ -73,11 +73,9 @@ impl Fork {
         ensures { IfSome result (AsksFor self.now) }
     {
         match self.decisions.first() {
-            Some(Decision::To(key)) => number_of(
-                self.children.as_slice(),
-                *key,
-                likely(&self.replicas, *key),
-            ),
+            Some(Decision::To(key)) => {
+                number_of(self.children.as_slice(), &self.replicas, *key)
+            }
             Some(_) => None,
             None => None,
         }
@@ -112,6 +110,7 @@ impl Fork {
     #[tactic(auto, using(crate::proofs::Moves::goes_further, crate::proofs::Moves::goes_still))]
     pub(crate) fn serve<R: Wait>(&mut self, rt: &R) -> Result<Served, Memory>
         ensures goes { GoesOn self.old self.new }
+        ensures output { self.new.output ≡ self.old.output }
         ensures ok { IfOk result (ServedAs self.old self.new) }
         ensures err { OnErr result (self.new ≡ self.old) }
     {

@@ -1,11 +1,11 @@
 //! Turns of forks.
-ghost use Rattle.std.specs.Prelude.{◌≡◌, ◌<◌, ◌+◌, [], IfOk, IfSome, IsFalse, IsTrue, OnErr, length, Some};
+ghost use Rattle.std.specs.Prelude.{◌≡◌, ◌<◌, ◌+◌, [], IfOk, IfSome, IsFalse, IsTrue, OnErr, false, length, Some};
 ghost use Rattle.sn_model.specs.Run.{net_of};
 ghost use Rattle.sn_view.specs.Parts.{part_at as the_part_at};
 ghost use Rattle.sn_fork.specs.Turns.{ChildFull, GoesOn, Lacks, moves_of};
-ghost use Rattle.sn_fork.specs.Progress.{GaveAs, GaveOne, Proceeds, StopsAs, TookOne};
+ghost use Rattle.sn_fork.specs.Progress.{GaveAs, GaveOne, Proceeds, StopsAs, TookOne, gave_last, is_finished, is_over, took_last};
 ghost use Rattle.sn_stream.specs.Ends.{WasEmpty, WasFull};
-ghost use Rattle.sn_component.specs.Outbox.{Ends};
+ghost use Rattle.sn_component.specs.Outbox.{Ends, has_ended, is_end};
 ghost use Rattle.sn_component.specs.declared.outbox.Until.TheVariants as some_until;
 
 use crate::fork::Fork;
@@ -45,6 +45,7 @@ impl Fork {
         ensures emptied { result.until ≡ some_until.Empty → moves_of self.new ≡ moves_of self.old + length self.old.held }
         ensures full { result.until ≡ some_until.Full → WasFull self.new.output }
         ensures end { result.until ≡ some_until.End → Ends self.new.output }
+        ensures ended { has_ended self.old.output ≡ false → has_ended self.new.output ≡ is_end result.until }
     {
         self.output.send(rt)
     }
@@ -65,6 +66,7 @@ impl Fork {
     fn give_one<R: Wait>(&mut self, rt: &R) -> Result<Option<Gave>, Memory>
         ensures goes { GoesOn self.old self.new }
         ensures ok { IfOk result (GaveOne self.old self.new) }
+        ensures ended { has_ended self.old.output ≡ false → IfOk result (λ gave. has_ended self.new.output ≡ gave_last gave) }
         ensures err { OnErr result (self.new ≡ self.old) }
     {
         let served = self.serve(rt)?;
@@ -93,6 +95,7 @@ impl Fork {
     fn give_more<R: Wait>(&mut self, rt: &R) -> Stop
         ensures goes { GoesOn self.old self.new }
         ensures stops { StopsAs self.new result }
+        ensures ended { has_ended self.old.output ≡ false → has_ended self.new.output ≡ is_over result }
     {
         for _ in 1..LONGEST_TURN {
             match self.give_one(rt) {
@@ -109,6 +112,7 @@ impl Fork {
     fn give_out<R: Wait>(&mut self, rt: &R) -> Result<Gave, Memory>
         ensures goes { GoesOn self.old self.new }
         ensures ok { IfOk result (GaveAs self.old self.new) }
+        ensures ended { has_ended self.old.output ≡ false → IfOk result (λ gave. has_ended self.new.output ≡ is_over gave.why) }
         ensures err { OnErr result (self.new ≡ self.old) }
     {
         if self.holds() {
@@ -160,7 +164,9 @@ impl Fork {
     fn take_one<R: Wait>(&mut self, rt: &R, part: &Net) -> Result<Option<Progress>, Memory>
         requires { the_part_at (net_of self.old.run) self.old.path ≡ Some part.now }
         ensures goes { GoesOn self.old self.new }
+        ensures output { self.new.output ≡ self.old.output }
         ensures ok { IfOk result (TookOne self.old self.new) }
+        ensures more { IfOk result (λ took. took_last took ≡ false) }
         ensures err { OnErr result (self.new ≡ self.old) }
     {
         if let Some(key) = self.decide(part)? {
@@ -181,6 +187,7 @@ impl Fork {
     fn take_more<R: Wait>(&mut self, rt: &R, part: &Net) -> Option<Key>
         requires { the_part_at (net_of self.old.run) self.old.path ≡ Some part.now }
         ensures goes { GoesOn self.old self.new }
+        ensures output { self.new.output ≡ self.old.output }
         ensures lacks { IfSome result (Lacks self.new) }
     {
         for _ in 1..LONGEST_TURN {
@@ -199,7 +206,9 @@ impl Fork {
     fn take_in<R: Wait>(&mut self, rt: &R, part: &Net) -> Result<Progress, Memory>
         requires { the_part_at (net_of self.old.run) self.old.path ≡ Some part.now }
         ensures goes { GoesOn self.old self.new }
+        ensures output { self.new.output ≡ self.old.output }
         ensures ok { IfOk result (Proceeds self.old self.new) }
+        ensures more { IfOk result (λ p. is_finished p ≡ false) }
         ensures err { OnErr result (self.new ≡ self.old) }
     {
         if let Some(progress) = self.take_one(rt, part)? {
@@ -217,6 +226,7 @@ impl Fork {
     pub fn turn<R: Wait>(&mut self, rt: &R) -> Result<Progress, Memory>
         ensures goes { GoesOn self.old self.new }
         ensures went { IfOk result (Proceeds self.old self.new) }
+        ensures ended { has_ended self.old.output ≡ false → IfOk result (λ progress. has_ended self.new.output ≡ is_finished progress) }
         ensures err { OnErr result (self.new ≡ self.old) }
     {
         let run = self.run.clone()?;

@@ -1,2 +1,5 @@
 mod Parts
 mod Making
+mod Nodes
+mod Onward
+mod Turning

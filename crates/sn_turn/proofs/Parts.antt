@@ -1,7 +1,9 @@
 -- Where parts of a network stand.
 use Rattle.std.proofs.Common.{◌≡◌, ℕ, zero, suc, ◌<◌, length, get_or, arith, true, List, [], ◌∷◌, ◌++◌, map, refl, sym, ap, subst, ◌∙◌}
-use Rattle.std.specs.Prelude.{IfOk, Result, Ok, Err, Option, Some, is_some, slice_get}
+use Rattle.std.specs.Prelude.{IfOk, OnOk, Result, Ok, Err, Option, Some, is_some, slice_get}
 use Rattle.std.specs.Option.{option_and_then, option_map}
+use Rattle.std.specs.Result.{is_ok}
+use Rattle.std.proofs.lemmas.Bool.{false≢true}
 use Rattle.std.proofs.lemmas.List.{map-append}
 use Rattle.sn_record.specs.LabelSet.{Labels}
 use Rattle.sn_histories.specs.Histories.{In, Out}
@@ -9,6 +11,7 @@ use Rattle.sn_streams.specs.Segments.{Segments}
 use Rattle.sn_streams.specs.Trees.{Series}
 use Rattle.sn_histories.proofs.Histories.{series-begins, series-ends}
 use Rattle.sn_histories.proofs.Sites.{left_to_right}
+use Rattle.sn_net.specs.Dispatchers.{Network}
 use Rattle.sn_net.specs.Item.{ModelItem}
 use Rattle.sn_net.specs.declared.net.Merge.{Merge}
 use Rattle.sn_net.specs.declared.net.Net.{Net}
@@ -80,42 +83,68 @@ lead_branch run place m branches faces i branch path steps there lead =
     (ap (λ f. from_form run.depth f (tree_step (step.Branch i))) (shape-Choice place m branches faces) ∙ ap (option_map Whole) there)
 
 -- the ends of the parts of a series: what leaves the left one comes into the right one
+module _ (run : Run) (steps : List Step) (a b : Network) (seg : Segments ModelItem) (at : IsAtRun run (map tree_step steps) (record { part = Series a b; seg = seg })) where
+  pub series_left : (first : List Step) (input put : End) → history_for input.made ≡ history run (map tree_step steps) In → input.moved ≡ [] → first ≡ steps ++ step.Left ∷ []
+      → history_for put.made ≡ history run (map tree_step first) Out → put.moved ≡ [] → AreNewAt run first input put
+  series_left first input put comes got is leaves moved = record {
+    comes = comes
+        ∙ sym (series-begins (tree (setting_of run) run.net) (input_of run) (map tree_step steps) a b seg at)
+        ∙ ap (λ ss. history run ss In) (sym (ap (map tree_step) is ∙ map-append tree_step steps (step.Left ∷ [])));
+    leaves = leaves;
+    got = got;
+    put = moved;
+  }
+
+  pub series_right : (first second : List Step) (get output : End) → history_for output.made ≡ history run (map tree_step steps) Out → output.moved ≡ []
+      → first ≡ steps ++ step.Left ∷ [] → second ≡ steps ++ step.Right ∷ [] → history_for get.made ≡ history run (map tree_step first) Out → get.moved ≡ [] → AreNewAt run second get output
+  series_right first second get output leaves put is then_is comes moved =
+      let right = sym (ap (map tree_step) then_is ∙ map-append tree_step steps (step.Right ∷ [])) in
+      record {
+        comes = comes
+            ∙ ap (λ ss. history run ss Out) (ap (map tree_step) is ∙ map-append tree_step steps (step.Left ∷ []))
+            ∙ left_to_right (tree (setting_of run) run.net) (input_of run) (map tree_step steps)
+            ∙ ap (λ ss. history run ss In) right;
+        leaves = leaves
+            ∙ sym (series-ends (tree (setting_of run) run.net) (input_of run) (map tree_step steps) a b seg at)
+            ∙ ap (λ ss. history run ss Out) right;
+        got = moved;
+        put = put;
+      }
+
+series_at : (run : Run) (l r : Net) (path : List ℕ) (steps : List Step) (lead : LeadTo run (form.Serial l r) path steps)
+    → IsAtRun run (map tree_step steps) (record { part = Series (tree (setting_of run) l) (tree (setting_of run) r); seg = (stands run (form.Serial l r) path steps lead).0 })
+series_at run l r path steps lead =
+    let here = stands run (form.Serial l r) path steps lead in
+    subst (λ t. IsAtRun run (map tree_step steps) (record { part = t; seg = here.0 })) (tree-Serial (setting_of run) l r) here.1
+
 pub ends_left : (run : Run) (l r : Net) (path : List ℕ) (steps first : List Step) (input output put : End) → LeadTo run (form.Serial l r) path steps → AreNewAt run steps input output
     → first ≡ steps ++ step.Left ∷ [] → history_for put.made ≡ history run (map tree_step first) Out → put.moved ≡ [] → AreNewAt run first input put
 ends_left run l r path steps first input output put lead ends is leaves moved =
-    let here = stands run (form.Serial l r) path steps lead in
-    let at = subst (λ t. IsAtRun run (map tree_step steps) (record { part = t; seg = here.0 })) (tree-Serial (setting_of run) l r) here.1 in
-    record {
-      comes = ends.comes
-          ∙ sym (series-begins (tree (setting_of run) run.net) (input_of run) (map tree_step steps) (tree (setting_of run) l) (tree (setting_of run) r) here.0 at)
-          ∙ ap (λ ss. history run ss In) (sym (ap (map tree_step) is ∙ map-append tree_step steps (step.Left ∷ [])));
-      leaves = leaves;
-      got = ends.got;
-      put = moved;
-    }
+    series_left run steps (tree (setting_of run) l) (tree (setting_of run) r) (stands run (form.Serial l r) path steps lead).0 (series_at run l r path steps lead)
+    first input put ends.comes ends.got is leaves moved
 
 pub ends_right : (run : Run) (l r : Net) (path : List ℕ) (steps first second : List Step) (input output get : End) → LeadTo run (form.Serial l r) path steps → AreNewAt run steps input output
     → first ≡ steps ++ step.Left ∷ [] → second ≡ steps ++ step.Right ∷ [] → history_for get.made ≡ history run (map tree_step first) Out → get.moved ≡ [] → AreNewAt run second get output
 ends_right run l r path steps first second input output get lead ends is then_is comes moved =
-    let here = stands run (form.Serial l r) path steps lead in
-    let at = subst (λ t. IsAtRun run (map tree_step steps) (record { part = t; seg = here.0 })) (tree-Serial (setting_of run) l r) here.1 in
-    let right = sym (ap (map tree_step) then_is ∙ map-append tree_step steps (step.Right ∷ [])) in
-    record {
-      comes = comes
-          ∙ ap (λ ss. history run ss Out) (ap (map tree_step) is ∙ map-append tree_step steps (step.Left ∷ []))
-          ∙ left_to_right (tree (setting_of run) run.net) (input_of run) (map tree_step steps)
-          ∙ ap (λ ss. history run ss In) right;
-      leaves = ends.leaves
-          ∙ sym (series-ends (tree (setting_of run) run.net) (input_of run) (map tree_step steps) (tree (setting_of run) l) (tree (setting_of run) r) here.0 at)
-          ∙ ap (λ ss. history run ss Out) right;
-      got = moved;
-      put = ends.put;
-    }
+    series_right run steps (tree (setting_of run) l) (tree (setting_of run) r) (stands run (form.Serial l r) path steps lead).0 (series_at run l r path steps lead)
+    first second get output ends.leaves ends.put is then_is comes moved
 
 -- what two clauses of an answer give together
 pub both_ok : {A E : Type 0} {P Q R : A → Type 0} (result : Result A E) → ((a : A) → P a → Q a → R a) → IfOk result P → IfOk result Q → IfOk result R
 both_ok (Ok a) give p q = give a p q
 both_ok (Err e) give p q = tt
+
+pub three_ok : {A E : Type 0} {P Q R S : A → Type 0} (result : Result A E) → ((a : A) → P a → Q a → R a → S a) → IfOk result P → IfOk result Q → IfOk result R → IfOk result S
+three_ok (Ok a) give p q r = give a p q r
+three_ok (Err e) give p q r = tt
+
+pub ok_give : {A E P Q : Type 0} (result : Result A E) → (P → Q) → OnOk result P → OnOk result Q
+ok_give (Ok a) give p = give p
+ok_give (Err e) give p = tt
+
+pub ok_there : {A E P : Type 0} (result : Result A E) → is_ok result ≡ true → OnOk result P → P
+ok_there (Ok a) is p = p
+ok_there (Err e) is p = absurd (false≢true is)
 
 -- the same path and steps
 pub led : (run : Run) (net : Net) (path there : List ℕ) (steps here : List Step) → there ≡ path → here ≡ steps → LeadTo run net path steps → LeadTo run net there here

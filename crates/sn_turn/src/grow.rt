@@ -1,8 +1,9 @@
 //! The nodes and streams that a part of a network is made of.
-ghost use Rattle.std.specs.Prelude.{◌++◌, ◌∷◌, [], List, ℕ};
+ghost use Rattle.std.specs.Prelude.{◌++◌, ◌∷◌, [], List, OnOk, ℕ};
 ghost use Rattle.sn_record.specs.LabelSet.{Labels};
 ghost use Rattle.sn_net.specs.declared.net.Merge.{Merge};
 ghost use Rattle.sn_net.specs.declared.net.Net.TheVariants as form;
+ghost use Rattle.sn_turn.specs.Nodes.{Grown, parts_of, parts_of_choice};
 ghost use Rattle.sn_turn.specs.Places.{AreNewAt, LeadTo};
 
 use crate::node::Node;
@@ -33,6 +34,7 @@ fn grow_series(
 ) -> Result<(), Memory>
     requires part { LeadTo run.now.value (form.Serial left.now right.now) spot.now.path spot.now.steps }
     requires ends { AreNewAt run.now.value spot.now.steps input output }
+    ensures { OnOk result (Grown nodes.old.items nodes.new.items (parts_of (form.Serial left.now right.now) spot.now.path)) }
 {
     let first = spot.below(alloc, Step::Left, 0)?;
     let (put, get) = stream(alloc, run, &first.steps, Port::Out)?;
@@ -54,6 +56,7 @@ fn grow_choice(
 ) -> Result<(), Memory>
     requires part { (place : ℕ) × (merge : Merge) × (faces : List (List Labels)) × LeadTo run.now.value (form.Choice place merge branches.now faces) spot.now.path spot.now.steps }
     requires ends { AreNewAt run.now.value spot.now.steps input output }
+    ensures { OnOk result (Grown nodes.old.items nodes.new.items (parts_of_choice branches.now spot.now.path)) }
 {
     let mut children = Vec::new(alloc);
     for (i, branch) in branches.iter().enumerate() {
@@ -79,6 +82,7 @@ pub(crate) fn grow(
 ) -> Result<(), Memory>
     requires part { LeadTo run.now.value net.now spot.now.path spot.now.steps }
     requires ends { AreNewAt run.now.value spot.now.steps input output }
+    ensures { OnOk result (Grown nodes.old.items nodes.new.items (parts_of net.now spot.now.path)) }
 {
     match net {
         Net::Box { .. } => push_component(alloc, run, nodes, spot, Keeps::Nothing, input, output),

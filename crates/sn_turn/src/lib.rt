@@ -1,4 +1,4 @@
-//! Nodes of the second engine over all forms of networks, and the nodes and streams that a run's network is made of.
+//! Nodes of the second engine over all forms of networks, the nodes and streams that a run's network is made of, and turns of nodes.
 #![tactic(auto)]
 
 mod grow;
@@ -6,6 +6,10 @@ mod node;
 mod push;
 mod spot;
 mod streams;
+mod turn;
+mod turned;
+mod unfold;
 mod whole;
 
-pub use node::Node;
+pub use node::{Kind, Node};
+pub use turned::{TurnFault, Turned};

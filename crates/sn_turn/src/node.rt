@@ -1,13 +1,24 @@
 //! Nodes.
+ghost use Rattle.std.specs.Prelude.{◌≡◌, false};
+ghost use Rattle.sn_component.specs.Outbox.{has_ended};
+ghost use Rattle.sn_turn.specs.Kinds.{way_out};
+
 use sn_component::{Component, Source};
 use sn_fork::Fork;
 
-/// A node of the second engine, with the ends that it owns. Its type keeps what it has given for what it has received.
+/// What a node is, with the ends that it owns. Each of these types keeps what it has given for what it has received.
 #[derive(Drop)]
-pub enum Node {
+pub enum Kind {
     Source(Source),
     /// A box, a filter or a synchrocell.
     Component(Component),
     /// A choice, a level of a star or a split.
     Fork(Fork),
+}
+
+/// A node of the second engine. It hasn't passed on the end: a node that has is given up by its turn.
+#[derive(Drop)]
+pub struct Node {
+    pub kind: Kind,
+    pub ghost going: { has_ended (way_out kind) ≡ false },
 }

@@ -1,13 +1,15 @@
 //! New nodes.
-ghost use Rattle.std.specs.Prelude.{◌≡◌, [], map};
+ghost use Rattle.std.specs.Prelude.{◌≡◌, ◌∷◌, [], false, map, OnOk, ℤ};
+ghost use Rattle.sn_streams.specs.Keys.{Value, is_among};
 ghost use Rattle.sn_component.specs.Component.{state_of};
 ghost use Rattle.sn_component.specs.Facts.{IsFresh};
 ghost use Rattle.sn_fork.specs.Facts.{Each, ForksAt};
 ghost use Rattle.sn_fork.specs.Fork.{child_seen};
-ghost use Rattle.sn_fork.specs.Seen.{IsNew};
+ghost use Rattle.sn_fork.specs.Seen.{IsNew, keys_of};
+ghost use Rattle.sn_turn.specs.Nodes.{Grown};
 ghost use Rattle.sn_turn.specs.Places.{new_component, new_fork};
 
-use crate::node::Node;
+use crate::node::{Kind, Node};
 use crate::spot::Spot;
 use sn_component::{Component, Keeps};
 use sn_fork::{Child, Fork};
@@ -28,11 +30,14 @@ pub(crate) fn push_component(
     output: PutEnd,
 ) -> Result<(), Memory>
     requires { IsFresh (new_component run.now.value spot.now.path (state_of keeps) input output) }
+    ensures { OnOk result (Grown nodes.old.items nodes.new.items (spot.now.path ∷ [])) }
 {
     let path = Seq::from_slice(alloc, spot.path.as_slice())?;
     let run = run.clone()?;
     let component = Component::new(alloc, run, path, keeps, input, output);
-    nodes.push(Node::Component(component))?;
+    nodes.push(Node {
+        kind: Kind::Component(component),
+    })?;
     Ok(())
 }
 
@@ -51,11 +56,15 @@ pub(crate) fn push_fork(
     requires got { input.moved ≡ [] }
     requires put { output.moved ≡ [] }
     requires children { Each IsNew (map child_seen children.items) }
+    requires replicas { (v : ℤ) → is_among (Value v) (keys_of (map child_seen children.items)) ≡ false }
+    ensures { OnOk result (Grown nodes.old.items nodes.new.items (spot.now.path ∷ [])) }
 {
     let path = Seq::from_slice(alloc, spot.path.as_slice())?;
     let steps = spot.steps.share()?;
     let run = run.clone()?;
     let fork = Fork::new(alloc, run, path, left, steps, input, children, output);
-    nodes.push(Node::Fork(fork))?;
+    nodes.push(Node {
+        kind: Kind::Fork(fork),
+    })?;
     Ok(())
 }

@@ -54,6 +54,7 @@ pub(crate) fn ways(
     key: Key,
 ) -> Result<NewChild, Memory>
     requires { leads_somewhere run.now.value.depth run.now.value.net (map tree_step steps.now) ≡ true }
+    ensures key { IfOk result (λ ways. ways.child.key ≡ key) }
     ensures child { IfOk result (λ ways. IsNewChildAt run.now.value steps.now (stream_key key) (child_seen ways.child)) }
     ensures ends { IfOk result (λ ways. AreNewAt run.now.value steps.now ways.input ways.output) }
 {

@@ -1,28 +1,27 @@
-use Rattle.std.proofs.Common.{rules, ◌≡◌, refl, subst}
-use Rattle.std.proofs.lemmas.List.Elements.{All-more}
-use Rattle.std.proofs.lemmas.List.{take_all}
-use Rattle.std.proofs.lemmas.Option.{slice_get_read}
+use Rattle.std.proofs.Common.{◌≡◌, List, map, rules, sym, ap, subst, ◌∙◌}
+use Rattle.std.specs.Prelude.{FitsSigned, IfSome, None, Some, slice_get}
+use Rattle.std.specs.Int.{w64}
 use Rattle.std.specs.List.{All}
+use Rattle.std.proofs.lemmas.Int.{to_z-of_z}
+use Rattle.std.specs.Ordering.{int_eq}
+use Rattle.indexmap.specs.IndexMap.{get}
+use Rattle.sn_net.specs.declared.routing.Key.{Key}
 use Rattle.sn_fork.specs.declared.fork.Child.{Child}
+use Rattle.sn_fork.proofs.Table.{replica_found, replica_none}
 use Rattle.sn_fork.proofs.children.number_of.Goals as goal
 
-pub returns-then-eq-clause-some : goal.returns-then-eq-clause-some
-returns-then-eq-clause-some c =
-    let same : c.index-children-likely.result.key ≡ c.args.key = search rules in
-    (c.index-children-likely.result, slice_get_read c.args.children.now _ c.args.likely c.index-children-likely.result refl c.if-likely-children.true c.index-children-likely.is, same)
+pub returns-in-Value-clause-some : goal.returns-in-Value-clause-some
+returns-in-Value-clause-some c =
+    let fits : FitsSigned w64 c.in-Value.n = search rules in
+    subst (λ (k : Key). IfSome c.replica_of.result (λ n. (child : Child) × (slice_get c.args.children.now n ≡ Some child) × (child.key ≡ k))) (sym c.in-Value.is)
+    (replica_found c.args.children.now c.args.replicas.now c.in-Value.n c.replica_of.result c.requires (c.replica_of.ensures ∙ ap (get int_eq c.args.replicas.now) (to_z-of_z w64 c.in-Value.n fits)))
 
-pub returns-then-eq-2-clause-some : goal.returns-then-eq-2-clause-some
-returns-then-eq-2-clause-some c =
-    let same : c.index-children-c.result.key ≡ c.args.key = search rules in
-    (c.index-children-c.result, slice_get_read c.args.children.now _ c.loop-c.c c.index-children-c.result refl c.loop-c-test.true c.index-children-c.is, same)
+pub returns-in-Value-clause-none : goal.returns-in-Value-clause-none
+returns-in-Value-clause-none c =
+    let fits : FitsSigned w64 c.in-Value.n = search rules in
+    subst (λ (k : Key). c.replica_of.result ≡ None → All (λ (child : Child). child.key ≡ k → ⊥) c.args.children.now) (sym c.in-Value.is)
+    (replica_none c.args.children.now c.args.replicas.now c.in-Value.n c.replica_of.result c.requires (c.replica_of.ensures ∙ ap (get int_eq c.args.replicas.now) (to_z-of_z w64 c.in-Value.n fits)))
 
-pub loop-c-preserved : goal.loop-c-preserved
-loop-c-preserved c =
-    let other : c.index-children-c.result.key ≡ c.args.key → ⊥ = search rules in record {
-      none = All-more (λ (child : Child). child.key ≡ c.args.key → ⊥) c.args.children.now c.loop-c.c c.index-children-c.result c.loop-c-test.true c.loop-c.invariant.none
-          (subst (λ (child : Child). child.key ≡ c.args.key → ⊥) c.index-children-c.is other);
-    }
-
-pub returns-clause-none : goal.returns-clause-none
-returns-clause-none c = λ none.
-    subst (All (λ (child : Child). child.key ≡ c.args.key → ⊥)) (take_all c.loop-c.c c.args.children.now c.loop-c-test.false) c.loop-c.invariant.none
+pub returns-in-Branch-clause-some : goal.returns-in-Branch-clause-some
+returns-in-Branch-clause-some c =
+    subst (λ (k : Key). IfSome c.find.result (λ n. (child : Child) × (slice_get c.args.children.now n ≡ Some child) × (child.key ≡ k))) (sym c.in-Branch.is) c.find.ensures.some

@@ -10,8 +10,9 @@ use Rattle.sn_fork.specs.Fork.{child_seen}
 use Rattle.sn_fork.specs.declared.fork.Child.{Child}
 use Rattle.sn_stream.specs.Ends.{End}
 use Rattle.sn_turn.specs.Places.{new_fork}
-use Rattle.sn_turn.proofs.Parts.{ends_left, ends_right, got_at, lead_branch, lead_left, lead_right, leads, led}
-use Rattle.sn_turn.proofs.Making.{few_branches, forks_choice, forks_split, forks_star, fresh_box, fresh_filter, fresh_sync, one_more}
+use Rattle.sn_turn.proofs.Nodes.{grown_branch, grown_choice, grown_serial}
+use Rattle.sn_turn.proofs.Parts.{ends_left, ends_right, got_at, ok_give, lead_branch, lead_left, lead_right, leads, led}
+use Rattle.sn_turn.proofs.Making.{all_branches, few_branches, forks_choice, forks_split, forks_star, fresh_box, fresh_filter, fresh_sync, one_more}
 use Rattle.sn_turn.proofs.grow.+growing.Goals as goal
 
 pub grow-push_component-requires : goal.grow-push_component-requires
@@ -82,17 +83,38 @@ grow_choice-grow-requires t c =
     )
 
 pub grow_choice-loop-i-preserved : goal.grow_choice-loop-i-preserved
-grow_choice-loop-i-preserved t c =
-    one_more c.args.run.now.value c.args.spot.now.steps c.in_ok-below.below.steps c.loop-i.i (map child_seen c.loop-i.children.items) (map child_seen c.push.new.self.items)
+grow_choice-loop-i-preserved t c = record {
+  children = one_more c.args.run.now.value c.args.spot.now.steps c.in_ok-below.below.steps c.loop-i.i (map child_seen c.loop-i.children.items) (map child_seen c.push.new.self.items)
     (child_seen c.in_ok-made.made.child) c.in_ok-below.ensures.steps
     (ap (map child_seen) c.in_ok-push.ensures.items ∙ map-append child_seen c.loop-i.children.items (c.in_ok-made.made.child ∷ []))
-    c.in_ok-made.ensures.child c.loop-i.invariant
+    c.in_ok-made.ensures.child c.loop-i.invariant.children;
+  nodes =
+      let i = c.loop-i.i in
+      let branch = c.index-branches-i.result in
+      grown_branch c.args.nodes.now.items c.loop-i.nodes.items c.grow.new.nodes.items c.args.branches.now i branch c.args.spot.now.path c.in_ok-below.below.path
+      (got_at c.args.branches.now i branch c.loop-i-test.true c.index-branches-i.is) c.in_ok-below.ensures.path c.loop-i.invariant.nodes c.in_ok-grow.ensures;
+}
 
 pub grow_choice-push_fork-requires-clause-stands : goal.grow_choice-push_fork-requires-clause-stands
 grow_choice-push_fork-requires-clause-stands t c =
     forks_choice c.args.run.now.value c.args.spot.now.path c.args.spot.now.steps c.args.input c.args.output c.requires.ends
     c.requires.part.0 c.requires.part.1 c.args.branches.now c.requires.part.2 0 (map child_seen c.loop-i.children.items) c.requires.part.3
-    c.loop-i.invariant.there c.loop-i.invariant.apart
+    c.loop-i.invariant.children.there c.loop-i.invariant.children.apart
+    (all_branches c.args.run.now.value c.args.spot.now.steps c.requires.part.0 c.requires.part.1 c.args.branches.now c.requires.part.2 c.loop-i.i (map child_seen c.loop-i.children.items)
+    c.loop-i-test.false c.loop-i.invariant.children)
+
+pub grow_choice-returns : goal.grow_choice-returns
+grow_choice-returns t c =
+    ok_give c.push_fork.result
+    (grown_choice c.args.nodes.now.items c.loop-i.nodes.items c.push_fork.new.nodes.items c.args.branches.now c.loop-i.i c.args.spot.now.path c.loop-i-test.false c.loop-i.invariant.nodes)
+    c.push_fork.ensures
+
+pub grow_series-returns : goal.grow_series-returns
+grow_series-returns t c =
+    ok_give c.grow-2.result
+    (grown_serial c.args.nodes.now.items c.grow.new.nodes.items c.grow-2.new.nodes.items c.args.left.now c.args.right.now c.args.spot.now.path c.in_ok-first.first.path c.in_ok-second.second.path
+    c.in_ok-first.ensures.path c.in_ok-second.ensures.path c.in_ok-grow.ensures)
+    c.grow-2.ensures
 
 pub grow_series-stream-requires-clause-leads : goal.grow_series-stream-requires-clause-leads
 grow_series-stream-requires-clause-leads t c =

@@ -1,4 +1,4 @@
-use Rattle.std.proofs.Common.{List, [], map, refl, sym, subst}
+use Rattle.std.proofs.Common.{rules, List, [], map, refl, sym, subst}
 use Rattle.sn_dispatch.specs.declared.det_fork.Decision.{Decision}
 use Rattle.sn_stream.specs.Ends.{End}
 use Rattle.sn_stream.specs.declared.item.StreamItem.{StreamItem}
@@ -6,6 +6,7 @@ use Rattle.sn_fork.specs.Facts.{Forks}
 use Rattle.sn_fork.specs.Fork.{child_seen}
 use Rattle.sn_fork.specs.Seen.{Forking}
 use Rattle.sn_fork.proofs.Taking.{fresh_forks}
+use Rattle.sn_fork.proofs.Table.{keyed_first}
 use Rattle.sn_fork.proofs.fork.Fork.new.Goals as goal
 
 pub invariant_of-result : goal.invariant_of-result
@@ -22,6 +23,6 @@ invariant_of-result c =
       output = c.args.output;
       held = [];
     } in
-    subst (λ (u : List Decision × (End × List StreamItem)). Forks (record fresh { decisions = u.0; output = u.1.0; held = u.1.1 }))
+    record { forks = subst (λ (u : List Decision × (End × List StreamItem)). Forks (record fresh { decisions = u.0; output = u.1.0; held = u.1.1 }))
     (λ i. (sym c.new.ensures i, (sym c.new-3.ensures.put i, sym c.new-3.ensures.held i)))
-    (fresh_forks fresh c.requires.stands c.requires.got refl refl c.requires.put refl c.requires.children)
+    (fresh_forks fresh c.requires.stands c.requires.got refl refl c.requires.put refl c.requires.children); keyed = keyed_first (map child_seen c.args.children.items) c.new-2.result (λ v. search rules) c.requires.replicas }

@@ -7,4 +7,4 @@ use Rattle.sn_fork.proofs.Routed.{never_stuck}
 use Rattle.sn_fork.proofs.fork.Fork.routes_all.Goals as goal
 
 pub returns : goal.returns
-returns c = subst (λ (f : Forking). Wants f key.Stuck → ⊥) c.self.view_is (never_stuck (forking_of c.self.inside) c.self.invariant)
+returns c = subst (λ (f : Forking). Wants f key.Stuck → ⊥) c.self.view_is (never_stuck (forking_of c.self.inside) c.self.invariant.forks)

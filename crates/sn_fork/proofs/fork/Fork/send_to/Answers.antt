@@ -9,6 +9,7 @@ use Rattle.sn_fork.specs.Fork.{child_seen, forking_of}
 use Rattle.sn_fork.specs.Seen.{ChildSeen, Forking}
 use Rattle.sn_fork.proofs.Steps.{child_read, may_send, seen_around, seen_at, seen_other, set_there}
 use Rattle.sn_fork.proofs.Taking.{after_sending}
+use Rattle.sn_fork.proofs.Table.{keyed_still, keys_kept}
 use Rattle.sn_fork.proofs.fork.Fork.send_to.Goals as goal
 
 pub send-requires : goal.send-requires
@@ -17,7 +18,7 @@ send-requires g c =
     let n : ℕ = c.args.c in
     let x : Child = c.index_mut.result.now in
     let at : slice_get xs n ≡ Some x = child_read c.args.self.now xs n x (ap (λ (f : Forking). f.children) c.self.view_is) c.requires c.index_mut.ensures.value in
-    record { may = may_send (forking_of c.self.inside) c.self.invariant (map child_seen (take n xs)) (map child_seen (drop (suc n) xs)) (child_seen x) (seen_around xs n x at) }
+    record { may = may_send (forking_of c.self.inside) c.self.invariant.forks (map child_seen (take n xs)) (map child_seen (drop (suc n) xs)) (child_seen x) (seen_around xs n x at) }
 
 pub invariant_of-self : goal.invariant_of-self
 invariant_of-self g c =
@@ -26,9 +27,9 @@ invariant_of-self g c =
     let n : ℕ = c.args.c in
     let x : Child = c.index_mut.result.now in
     let at : slice_get xs n ≡ Some x = child_read c.args.self.now xs n x (ap (λ (f : Forking). f.children) c.self.view_is) c.requires c.index_mut.ensures.value in
-    subst (λ (l : List ChildSeen). Forks (record f { children = l })) (sym (seen_other xs n x (record x { to = c.send.new.self }) at))
-    (after_sending f c.self.invariant (map child_seen (take n xs)) (map child_seen (drop (suc n) xs)) (child_seen x) c.send.new.self.put c.send.new.self.held.items
-    (seen_around xs n x at) c.send.ensures.given c.send.ensures.made)
+    record { forks = subst (λ (l : List ChildSeen). Forks (record f { children = l })) (sym (seen_other xs n x (record x { to = c.send.new.self }) at))
+    (after_sending f c.self.invariant.forks (map child_seen (take n xs)) (map child_seen (drop (suc n) xs)) (child_seen x) c.send.new.self.put c.send.new.self.held.items
+    (seen_around xs n x at) c.send.ensures.given c.send.ensures.made); keyed = keyed_still (map child_seen xs) (map child_seen (set xs n (record x { to = c.send.new.self }))) c.self.inside.replicas (keys_kept xs n x (record x { to = c.send.new.self }) at refl) c.self.invariant.keyed }
 
 pub returns-clause-goes : goal.returns-clause-goes
 returns-clause-goes g c =

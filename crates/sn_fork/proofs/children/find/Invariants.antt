@@ -1,7 +1,7 @@
 use Rattle.std.proofs.Common.{◌≡◌, take}
 use Rattle.std.specs.List.{All}
 use Rattle.sn_fork.specs.declared.fork.Child.{Child}
-use Rattle.sn_fork.proofs.children.number_of.Given as goal
+use Rattle.sn_fork.proofs.children.find.Given as goal
 
 -- up to here none has the key
 abbrev pub invariant-loop-c : goal.invariant-loop-c
