@@ -9,9 +9,6 @@ use sn_names::Names;
 use sn_net::Claim;
 use std::alloc::Global;
 
-/// How many entries a queue between two threads holds. There are none here.
-const QUEUE: u32 = 16;
-
 /// A run, and the names of its labels.
 #[derive(Drop)]
 pub struct Loaded {
@@ -41,6 +38,6 @@ pub fn load(alloc: Global, source: &[u8], input: &[u8], limits: Limits) -> Resul
     let items = items_of(alloc, records)?;
     let (boxes, claim) = checked.into_inner();
     let Claim { net, .. } = claim;
-    let run = Run::new(net, boxes, limits.fuel, limits.depth, QUEUE, items);
+    let run = Run::new(net, boxes, limits.fuel, limits.depth, limits.queue, items);
     Ok(Loaded { run, names })
 }

@@ -11,13 +11,34 @@ pub enum Order {
     Shuffled,
 }
 
-impl Order {
-    pub fn named(name: &str) -> Option<Order> {
+/// Which node takes the next turn.
+#[derive(Clone, Copy)]
+pub enum Turns {
+    /// One after the other, and new ones behind all others.
+    Forward,
+    /// The same from the last to the first.
+    Backward,
+    /// Any, by chance.
+    Shuffled,
+}
+
+/// By which engine a run goes on, and in which order.
+#[derive(Clone, Copy)]
+pub enum Way {
+    Events(Order),
+    Turns(Turns),
+}
+
+impl Way {
+    pub fn named(name: &str) -> Option<Way> {
         match name {
-            "next" => Some(Order::Next),
-            "late" => Some(Order::Late),
-            "reverse" => Some(Order::Reverse),
-            "shuffled" => Some(Order::Shuffled),
+            "next" => Some(Way::Events(Order::Next)),
+            "late" => Some(Way::Events(Order::Late)),
+            "reverse" => Some(Way::Events(Order::Reverse)),
+            "shuffled" => Some(Way::Events(Order::Shuffled)),
+            "turns" => Some(Way::Turns(Turns::Forward)),
+            "turns-reverse" => Some(Way::Turns(Turns::Backward)),
+            "turns-shuffled" => Some(Way::Turns(Turns::Shuffled)),
             _ => None,
         }
     }

@@ -20,6 +20,10 @@ pub enum Refusal {
     Events,
     /// A call that was begun could not be answered, or is not known of.
     Calls,
+    /// So many turns were taken that no more are, and the end hasn't come.
+    Turns,
+    /// Nodes do not show the steps to them.
+    Steps,
     Memory,
     Write,
 }
@@ -51,7 +55,7 @@ impl fmt::Display for Refusal {
     fn fmt<W: fmt::Write>(&self, f: &mut fmt::Formatter<W>) -> fmt::Result {
         f.write_str(match self {
             Refusal::Usage => {
-                "drive next|late|reverse|shuffled SOURCE INPUT [SEED] [--fuel=N] [--depth=N] [--count] [--steps]"
+                "drive next|late|reverse|shuffled|turns|turns-reverse|turns-shuffled SOURCE INPUT [SEED] [--fuel=N] [--depth=N] [--queue=N] [--count] [--steps]"
             }
             Refusal::Read => "a file was not read",
             Refusal::Source => "the source is refused",
@@ -59,6 +63,8 @@ impl fmt::Display for Refusal {
             Refusal::Input => "the input is refused",
             Refusal::Events => "too many events happened",
             Refusal::Calls => "a call is not answered",
+            Refusal::Turns => "the end doesn't come",
+            Refusal::Steps => "steps are shown of events alone",
             Refusal::Memory => "there is no memory left",
             Refusal::Write => "the output was not written",
         })

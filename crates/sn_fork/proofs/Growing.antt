@@ -1,6 +1,6 @@
 -- What a child that a fork lacks is for.
-use Rattle.std.proofs.Common.{◌≡◌, ℕ, ℤ, suc, true, false, List, map, refl, sym, ap, subst, ◌∙◌}
-use Rattle.std.specs.Prelude.{Option, None, Some, slice_get, ◌⊎◌}
+use Rattle.std.proofs.Common.{◌≡◌, ℕ, true, false, List, refl, sym, ap, subst, ◌∙◌}
+use Rattle.std.specs.Prelude.{Option, None, Some, slice_get}
 use Rattle.std.specs.List.{position}
 use Rattle.std.specs.Option.{option_and_then}
 use Rattle.std.proofs.lemmas.Bool.{false≢true}
@@ -14,9 +14,8 @@ use Rattle.sn_streams.specs.Keys.{Own, Branch, is_among, key_eq}
 use Rattle.sn_net.specs.declared.expr.BoxProgram.{BoxProgram}
 use Rattle.sn_net.specs.declared.net.Net.{Net}
 use Rattle.sn_net.specs.declared.net.Net.TheOpen.{Net-F}
-use Rattle.sn_net.specs.declared.net.Net.TheViews.{out-Net, roll-Net, roll-out-Net}
+use Rattle.sn_net.specs.declared.net.Net.TheViews.{out-Net, roll-out-Net}
 use Rattle.sn_net.specs.declared.routing.Key.{Key}
-use Rattle.sn_net.specs.declared.routing.Key.TheVariants as key
 use Rattle.sn_net.specs.Dispatchers.{stream_key}
 use Rattle.sn_net.specs.Face.{face}
 use Rattle.sn_net.specs.Filter.{tag}
@@ -29,8 +28,7 @@ use Rattle.sn_component.proofs.Working.{part_of_run}
 use Rattle.sn_view.specs.Placed.{HasBranches}
 use Rattle.sn_view.proofs.Lists.{position-passes-by, there-unmap}
 use Rattle.sn_view.proofs.Making.{split-at, star-key}
-use Rattle.sn_model.specs.declared.run.Run.{Run}
-use Rattle.sn_fork.specs.Facts.{Forks, ForksAt, Wants, key_in}
+use Rattle.sn_fork.specs.Facts.{ForksAt, key_in}
 use Rattle.sn_fork.specs.Seen.{Forking, keys_of}
 use Rattle.sn_fork.specs.Turns.{Grows, Lacks}
 use Rattle.sn_fork.proofs.OneChild.{inside_key, value_key}

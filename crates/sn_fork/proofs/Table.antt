@@ -1,5 +1,5 @@
 -- The table of replicas: what it finds, and that it stays exact.
-use Rattle.std.proofs.Common.{◌≡◌, ℕ, zero, suc, ◌+◌, Bool, true, false, cond, List, [], ◌∷◌, ◌++◌, map, take, drop, set, length, Option, Some, None, arith, refl, sym, ap, ◌∙◌, subst}
+use Rattle.std.proofs.Common.{◌≡◌, ℕ, zero, suc, ◌+◌, Bool, true, false, cond, List, [], ◌∷◌, ◌++◌, map, set, length, Option, Some, None, arith, refl, sym, ap, ◌∙◌}
 use Rattle.std.specs.Prelude.{ℤ, IfSome, slice_get}
 use Rattle.std.specs.List.{All, position_from}
 use Rattle.std.specs.Option.{option_or}
@@ -21,7 +21,6 @@ use Rattle.sn_fork.specs.Seen.{ChildSeen, keys_of}
 use Rattle.sn_fork.specs.Table.{AreKeyed, number_in}
 use Rattle.sn_fork.specs.Turns.{without_held}
 use Rattle.sn_fork.proofs.OneChild.{value_key}
-use Rattle.sn_fork.proofs.Steps.{seen_around, seen_other}
 
 -- what is found is a child of the key
 record FoundAt (xs : List Child) (k : Key) (i j : ℕ) : Type 0 where

@@ -73,9 +73,7 @@ impl Fork {
         ensures { IfSome result (AsksFor self.now) }
     {
         match self.decisions.first() {
-            Some(Decision::To(key)) => {
-                number_of(self.children.as_slice(), &self.replicas, *key)
-            }
+            Some(Decision::To(key)) => { number_of(self.children.as_slice(), &self.replicas, *key) }
             Some(_) => None,
             None => None,
         }

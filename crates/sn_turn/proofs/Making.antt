@@ -1,6 +1,6 @@
 -- New components, forks and children, where they are to stand.
 use Rattle.std.proofs.Common.{◌≡◌, ℕ, ℤ, zero, suc, ◌≤◌, ◌<◌, ◌+◌, ◌-◌, arith, Bool, true, false, cond, List, [], ◌∷◌, ◌++◌, map, length, refl, sym, ap, subst, ◌∙◌}
-use Rattle.std.specs.Prelude.{Option, None, Some, slice_get}
+use Rattle.std.specs.Prelude.{Option, None, Some}
 use Rattle.std.specs.Option.{option_and_then}
 use Rattle.std.proofs.lemmas.Option.{slice_get_within}
 use Rattle.std.proofs.lemmas.Bool.{false≢true}
@@ -9,14 +9,11 @@ use Rattle.sn_record.specs.LabelSet.{Labels}
 use Rattle.sn_tagexpr.specs.declared.expr.TagExpr.{TagExpr}
 use Rattle.sn_histories.specs.Sites.{Left, Right, Into, Step as TreeStep}
 use Rattle.sn_histories.specs.Histories.{In, Out}
-use Rattle.sn_streams.specs.Forks.{Router}
 use Rattle.sn_streams.specs.Keys.{AreDistinct, Branch, Inside, Key, Own, Value, is_among, key_eq}
 use Rattle.sn_streams.proofs.Keys.{key_eq-refl, same_key}
-use Rattle.sn_streams.specs.Segments.{Segments}
 use Rattle.sn_streams.specs.Trees.{Component, Fork}
 use Rattle.sn_net.specs.Cell.{CellState, Passing, new_cell}
-use Rattle.sn_net.specs.Dispatchers.{Network, choice, level, level_key, merge_of, router, split}
-use Rattle.sn_net.specs.Item.{ModelItem}
+use Rattle.sn_net.specs.Dispatchers.{Network, level, level_key, merge_of, router}
 use Rattle.sn_net.specs.Route.{of_record}
 use Rattle.sn_net.specs.WellFormed.{IsWellFormed, most_branches}
 use Rattle.sn_net.proofs.Sound.{level_sound}

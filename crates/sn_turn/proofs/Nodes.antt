@@ -15,7 +15,6 @@ use Rattle.sn_net.specs.declared.net.Net.TheViews.{out-Net, out-roll-Net}
 use Rattle.sn_fork.specs.Facts.{Each}
 use Rattle.sn_turn.specs.Kinds.{HasBegun, path_of}
 use Rattle.sn_turn.specs.Nodes.{Grown, below_branches, parts_of, parts_of_choice, parts_step}
-use Rattle.sn_turn.specs.Turns.{times}
 use Rattle.sn_turn.specs.declared.node.Node.{Node}
 use Rattle.sn_turn.proofs.Parts.{shape-Choice, shape-Serial}
 

@@ -10,8 +10,8 @@ use Rattle.sn_streams.specs.Keys.{Inside, Value}
 use Rattle.sn_streams.specs.Segments.{Segments}
 use Rattle.sn_streams.specs.Trees.{Series}
 use Rattle.sn_histories.specs.Histories.{Out}
-use Rattle.sn_histories.specs.Sites.{Into, Left, Right, Step as TreeStep}
-use Rattle.sn_net.specs.Dispatchers.{Network, level}
+use Rattle.sn_histories.specs.Sites.{Into}
+use Rattle.sn_net.specs.Dispatchers.{level}
 use Rattle.sn_net.specs.Item.{ModelItem}
 use Rattle.sn_net.specs.declared.net.Merge.{Merge}
 use Rattle.sn_net.specs.declared.net.Net.{Net}
@@ -25,14 +25,14 @@ use Rattle.sn_model.specs.Run.{input_of, setting_of}
 use Rattle.sn_model.specs.declared.run.Run.{Run}
 use Rattle.sn_model.specs.declared.step.Step.{Step}
 use Rattle.sn_model.specs.declared.step.Step.TheVariants as step
-use Rattle.sn_net_histories.specs.Histories.{IsAtRun, Level, Replica, Spot, Whole, history, leads_somewhere}
+use Rattle.sn_net_histories.specs.Histories.{IsAtRun, Replica, Spot, Whole, history, leads_somewhere}
 use Rattle.sn_net_histories.specs.Places.{tree_step}
 use Rattle.sn_routed.proofs.Spots.{leads_spot, spot_further, spot_reached}
 use Rattle.sn_routed.specs.Spots.{from_form, spot_at}
 use Rattle.sn_view.proofs.Standing.{part-further}
 use Rattle.sn_view.specs.Parts.{part_at, part_below}
 use Rattle.sn_component.specs.Facts.{history_for}
-use Rattle.sn_fork.specs.Facts.{ForksAt, steps_to}
+use Rattle.sn_fork.specs.Facts.{ForksAt}
 use Rattle.sn_fork.specs.Fork.{child_seen}
 use Rattle.sn_fork.specs.Seen.{Forking}
 use Rattle.sn_fork.specs.Turns.{Grows, Lacks}

@@ -1,7 +1,6 @@
 -- What the rounds of a turn come to.
-use Rattle.std.proofs.Common.{◌≡◌, ◌≤◌, ◌<◌, ◌+◌, ℕ, zero, suc, Bool, true, false, arith, List, [], ◌∷◌, ◌++◌, length, map, refl, sym, ap, subst, ◌∙◌, append_assoc, append-nil, length-append}
-use Rattle.std.specs.Prelude.{Option, None, Some, if◌then◌else◌}
-use Rattle.std.specs.List.{sum_by}
+use Rattle.std.proofs.Common.{◌≡◌, ◌<◌, ◌+◌, ℕ, zero, suc, Bool, true, false, arith, List, [], ◌∷◌, ◌++◌, length, map, refl, sym, ap, subst, ◌∙◌, append_assoc, append-nil, length-append}
+use Rattle.std.specs.Prelude.{None, Some, if◌then◌else◌}
 use Rattle.std.specs.Option.{option_map}
 use Rattle.std.proofs.lemmas.Bool.{false≢true}
 use Rattle.std.proofs.lemmas.List.{length-map}
@@ -14,7 +13,7 @@ use Rattle.sn_component.specs.Seen.{Sourcing, Working}
 use Rattle.sn_component.specs.declared.moved.Moved.{Moved}
 use Rattle.sn_component.specs.declared.moved.Moved.TheVariants as moved
 use Rattle.sn_fork.specs.Progress.{WentForking}
-use Rattle.sn_fork.specs.Seen.{ChildSeen, Forking}
+use Rattle.sn_fork.specs.Seen.{Forking}
 use Rattle.sn_fork.specs.Turns as fork
 use Rattle.sn_fork.specs.Turns.{moved_at, ways_of}
 use Rattle.sn_turn.specs.Kinds.{way_out}

@@ -1,5 +1,5 @@
 -- Nodes of each kind.
-use Rattle.std.specs.Prelude.{◌≡◌, ℕ, List, [], ◌∷◌, length}
+use Rattle.std.specs.Prelude.{◌≡◌, ℕ, List, [], length}
 use Rattle.sn_stream.specs.Ends.{End}
 use Rattle.sn_component.specs.Seen as component
 use Rattle.sn_fork.specs.Facts.{Each}

@@ -56,15 +56,7 @@ fn replica_for(
     let spot = below(alloc, steps, fork.path(), Step::Value(n), 0)?;
     let made = ways(alloc, run, &spot.steps, Key::Value(n))?;
     let mut nodes = Vec::new(alloc);
-    grow(
-        alloc,
-        run,
-        &mut nodes,
-        body,
-        &spot,
-        made.input,
-        made.output,
-    )?;
+    grow(alloc, run, &mut nodes, body, &spot, made.input, made.output)?;
     Ok(Replica {
         child: made.child,
         nodes,

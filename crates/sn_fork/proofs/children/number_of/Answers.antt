@@ -1,4 +1,4 @@
-use Rattle.std.proofs.Common.{◌≡◌, List, map, rules, sym, ap, subst, ◌∙◌}
+use Rattle.std.proofs.Common.{◌≡◌, rules, sym, ap, subst, ◌∙◌}
 use Rattle.std.specs.Prelude.{FitsSigned, IfSome, None, Some, slice_get}
 use Rattle.std.specs.Int.{w64}
 use Rattle.std.specs.List.{All}

@@ -85,9 +85,9 @@ grow_choice-grow-requires t c =
 pub grow_choice-loop-i-preserved : goal.grow_choice-loop-i-preserved
 grow_choice-loop-i-preserved t c = record {
   children = one_more c.args.run.now.value c.args.spot.now.steps c.in_ok-below.below.steps c.loop-i.i (map child_seen c.loop-i.children.items) (map child_seen c.push.new.self.items)
-    (child_seen c.in_ok-made.made.child) c.in_ok-below.ensures.steps
-    (ap (map child_seen) c.in_ok-push.ensures.items ∙ map-append child_seen c.loop-i.children.items (c.in_ok-made.made.child ∷ []))
-    c.in_ok-made.ensures.child c.loop-i.invariant.children;
+      (child_seen c.in_ok-made.made.child) c.in_ok-below.ensures.steps
+      (ap (map child_seen) c.in_ok-push.ensures.items ∙ map-append child_seen c.loop-i.children.items (c.in_ok-made.made.child ∷ []))
+      c.in_ok-made.ensures.child c.loop-i.invariant.children;
   nodes =
       let i = c.loop-i.i in
       let branch = c.index-branches-i.result in

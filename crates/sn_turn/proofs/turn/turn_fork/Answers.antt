@@ -1,4 +1,4 @@
-use Rattle.std.proofs.Common.{rules, ◌≡◌, ◌<◌, List, [], ap, subst, ◌∙◌, length}
+use Rattle.std.proofs.Common.{rules, ◌≡◌, ◌<◌, List, [], ap, subst, length}
 use Rattle.sn_component.specs.Moved.{is_done}
 use Rattle.sn_component.specs.Outbox.{has_ended}
 use Rattle.sn_fork.specs.Progress.{WentForking}

@@ -1,4 +1,4 @@
-use Rattle.std.proofs.Common.{rules, ◌≡◌, List, [], ◌∷◌, ◌++◌, ap, sym, subst}
+use Rattle.std.proofs.Common.{rules, ◌≡◌, [], ◌∷◌, ◌++◌, ap, sym, subst}
 use Rattle.std.specs.Prelude.{Option, Some, unwrap_or}
 use Rattle.std.specs.Option.{option_map}
 use Rattle.sn_net.specs.declared.net.Net.{Net}
@@ -8,7 +8,6 @@ use Rattle.sn_view.specs.Parts.{part_at}
 use Rattle.sn_fork.specs.Fork.{child_seen}
 use Rattle.sn_fork.specs.Seen.{Forking}
 use Rattle.sn_turn.specs.Turns.{replica_parts}
-use Rattle.sn_turn.specs.declared.node.Node.{Node}
 use Rattle.sn_turn.proofs.Nodes.{grown_behind}
 use Rattle.sn_turn.proofs.unfold.unfold.Goals as goal
 

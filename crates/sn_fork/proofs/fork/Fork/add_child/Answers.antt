@@ -7,7 +7,7 @@ use Rattle.sn_fork.specs.declared.fork.Child.{Child}
 use Rattle.sn_fork.specs.Fork.{child_seen, forking_of}
 use Rattle.sn_fork.specs.Seen.{Forking, keys_of}
 use Rattle.sn_fork.proofs.Items.{after_adding}
-use Rattle.sn_fork.proofs.Table.{keyed_more, keyed_still}
+use Rattle.sn_fork.proofs.Table.{keyed_more}
 use Rattle.sn_fork.proofs.fork.Fork.add_child.Goals as goal
 
 pub invariant_of-self-2 : goal.invariant_of-self-2

@@ -23,6 +23,9 @@ invariant_of-result c =
       output = c.args.output;
       held = [];
     } in
-    record { forks = subst (λ (u : List Decision × (End × List StreamItem)). Forks (record fresh { decisions = u.0; output = u.1.0; held = u.1.1 }))
-    (λ i. (sym c.new.ensures i, (sym c.new-3.ensures.put i, sym c.new-3.ensures.held i)))
-    (fresh_forks fresh c.requires.stands c.requires.got refl refl c.requires.put refl c.requires.children); keyed = keyed_first (map child_seen c.args.children.items) c.new-2.result (λ v. search rules) c.requires.replicas }
+    record {
+      forks = subst (λ (u : List Decision × (End × List StreamItem)). Forks (record fresh { decisions = u.0; output = u.1.0; held = u.1.1 }))
+          (λ i. (sym c.new.ensures i, (sym c.new-3.ensures.put i, sym c.new-3.ensures.held i)))
+          (fresh_forks fresh c.requires.stands c.requires.got refl refl c.requires.put refl c.requires.children);
+      keyed = keyed_first (map child_seen c.args.children.items) c.new-2.result (λ v. search rules) c.requires.replicas;
+    }

@@ -27,9 +27,12 @@ invariant_of-self g c =
     let n : ℕ = c.args.c in
     let x : Child = c.index_mut.result.now in
     let at : slice_get xs n ≡ Some x = child_read c.args.self.now xs n x (ap (λ (f : Forking). f.children) c.self.view_is) c.requires c.index_mut.ensures.value in
-    record { forks = subst (λ (l : List ChildSeen). Forks (record f { children = l })) (sym (seen_other xs n x (record x { to = c.send.new.self }) at))
-    (after_sending f c.self.invariant.forks (map child_seen (take n xs)) (map child_seen (drop (suc n) xs)) (child_seen x) c.send.new.self.put c.send.new.self.held.items
-    (seen_around xs n x at) c.send.ensures.given c.send.ensures.made); keyed = keyed_still (map child_seen xs) (map child_seen (set xs n (record x { to = c.send.new.self }))) c.self.inside.replicas (keys_kept xs n x (record x { to = c.send.new.self }) at refl) c.self.invariant.keyed }
+    record {
+      forks = subst (λ (l : List ChildSeen). Forks (record f { children = l })) (sym (seen_other xs n x (record x { to = c.send.new.self }) at))
+          (after_sending f c.self.invariant.forks (map child_seen (take n xs)) (map child_seen (drop (suc n) xs)) (child_seen x) c.send.new.self.put c.send.new.self.held.items
+          (seen_around xs n x at) c.send.ensures.given c.send.ensures.made);
+      keyed = keyed_still (map child_seen xs) (map child_seen (set xs n (record x { to = c.send.new.self }))) c.self.inside.replicas (keys_kept xs n x (record x { to = c.send.new.self }) at refl) c.self.invariant.keyed;
+    }
 
 pub returns-clause-goes : goal.returns-clause-goes
 returns-clause-goes g c =

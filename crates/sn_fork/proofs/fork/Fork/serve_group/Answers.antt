@@ -37,10 +37,13 @@ invariant_of-self-in-Some-Item g c =
     let at : slice_get xs n ≡ Some x = child_read f xs n x refl (asks_within f n asks) c.index_mut.ensures.value in
     let held : List StreamItem = c.hold.new.self.held.items in
     let put : c.hold.new.self.put ≡ c.self.inside.output.put = c.hold.ensures.put ∙ c.reserve.ensures.put in
-    record { forks = subst (λ (e : End). Forks (record f { children = map child_seen (set xs n (record x { from = c.get.new.self })); output = e; held = held })) (sym put)
-    (group_item f c.self.invariant.forks xs n x refl at c.get.new.self c.in-Some-Item.item held asks (c.in-Some-Item.ensures.got ∙ ap (moves x.from) c.in-Some-Item.field-0-is) c.get.ensures.stated
-    (sym (ap (λ (e : End). given_by e held) put) ∙ c.hold.ensures.given
-    ∙ ap₂ (λ (e : End) (l : List StreamItem). given_by e l ++ entry.Item (modelled c.in-Some-Item.item) ∷ []) c.reserve.ensures.put c.reserve.ensures.held)); keyed = keyed_still (map child_seen xs) (map child_seen (set xs n (record x { from = c.get.new.self }))) c.self.inside.replicas (keys_kept xs n x (record x { from = c.get.new.self }) at refl) c.self.invariant.keyed }
+    record {
+      forks = subst (λ (e : End). Forks (record f { children = map child_seen (set xs n (record x { from = c.get.new.self })); output = e; held = held })) (sym put)
+          (group_item f c.self.invariant.forks xs n x refl at c.get.new.self c.in-Some-Item.item held asks (c.in-Some-Item.ensures.got ∙ ap (moves x.from) c.in-Some-Item.field-0-is) c.get.ensures.stated
+          (sym (ap (λ (e : End). given_by e held) put) ∙ c.hold.ensures.given
+          ∙ ap₂ (λ (e : End) (l : List StreamItem). given_by e l ++ entry.Item (modelled c.in-Some-Item.item) ∷ []) c.reserve.ensures.put c.reserve.ensures.held));
+      keyed = keyed_still (map child_seen xs) (map child_seen (set xs n (record x { from = c.get.new.self }))) c.self.inside.replicas (keys_kept xs n x (record x { from = c.get.new.self }) at refl) c.self.invariant.keyed;
+    }
 
 pub invariant_of-self-in-Some-Mark : goal.invariant_of-self-in-Some-Mark
 invariant_of-self-in-Some-Mark g c =
@@ -51,11 +54,14 @@ invariant_of-self-in-Some-Mark g c =
     let asks : AsksFor f n = subst (λ (f : Forking). AsksFor f c.args.c) (sym c.self.view_is) c.requires in
     let at : slice_get xs n ≡ Some x = child_read f xs n x refl (asks_within f n asks) c.index_mut.ensures.value in
     let first = dropped f n c.drop_served.new.decisions asks c.drop_served.ensures in
-    record { forks = subst (λ (u : End × List StreamItem).
-    Forks (record f { children = map child_seen (set xs n (record x { from = c.get.new.self })); decisions = c.drop_served.new.decisions; output = u.0; held = u.1 }))
-    (λ i. (sym {A = End} c.reserve.ensures.put i, sym {A = List StreamItem} c.reserve.ensures.held i))
-    (group_mark f c.self.invariant.forks xs n x refl at c.get.new.self c.drop_served.new.decisions first.0 asks first.1
-    (c.in-Some-Mark.ensures.got ∙ ap (moves x.from) c.in-Some-Mark.field-0-is) c.get.ensures.stated); keyed = keyed_still (map child_seen xs) (map child_seen (set xs n (record x { from = c.get.new.self }))) c.self.inside.replicas (keys_kept xs n x (record x { from = c.get.new.self }) at refl) c.self.invariant.keyed }
+    record {
+      forks = subst (λ (u : End × List StreamItem).
+          Forks (record f { children = map child_seen (set xs n (record x { from = c.get.new.self })); decisions = c.drop_served.new.decisions; output = u.0; held = u.1 }))
+          (λ i. (sym {A = End} c.reserve.ensures.put i, sym {A = List StreamItem} c.reserve.ensures.held i))
+          (group_mark f c.self.invariant.forks xs n x refl at c.get.new.self c.drop_served.new.decisions first.0 asks first.1
+          (c.in-Some-Mark.ensures.got ∙ ap (moves x.from) c.in-Some-Mark.field-0-is) c.get.ensures.stated);
+      keyed = keyed_still (map child_seen xs) (map child_seen (set xs n (record x { from = c.get.new.self }))) c.self.inside.replicas (keys_kept xs n x (record x { from = c.get.new.self }) at refl) c.self.invariant.keyed;
+    }
 
 pub returns-in-Some-Item-clause-goes : goal.returns-in-Some-Item-clause-goes
 returns-in-Some-Item-clause-goes g c =

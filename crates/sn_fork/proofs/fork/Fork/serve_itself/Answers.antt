@@ -16,8 +16,11 @@ invariant_of-self-in-Some c =
     let held : List StreamItem = c.hold.new.self.held.items in
     let put : c.hold.new.self.put ≡ c.self.inside.output.put = c.hold.ensures.put ∙ c.reserve.ensures.put in
     let own : serves_now (nat_lt c.self.inside.first c.self.inside.last) c.self.inside.decisions ≡ true = search rules in
-    record { forks = subst (λ (e : End). Forks (record f { decisions = c.drop_first.new.self; output = e; held = held })) (sym put)
-    (after_serving f c.self.invariant.forks (nat_lt c.self.inside.first c.self.inside.last) c.in-Some.d c.drop_first.new.self held own c.in-Some.ensures
-    (sym (ap (λ (e : End). given_by e held) put) ∙ c.hold.ensures.given
-    ∙ ap₂ (λ (e : End) (l : List StreamItem). given_by e l ++ entry_of c.passes.result ∷ []) c.reserve.ensures.put c.reserve.ensures.held
-    ∙ ap (λ (e : Entry ModelItem). given_by f.output f.held ++ e ∷ []) c.passes.ensures)); keyed = c.self.invariant.keyed }
+    record {
+      forks = subst (λ (e : End). Forks (record f { decisions = c.drop_first.new.self; output = e; held = held })) (sym put)
+          (after_serving f c.self.invariant.forks (nat_lt c.self.inside.first c.self.inside.last) c.in-Some.d c.drop_first.new.self held own c.in-Some.ensures
+          (sym (ap (λ (e : End). given_by e held) put) ∙ c.hold.ensures.given
+          ∙ ap₂ (λ (e : End) (l : List StreamItem). given_by e l ++ entry_of c.passes.result ∷ []) c.reserve.ensures.put c.reserve.ensures.held
+          ∙ ap (λ (e : Entry ModelItem). given_by f.output f.held ++ e ∷ []) c.passes.ensures));
+      keyed = c.self.invariant.keyed;
+    }

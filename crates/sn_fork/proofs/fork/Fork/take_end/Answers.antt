@@ -12,8 +12,11 @@ use Rattle.sn_fork.proofs.fork.Fork.take_end.Goals as goal
 pub invariant_of-self-2 : goal.invariant_of-self-2
 invariant_of-self-2 c =
     let noted : c.note.new.self ≡ c.self.inside.decisions ++ decision.End ∷ [] = search rules in
-    record { forks = after_ending (forking_of c.self.inside) c.self.invariant.forks (map child_seen c.reserve_each.new.children.items) (map child_seen c.end_each.new.children.items) c.note.new.self
-    c.reserve_each.ensures.same (ap (λ (f : Forking). f.waiting) c.self.view_is ∙ c.requires) c.end_each.ensures noted; keyed = keyed_still (map child_seen c.self.inside.children.items) (map child_seen c.end_each.new.children.items) c.self.inside.replicas (keys_held (map child_seen c.reserve_each.new.children.items) (map child_seen c.end_each.new.children.items) (held_by_all (map child_seen c.reserve_each.new.children.items) (map child_seen c.end_each.new.children.items) c.end_each.ensures) ∙ ap keys_of c.reserve_each.ensures.same) c.self.invariant.keyed }
+    record {
+      forks = after_ending (forking_of c.self.inside) c.self.invariant.forks (map child_seen c.reserve_each.new.children.items) (map child_seen c.end_each.new.children.items) c.note.new.self
+          c.reserve_each.ensures.same (ap (λ (f : Forking). f.waiting) c.self.view_is ∙ c.requires) c.end_each.ensures noted;
+      keyed = keyed_still (map child_seen c.self.inside.children.items) (map child_seen c.end_each.new.children.items) c.self.inside.replicas (keys_held (map child_seen c.reserve_each.new.children.items) (map child_seen c.end_each.new.children.items) (held_by_all (map child_seen c.reserve_each.new.children.items) (map child_seen c.end_each.new.children.items) c.end_each.ensures) ∙ ap keys_of c.reserve_each.ensures.same) c.self.invariant.keyed;
+    }
 
 pub returns-clause-held : goal.returns-clause-held
 returns-clause-held c =

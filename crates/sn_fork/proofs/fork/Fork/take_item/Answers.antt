@@ -21,13 +21,16 @@ invariant_of-self c =
     let n : ℕ = c.args.c in
     let x : Child = c.index_mut.result.now in
     let at : slice_get xs n ≡ Some x = item_child f c.args.self.now xs n x c.args.key c.self.view_is refl c.requires.child c.index_mut.ensures.value in
-    record { forks = subst (λ (o : Option StreamItem).
-    Forks (record f { waiting = entries_of o; decisions = c.note_for.new.decisions; children = map child_seen (set xs n (record x { to = c.note_for.new.to })) }))
-    (sym c.take.ensures.after)
-    (after_noting f c.self.invariant.forks xs n x c.note_for.new.to c.args.key c.in-Some.x c.note_for.new.decisions refl at
-    (subst (λ (f : Forking). (child : ChildSeen) × (slice_get f.children n ≡ Some child) × (child.key ≡ stream_key c.args.key)) (sym c.self.view_is) c.requires.child)
-    (subst (λ (f : Forking). Wants f c.args.key) (sym c.self.view_is) c.requires.wants) (ap entries_of (sym c.in-Some.ensures.value))
-    c.in-Ok.ensures.noted c.note_for.ensures.put c.in-Ok.ensures.given); keyed = keyed_still (map child_seen xs) (map child_seen (set xs n (record x { to = c.note_for.new.to }))) c.self.inside.replicas (keys_kept xs n x (record x { to = c.note_for.new.to }) at refl) c.self.invariant.keyed }
+    record {
+      forks = subst (λ (o : Option StreamItem).
+          Forks (record f { waiting = entries_of o; decisions = c.note_for.new.decisions; children = map child_seen (set xs n (record x { to = c.note_for.new.to })) }))
+          (sym c.take.ensures.after)
+          (after_noting f c.self.invariant.forks xs n x c.note_for.new.to c.args.key c.in-Some.x c.note_for.new.decisions refl at
+          (subst (λ (f : Forking). (child : ChildSeen) × (slice_get f.children n ≡ Some child) × (child.key ≡ stream_key c.args.key)) (sym c.self.view_is) c.requires.child)
+          (subst (λ (f : Forking). Wants f c.args.key) (sym c.self.view_is) c.requires.wants) (ap entries_of (sym c.in-Some.ensures.value))
+          c.in-Ok.ensures.noted c.note_for.ensures.put c.in-Ok.ensures.given);
+      keyed = keyed_still (map child_seen xs) (map child_seen (set xs n (record x { to = c.note_for.new.to }))) c.self.inside.replicas (keys_kept xs n x (record x { to = c.note_for.new.to }) at refl) c.self.invariant.keyed;
+    }
 
 pub invariant_of-self-in-Err : goal.invariant_of-self-in-Err
 invariant_of-self-in-Err c =
@@ -38,8 +41,11 @@ invariant_of-self-in-Err c =
     let at : slice_get xs n ≡ Some x = item_child f c.args.self.now xs n x c.args.key c.self.view_is refl c.requires.child c.index_mut.ensures.value in
     let waits : entries_of (Some c.in-Err.x) ≡ f.waiting = ap (λ x. entries_of (Some x)) c.in-Err.ensures.back ∙ ap entries_of c.in-Some.ensures.value in
     let are : map child_seen (set xs n (record x { to = c.note_for.new.to })) ≡ f.children = unchanged_child xs n x c.note_for.new.to at c.note_for.ensures.put c.in-Err.ensures.held in
-    record { forks = subst (λ (u : List StreamItem × (List Decision × List ChildSeen)). Forks (record f { waiting = u.0; decisions = u.1.0; children = u.1.1 }))
-    (λ i. (sym waits i, (sym c.in-Err.ensures.decisions i, sym are i))) c.self.invariant.forks; keyed = keyed_still (map child_seen xs) (map child_seen (set xs n (record x { to = c.note_for.new.to }))) c.self.inside.replicas (keys_kept xs n x (record x { to = c.note_for.new.to }) at refl) c.self.invariant.keyed }
+    record {
+      forks = subst (λ (u : List StreamItem × (List Decision × List ChildSeen)). Forks (record f { waiting = u.0; decisions = u.1.0; children = u.1.1 }))
+          (λ i. (sym waits i, (sym c.in-Err.ensures.decisions i, sym are i))) c.self.invariant.forks;
+      keyed = keyed_still (map child_seen xs) (map child_seen (set xs n (record x { to = c.note_for.new.to }))) c.self.inside.replicas (keys_kept xs n x (record x { to = c.note_for.new.to }) at refl) c.self.invariant.keyed;
+    }
 
 pub returns-in-Err-clause-err : goal.returns-in-Err-clause-err
 returns-in-Err-clause-err c =
