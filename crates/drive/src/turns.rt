@@ -70,7 +70,7 @@ impl Nodes {
             Turns::Forward => self.waiting.pop_front(),
             Turns::Backward => self.waiting.pop_back(),
             Turns::Shuffled => {
-                let many = self.waiting.len() as u32;
+                let many = u32::try_from(self.waiting.len()).ok()?;
                 if many == 0 {
                     return None;
                 }
@@ -100,12 +100,12 @@ impl Nodes {
         node: Node,
         order: Turns,
     ) -> Result<(), Refusal> {
-        let turned = turn_again(rt, alloc, node, self.turns)?;
+        let Turned { node, spawned, .. } = turn_again(rt, alloc, node, self.turns)?;
         self.turns = self.turns.wrapping_add(1);
-        if let Some(node) = turned.node {
+        if let Some(node) = node {
             self.put(node, order)?;
         }
-        self.add(turned.spawned)?;
+        self.add(spawned)?;
         self.take_out(rt)
     }
 }
