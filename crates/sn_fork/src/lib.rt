@@ -1,5 +1,5 @@
 //! The node of a choice, a level of a star or a split. Its type keeps what it has given for what it has received, and each step of a turn
-//! keeps that.
+//! keeps that. A split finds its replicas by a table.
 #![tactic(auto)]
 
 mod children;
