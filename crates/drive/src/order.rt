@@ -27,6 +27,8 @@ pub enum Turns {
 pub enum Way {
     Events(Order),
     Turns(Turns),
+    /// Turns of nodes, by workers.
+    Crew,
 }
 
 impl Way {
@@ -39,6 +41,7 @@ impl Way {
             "turns" => Some(Way::Turns(Turns::Forward)),
             "turns-reverse" => Some(Way::Turns(Turns::Backward)),
             "turns-shuffled" => Some(Way::Turns(Turns::Shuffled)),
+            "crew" => Some(Way::Crew),
             _ => None,
         }
     }
