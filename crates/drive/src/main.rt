@@ -216,7 +216,7 @@ fn serve<R: Threads + Wait + Sync>(rt: &HostRuntime, wait: &R) -> Result<u8, Ref
     run(rt, wait, words.as_slice())
 }
 
-/// The same, once more where memory was wanted: nothing is printed before all is there.
+/// The same, once more where memory was wanted, of which it is told only before anything is printed.
 fn serve_again<R: Threads + Wait + Sync>(rt: &HostRuntime, wait: &R) -> Result<u8, Refusal> {
     match serve(rt, wait) {
         Err(Refusal::Memory) => serve(rt, wait),

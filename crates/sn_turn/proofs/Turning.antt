@@ -1,9 +1,9 @@
 -- What the rounds of a turn come to.
-use Rattle.std.proofs.Common.{◌≡◌, ◌<◌, ◌+◌, ℕ, zero, suc, Bool, true, false, arith, List, [], ◌∷◌, ◌++◌, length, map, refl, sym, ap, subst, ◌∙◌, append_assoc, append-nil, length-append}
+use Rattle.std.proofs.Common.{◌≡◌, ◌≤◌, ◌<◌, ◌+◌, ℕ, zero, suc, Bool, true, false, arith, List, [], ◌∷◌, ◌++◌, length, map, refl, sym, ap, subst, ◌∙◌, append_assoc, append-nil, length-append}
 use Rattle.std.specs.Prelude.{None, Some, if◌then◌else◌}
 use Rattle.std.specs.Option.{option_map}
 use Rattle.std.proofs.lemmas.Bool.{false≢true}
-use Rattle.std.proofs.lemmas.List.{length-map}
+use Rattle.std.proofs.lemmas.List.{length-map, map-append}
 use Rattle.std.proofs.lemmas.List.Sums.{sum_by-append}
 use mathlib.Core.Logic.{inl, inr}
 use Rattle.sn_model.specs.declared.run.Run.{Run}
@@ -31,7 +31,7 @@ as_many a b same = sym (length-map b.children ways_of) ∙ ap length same ∙ le
 
 -- a fork that stays what it is
 pub unfolds_still : (f : Forking) → Unfolds f f
-unfolds_still f = record { run = refl; path = refl; left = refl; steps = refl; input = refl; output = refl; more = 0; many = omega arith; moves = omega arith }
+unfolds_still f = record { run = refl; path = refl; left = refl; steps = refl; input = refl; output = refl; more = []; children = sym (append-nil (map ways_of f.children)); moves = omega arith }
 
 pub unfolds_going : (a b : Forking) → fork.GoesOn a b → Unfolds a b
 unfolds_going a b goes = record {
@@ -41,8 +41,8 @@ unfolds_going a b goes = record {
   steps = goes.steps;
   input = goes.input;
   output = goes.output;
-  more = 0;
-  many = as_many a b goes.children;
+  more = [];
+  children = goes.children ∙ sym (append-nil (map ways_of a.children));
   moves = goes.moves;
 }
 
@@ -54,8 +54,8 @@ unfolds_further a b c first later = record {
   steps = later.steps ∙ first.steps;
   input = later.input ∙ first.input;
   output = later.output ∙ first.output;
-  more = first.more + later.more;
-  many = omega (arith, first.many, later.many);
+  more = first.more ++ later.more;
+  children = later.children ∙ ap (λ w. w ++ later.more) first.children ∙ append_assoc (map ways_of a.children) first.more later.more;
   moves = omega (arith, first.moves, later.moves);
 }
 
@@ -68,8 +68,8 @@ unfolds_made a b before now made = subst (Unfolds a) (sym made.fork) (record {
   steps = refl;
   input = refl;
   output = refl;
-  more = 1;
-  many = length-append a.children (made.child ∷ []);
+  more = ways_of made.child ∷ [];
+  children = map-append ways_of a.children (made.child ∷ []);
   moves = omega (arith, sum_by-append moved_at a.children (made.child ∷ []));
 })
 
@@ -144,10 +144,16 @@ is_some_moved moved.Some = true
 is_some_moved moved.Idle = false
 is_some_moved moved.Done = false
 
+-- a fork that goes on has no fewer children
+no_fewer : (b c : Forking) → Unfolds b c → length b.children ≤ length c.children
+no_fewer b c on =
+    let now = sym (length-map c.children ways_of) ∙ ap length on.children ∙ length-append (map ways_of b.children) on.more in
+    omega (arith, now, length-map b.children ways_of)
+
 -- a replica was made, and then it went on
 pub fork_moves_more : (a b c : Forking) (m : Moved) → length a.children < length b.children → Unfolds b c → (m ≡ moved.Done → Ends c.output) → (m ≡ moved.Idle → ⊥)
     → Moves (kind.Fork a) (kind.Fork c) m
-fork_moves_more a b c moved.Some made on done busy = inr (omega (arith, made, on.many))
+fork_moves_more a b c moved.Some made on done busy = inr (omega (arith, made, no_fewer b c on))
 fork_moves_more a b c moved.Idle made on done busy = absurd (busy refl)
 fork_moves_more a b c moved.Done made on done busy = done refl
 

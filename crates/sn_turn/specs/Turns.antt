@@ -1,12 +1,13 @@
 -- What a turn of a node comes to.
-use Rattle.std.specs.Prelude.{◌≡◌, ◌≤◌, ◌<◌, ◌+◌, ◌⊎◌, ℕ, zero, suc, List, [], ◌∷◌, ◌++◌, length, Some, None, if◌then◌else◌, unwrap_or}
+use Rattle.std.specs.Prelude.{◌≡◌, ◌≤◌, ◌<◌, ◌+◌, ◌⊎◌, ℕ, zero, suc, List, [], ◌∷◌, ◌++◌, length, map, Some, None, if◌then◌else◌, unwrap_or}
 use Rattle.std.specs.Option.{option_map}
 use Rattle.sn_net.specs.declared.net.Net.{Net}
 use Rattle.sn_net.specs.declared.net.Net.TheOpen.{Net-F}
 use Rattle.sn_net.specs.declared.net.Net.TheViews.{out-Net}
 use Rattle.sn_model.specs.declared.run.Run.{Run}
 use Rattle.sn_view.specs.Parts.{part_at}
-use Rattle.sn_stream.specs.Ends.{WasEmpty, WasFull}
+use Rattle.sn_streams.specs.Keys.{Key}
+use Rattle.sn_stream.specs.Ends.{Made, WasEmpty, WasFull}
 use Rattle.sn_component.specs.Moved.{is_done}
 use Rattle.sn_component.specs.Outbox.{Ends, has_ended}
 use Rattle.sn_component.specs.declared.moved.Moved.{Moved}
@@ -21,7 +22,8 @@ use Rattle.sn_turn.specs.declared.node.Kind.TheVariants as kind
 use Rattle.sn_turn.specs.declared.node.Node.{Node}
 use Rattle.sn_turn.specs.declared.turned.Turned.{Turned}
 
--- The fork stays what it is, with its ends; it keeps its children, maybe with more behind them, and entries only move.
+-- The fork stays what it is, with its ends; it keeps its children, with their keys and streams, maybe with more behind them, and entries only
+-- move.
 pub record Unfolds (old new : Forking) : Type 0 where
   pub run : new.run ≡ old.run
   pub path : new.path ≡ old.path
@@ -29,8 +31,8 @@ pub record Unfolds (old new : Forking) : Type 0 where
   pub steps : new.steps ≡ old.steps
   pub input : new.input.made ≡ old.input.made
   pub output : new.output.made ≡ old.output.made
-  pub more : ℕ
-  pub many : length new.children ≡ length old.children + more
+  pub more : List (Key × (Made × Made))
+  pub children : map ways_of new.children ≡ map ways_of old.children ++ more
   pub moves : fork.moves_of old ≤ fork.moves_of new
 
 -- the parts that a replica of a star or a split at a path has nodes for: the body, and of a star then the next level

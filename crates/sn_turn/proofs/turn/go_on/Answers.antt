@@ -20,3 +20,6 @@ returns-in-Ok-Some g c = record {
   ended = λ no. c.in-Ok-Some.ensures.ended (c.loop.invariant.ended no) ∙ ap is_last c.in-Ok-Some.field-0-is ∙ ended_after c.in-Ok-Some.moved c.after_more.result c.after_more.ensures;
   spawned = spawned_further c.args.fork.now c.loop.fork c.round.new.fork c.args.spawned.now.items c.loop.spawned.items c.round.new.spawned.items c.loop.invariant.unfolds c.loop.invariant.spawned c.in-Ok-Some.ensures.spawned;
 }
+
+pub returns-in-Err-clause-spawned : goal.returns-in-Err-clause-spawned
+returns-in-Err-clause-spawned g c = spawned_further c.args.fork.now c.loop.fork c.round.new.fork c.args.spawned.now.items c.loop.spawned.items c.round.new.spawned.items c.loop.invariant.unfolds c.loop.invariant.spawned c.in-Err.ensures.spawned
