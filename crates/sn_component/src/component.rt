@@ -20,6 +20,7 @@ use sn_model::Run;
 use sn_net::Net;
 use sn_node::part_at;
 use sn_stream::{GetEnd, PutEnd, StreamItem};
+use sn_wakeup::Waker;
 use std::alloc::Global;
 use std::marker::Model;
 use std::sync::{Arc, Wait};
@@ -76,6 +77,12 @@ impl Component {
             waiting: None,
             output: Outbox::new(alloc, output),
         }
+    }
+
+    /// What happens at the other ends of its streams wakes this.
+    pub fn register(&self, waker: &Arc<Waker>) -> Result<(), Memory> {
+        self.input.register(waker)?;
+        self.output.register(waker)
     }
 
     /// Puts what is held, as far as the stream has room.

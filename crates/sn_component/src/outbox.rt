@@ -9,9 +9,10 @@ ghost use Rattle.sn_component.specs.declared.outbox.Until.TheVariants as some_un
 
 use sn_list::Memory;
 use sn_stream::{PutEnd, StreamItem};
+use sn_wakeup::Waker;
 use std::alloc::Global;
 use std::collections::VecDeque;
-use std::sync::Wait;
+use std::sync::{Arc, Wait};
 
 /// An end, and what is held to be put there, in order.
 #[derive(Drop)]
@@ -48,6 +49,11 @@ impl Outbox {
             put,
             held: VecDeque::new(alloc),
         }
+    }
+
+    /// Room in the stream wakes this.
+    pub fn register(&self, waker: &Arc<Waker>) -> Result<(), Memory> {
+        self.put.register(waker)
     }
 
     /// Makes room for so many more entries.

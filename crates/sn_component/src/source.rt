@@ -16,6 +16,7 @@ use sn_list::Memory;
 use sn_model::Run;
 use sn_record::Item;
 use sn_stream::{PutEnd, StreamItem};
+use sn_wakeup::Waker;
 use std::alloc::Global;
 use std::marker::Model;
 use std::sync::{Arc, Wait};
@@ -70,6 +71,11 @@ impl Source {
             next: 0,
             output: Outbox::new(alloc, output),
         }
+    }
+
+    /// Room in its stream wakes this.
+    pub fn register(&self, waker: &Arc<Waker>) -> Result<(), Memory> {
+        self.output.register(waker)
     }
 
     /// Puts what is held, as far as the stream has room.

@@ -3,7 +3,7 @@ use denote.RattleType.{RattleType}
 use denote.Ref.{NamedLft}
 use denote.Param.Send.{IsSend, IsSync, sendable}
 use denote.Struct.Declared.{row}
-use denote.Param.SendFields.{declared_send}
+use denote.Param.SendFields.{declared_send, declared_sync}
 use Rattle.std.proofs.Crossing.{crosses}
 use Rattle.std.proofs.option.Option.TheSendSync as option_crosses
 use Rattle.std.specs.contracts.option.Option as option
@@ -28,7 +28,12 @@ use Rattle.sn_fork.specs.contracts.fork.Fork as fork
 use Rattle.sn_fork.specs.contracts.fork.Fork.TheInside as fork_inside
 use Rattle.sn_turn.specs.contracts.node.Kind as kind
 use Rattle.sn_turn.specs.contracts.node.Node as node
+use Rattle.sn_wakeup.specs.contracts.run_queue.RunQueue as queue
+use Rattle.sn_wakeup.specs.contracts.waker.Waker as waker
 use Rattle.sn_crew.specs.contracts.crew.Crew as crew
+use Rattle.sn_crew.specs.contracts.crew.Task as task
+use Rattle.sn_crew.specs.contracts.slots.Slots as slots
+use Rattle.sn_crew.proofs.slots.Slots.TheSendSync as slots_crosses
 
 item_send : IsSend item.the_row
 item_send = search (sendable, crosses, seq.the_send, label_map.the_send, value.send-Value) depth 60 fits 100000
@@ -107,5 +112,33 @@ kind_send = search (sendable, crosses, source_send, component_send, fork_send) d
 pub node_send : IsSend node.the_row
 node_send = declared_send node.the_type (kind_send, tt)
 
+queue_send : IsSend queue.the_row
+queue_send = search (sendable, crosses) depth 60 fits 100000
+
+queue_sync : IsSync queue.the_row
+queue_sync = search (sendable, crosses) depth 60 fits 100000
+
+waker_send : IsSend waker.the_row
+waker_send = search (sendable, crosses, queue_send, queue_sync) depth 60 fits 100000
+
+waker_sync : IsSync waker.the_row
+waker_sync = search (sendable, crosses, queue_send, queue_sync) depth 60 fits 100000
+
+task_send : IsSend task.the_row
+task_send = declared_send task.the_type (search (sendable, crosses) depth 60 fits 100000, (search (sendable, crosses, waker_send, waker_sync) depth 60 fits 100000, (node_send, tt)))
+
+slots_sync : IsSync (slots.the_row task.the_row)
+slots_sync = search (sendable, crosses, slots_crosses.the_sync, task_send) depth 60 fits 100000
+
 pub crew_sync : (κ : NamedLft) (G : RattleType) → IsSync G → IsSync (crew.the_row κ G)
-crew_sync κ G gate = search (sendable, crosses, node_send) depth 60 fits 100000
+crew_sync κ G gate =
+    declared_sync (crew.the_type κ G) (
+      search (sendable, crosses) depth 60 fits 100000,
+      (
+        search (sendable, crosses, gate) depth 60 fits 100000,
+        (
+          search (sendable, crosses, queue_send, queue_sync) depth 60 fits 100000,
+          (slots_sync, (search (sendable, crosses) depth 60 fits 100000, (search (sendable, crosses) depth 60 fits 100000, tt))),
+        ),
+      ),
+    )

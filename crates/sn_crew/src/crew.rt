@@ -1,61 +1,73 @@
 //! The nodes of a run, and the threads that give them turns.
+use crate::slots::{Rest, Slots};
 use crossbeam_utils::CachePadded;
 use sn_component::Moved;
 use sn_io::Gate;
 use sn_list::Memory;
-use sn_pool::Pool;
+use sn_stream::GetEnd;
 use sn_turn::{Node, TurnFault, Turned};
-use sn_workers::{Bell, Patience};
+use sn_wakeup::{Backoff, EventCount, RunQueue, Waker};
 use std::alloc::Global;
-use std::sync::Wait;
 use std::sync::atomic::{AtomicU64, Ordering};
+use std::sync::{Arc, Wait};
 use std::thread;
 use std::thread::Threads;
 
 /// So many turns a node gets from one worker, if it moves something in each, before another node gets one.
-const MOST_TURNS: u32 = 64;
+const MOST_TURNS: u64 = 64;
 
-/// What all threads of a run share: the nodes that wait for a turn, the gate, a bell, and two counters. Nothing is claimed of the last three.
+/// A node, its number, and what wakes it.
+#[derive(Drop)]
+struct Task {
+    number: u64,
+    waker: Arc<Waker>,
+    node: Node,
+}
+
+impl Rest for Task {
+    fn rest(&self) -> bool {
+        self.waker.rest()
+    }
+}
+
+/// What all threads of a run share: the nodes, which of them have something to do, the gate, and two counters. A node stays with its worker while
+/// it moves something, lies in its slot otherwise, and its number stands in the queue only where an entry came for it or room for one of its
+/// own. Nothing is claimed of the queue and the counters.
 #[derive(Drop)]
 pub struct Crew<'a, G> {
     alloc: Global,
     gate: &'a G,
-    waiting: Pool<Node>,
-    /// Rung when a node has moved something, since others may then move on, and when the run is over.
-    moves: Bell,
+    queue: Arc<RunQueue>,
+    slots: Slots<Task>,
     /// How many turns were given, by which calls of boxes are numbered.
     turns: CachePadded<AtomicU64>,
-    /// How many nodes there are.
+    /// How many nodes have come.
     nodes: CachePadded<AtomicU64>,
 }
 
 /// What came of looking for a node to give turns to.
 #[derive(Clone, Copy, PartialEq, Eq, Debug)]
 pub enum Service {
-    /// A node moved something.
+    /// A node got turns.
     Served,
-    /// No node was there, or one that could move nothing.
+    /// No node has anything to do.
     Idle,
     /// The run is over for all but its caller.
     Over,
 }
 
-/// How a thread that finds nothing to do has looked: at how many nodes in a row, and from which ring of the bell on.
-#[derive(Drop)]
-pub struct Search {
-    looks: u64,
-    rings: u64,
-    patience: Patience,
-}
-
 impl<'a, G: Gate> Crew<'a, G> {
-    pub fn new(alloc: Global, gate: &'a G) -> Result<Crew<'a, G>, Memory> {
-        let waiting = Pool::new(alloc)?;
+    /// A crew without nodes. The calling thread is woken by what comes out of the root.
+    pub fn new(alloc: Global, gate: &'a G, root: &GetEnd) -> Result<Crew<'a, G>, Memory> {
+        let queue = Arc::new(alloc, RunQueue::new(alloc)?)?;
+        let waker = Waker::of_caller(Arc::try_clone(&queue)?);
+        root.register(&Arc::new(alloc, waker)?)?;
+        let slots = Slots::new(alloc)?;
         Ok(Crew {
             alloc,
             gate,
-            waiting,
-            moves: Bell::new(),
+            queue,
+            slots,
             turns: CachePadded::new(AtomicU64::new(0)),
             nodes: CachePadded::new(AtomicU64::new(0)),
         })
@@ -63,29 +75,77 @@ impl<'a, G: Gate> Crew<'a, G> {
 
     /// No node gets a turn any more.
     pub fn stop<R: Wait>(&self, rt: &R) {
-        self.waiting.stop(rt);
-        self.moves.ring_for_all();
+        self.queue.stop(rt);
     }
 
-    /// Lets a node wait for its turn. For want of memory it is dropped, and the run is over.
-    fn put<R: Wait>(&self, rt: &R, node: Node) {
-        if self.waiting.put(rt, node).is_err() {
-            self.stop(rt);
+    /// Where the calling thread sleeps until it has something to do.
+    pub fn output(&self) -> &EventCount {
+        &self.queue.output
+    }
+
+    /// What wakes a node of this number from now on.
+    fn waker_of(&self, number: u64, node: &Node) -> Result<Arc<Waker>, Memory> {
+        let waker = Waker::of_task(Arc::try_clone(&self.queue)?, number);
+        let waker = Arc::new(self.alloc, waker)?;
+        node.register(&waker)?;
+        Ok(waker)
+    }
+
+    /// Lets a task wait for its turn. For want of memory it is dropped, and the run is over.
+    fn put<R: Wait>(&self, rt: &R, task: Task) {
+        let number = task.number;
+        match self.slots.put(rt, number, task) {
+            Ok(()) => self.queue.push(rt, number),
+            Err(_) => self.stop(rt),
         }
+    }
+
+    /// Lets a task rest until it is woken, unless something has come for it: then it is given back. For want of memory it is dropped, and the run
+    /// is over.
+    fn rest<R: Wait>(&self, rt: &R, task: Task) -> Option<Task> {
+        let number = task.number;
+        match self.slots.rest(rt, number, task) {
+            Ok(left) => left,
+            Err(_) => {
+                self.stop(rt);
+                None
+            }
+        }
+    }
+
+    /// Brings a new node into the crew, to be looked at.
+    fn admit_one<R: Wait>(&self, rt: &R, node: Node) {
+        let number = self.nodes.fetch_add(1, Ordering::SeqCst);
+        let Ok(waker) = self.waker_of(number, &node) else {
+            self.stop(rt);
+            return;
+        };
+        self.put(
+            rt,
+            Task {
+                number,
+                waker,
+                node,
+            },
+        );
     }
 
     /// Brings new nodes into the crew.
     pub fn admit<R: Wait>(&self, rt: &R, nodes: Vec<Node>) {
         for node in nodes {
-            self.nodes.fetch_add(1, Ordering::SeqCst);
-            self.put(rt, node);
+            self.admit_one(rt, node);
         }
     }
 
-    /// Gives a node one turn. Answers how it went, and the node unless it is done. Where memory is wanted the run is over.
-    fn give_turn<R: Wait>(&self, rt: &R, node: Node) -> (Moved, Option<Node>) {
-        let number = self.turns.fetch_add(1, Ordering::SeqCst);
-        match node.turn(rt, self.alloc, self.gate, number) {
+    /// Gives a task one turn. Answers how it went, and the task unless it is done. Where memory is wanted the run is over.
+    fn give_turn<R: Wait>(&self, rt: &R, task: Task, call: u64) -> (Moved, Option<Task>) {
+        let Task {
+            number,
+            waker,
+            node,
+        } = task;
+        waker.begin();
+        let (moved, left) = match node.turn(rt, self.alloc, self.gate, call) {
             Ok(
                 Turned {
                     node,
@@ -100,81 +160,61 @@ impl<'a, G: Gate> Crew<'a, G> {
                 self.stop(rt);
                 (Moved::Idle, Some(node))
             }
+        };
+        match left {
+            None => (moved, None),
+            Some(node) => (
+                moved,
+                Some(Task {
+                    number,
+                    waker,
+                    node,
+                }),
+            ),
         }
     }
 
-    /// Gives a node turns as long as it moves something in each, up to a number. Answers whether it moved anything.
-    fn serve<R: Wait>(&self, rt: &R, node: Node) -> bool {
-        let mut next = node;
-        let mut has_moved = false;
-        for _ in 0..MOST_TURNS {
-            let (moved, left) = self.give_turn(rt, next);
-            if moved != Moved::Idle {
-                has_moved = true;
-                self.moves.ring();
-            }
-            let Some(node) = left else {
-                self.nodes.fetch_sub(1, Ordering::SeqCst);
-                return has_moved;
+    /// Gives a task turns while it moves something or something comes for it, up to a number.
+    fn serve<R: Wait>(&self, rt: &R, task: Task) {
+        let first = self.turns.fetch_add(MOST_TURNS, Ordering::SeqCst);
+        let mut next = task;
+        for turn in 0..MOST_TURNS {
+            let (moved, left) = self.give_turn(rt, next, first.wrapping_add(turn));
+            let Some(task) = left else {
+                return;
             };
-            next = node;
-            if moved != Moved::Some {
-                break;
+            next = task;
+            if moved == Moved::Idle {
+                let Some(task) = self.rest(rt, next) else {
+                    return;
+                };
+                next = task;
             }
         }
         self.put(rt, next);
-        has_moved
     }
 
-    /// Serves a node, if one waits.
+    /// Serves a node, if one has something to do.
     pub fn serve_one<R: Wait>(&self, rt: &R) -> Service {
-        let Some(node) = self.waiting.take(rt) else {
-            if self.waiting.stopped(rt) {
+        let Some(number) = self.queue.take(rt) else {
+            if self.queue.is_stopped(rt) {
                 return Service::Over;
             }
             return Service::Idle;
         };
-        if self.serve(rt, node) {
-            return Service::Served;
+        if let Some(task) = self.slots.take(rt, number) {
+            self.serve(rt, task);
         }
-        Service::Idle
-    }
-
-    /// Begins to look for something to do.
-    pub fn search(&self) -> Search {
-        Search {
-            looks: 0,
-            rings: self.moves.rings(),
-            patience: Patience::new(),
-        }
-    }
-
-    /// There was something to do.
-    pub fn renew(&self, search: &mut Search) {
-        search.looks = 0;
-        search.rings = self.moves.rings();
-        search.patience.renew();
-    }
-
-    /// There was nothing to do. Where that was so as often as there are nodes, the thread yields at first, and then sleeps until a node has moved something since
-    /// it began to look.
-    pub fn wait<R: Wait>(&self, rt: &R, search: &mut Search) {
-        search.looks = search.looks.wrapping_add(1);
-        if search.looks <= self.nodes.load(Ordering::SeqCst) {
-            return;
-        }
-        search.looks = 0;
-        search.patience.wait(rt, &self.moves, search.rings);
-        search.rings = self.moves.rings();
+        Service::Served
     }
 
     /// Serves nodes until the run is over.
     fn work<R: Wait>(&self, rt: &R) {
-        let mut search = self.search();
+        let mut backoff = Backoff::new(&self.queue.tasks);
         for _ in rt.forever() {
             match self.serve_one(rt) {
-                Service::Served => self.renew(&mut search),
-                Service::Idle => self.wait(rt, &mut search),
+                Service::Served => backoff.reset(),
+                Service::Idle => backoff.wait(rt),
                 Service::Over => return,
             }
         }

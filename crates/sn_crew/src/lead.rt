@@ -14,6 +14,7 @@ use sn_model::Outcome;
 use sn_output::{LineFault, LineSink};
 use sn_record::Item;
 use sn_stream::{GetEnd, StreamItem};
+use sn_wakeup::Backoff;
 use std::alloc::Global;
 use std::sync::Wait;
 
@@ -102,11 +103,11 @@ pub fn lead<R: Wait, S: Sink, G: Gate>(
     ensures names { out.new.names.now ≡ out.old.names.now }
     ensures same_sink { out.new.sink.ghost_name ≡ out.old.sink.ghost_name }
 {
-    let mut search = crew.search();
+    let mut backoff = Backoff::new(crew.output());
     for _ in rt.forever() {
         match read_or_serve(rt, alloc, crew, root, out) {
-            Turn::Went => crew.renew(&mut search),
-            Turn::Idle => crew.wait(rt, &mut search),
+            Turn::Went => backoff.reset(),
+            Turn::Idle => backoff.wait(rt),
             Turn::Ended(outcome) => return outcome,
         }
     }

@@ -7,5 +7,6 @@ mod crew;
 pub mod laws;
 mod lead;
 mod run;
+mod slots;
 
 pub use run::crew_run;

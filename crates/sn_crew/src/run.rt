@@ -81,7 +81,7 @@ fn lead_all<R: Threads + Wait + Sync, S: Sink, G: Gate>(
     ensures names { out.new.names.now ≡ out.old.names.now }
     ensures same_sink { out.new.sink.ghost_name ≡ out.old.sink.ghost_name }
 {
-    let Ok(crew) = Crew::new(alloc, gate) else {
+    let Ok(crew) = Crew::new(alloc, gate, root) else {
         return Outcome::Memory;
     };
     crew.admit(rt, nodes);

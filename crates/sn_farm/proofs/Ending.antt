@@ -20,7 +20,7 @@ use Rattle.sn_view.specs.View.{View}
 use Rattle.sn_view.proofs.Came.{may_begins}
 use Rattle.sn_farm.specs.Farmed.{HasPrinted, IsAllWritten, IsFaulted, IsWhole}
 use Rattle.sn_farm.specs.Turns.{Goes, LacksLast, Writes, WritesPart, WritesUpTo, shows}
-use Rattle.sn_farm.specs.declared.desk.Turn.TheVariants.{Ended}
+use Rattle.sn_farm.specs.declared.owner.Turn.TheVariants.{Ended}
 use Rattle.sn_model.specs.declared.outcome.Outcome.{Outcome}
 use Rattle.sn_model.specs.declared.outcome.Outcome.TheVariants.{Whole, Faulted, WriteFault, Memory}
 use Rattle.sn_farm.proofs.Turning.{lines_more, none_more}

@@ -14,8 +14,8 @@ use Rattle.sn_view.specs.Placed.{AtRest}
 use Rattle.sn_view.specs.View.{View}
 use Rattle.sn_farm.specs.Events.{Emits}
 use Rattle.sn_farm.specs.Turns.{EndsAs, Goes, IsEarly, IsOver, LacksLast, Shown, TurnsAs, Writes, WritesPart, WritesUpTo, shows}
-use Rattle.sn_farm.specs.declared.desk.Turn.{Turn}
-use Rattle.sn_farm.specs.declared.desk.Turn.TheVariants.{Went, Idle, Ended}
+use Rattle.sn_farm.specs.declared.owner.Turn.{Turn}
+use Rattle.sn_farm.specs.declared.owner.Turn.TheVariants.{Went, Idle, Ended}
 use Rattle.sn_model.specs.declared.outcome.Outcome.{Outcome}
 use Rattle.sn_model.specs.declared.outcome.Outcome.TheVariants.{Whole, Faulted, WriteFault, Memory}
 

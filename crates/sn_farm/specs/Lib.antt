@@ -1,4 +1,4 @@
 pub mod Events
 pub mod Turns
-pub mod Desks
+pub mod OwnerEnds
 pub mod Farmed

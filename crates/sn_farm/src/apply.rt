@@ -31,9 +31,9 @@ pub fn apply<R: Wait>(
     ensures emits { MatchResult result (λ effect. Emits (came_out effect) (seen graph.old) (seen graph.new)) (λ _. Emits [] (seen graph.old) (seen graph.new)) }
 {
     if graph.applied() >= MOST_EVENTS {
-        let bed = Parker::new();
+        let parker = Parker::new();
         for _ in rt.forever() {
-            bed.park(rt);
+            parker.park(rt);
         }
         unreachable!()
     }

@@ -11,13 +11,13 @@ ghost use Rattle.sn_view.specs.Next.{start_view};
 ghost use Rattle.sn_view.specs.Placed.{AtRest};
 ghost use Rattle.sn_view.specs.Seen.{Can};
 ghost use Rattle.sn_graph.specs.Graph.{IsGraphOf, seen};
-ghost use Rattle.sn_farm.specs.Desks.{IsDeskOf};
+ghost use Rattle.sn_farm.specs.OwnerEnds.{AreEndsOf};
 ghost use Rattle.sn_farm.specs.Farmed.{HasPrinted, IsAllWritten, IsFaulted, IsWhole};
 ghost use Rattle.sn_farm.specs.Turns.{Goes, shows};
-ghost use Rattle.sn_farm.specs.declared.desk.Turn.TheVariants.{Ended};
+ghost use Rattle.sn_farm.specs.declared.owner.Turn.TheVariants.{Ended};
 ghost use Rattle.sn_model.specs.declared.outcome.Outcome.TheVariants as outcome;
 
-use crate::desk::{Desk, end_at_refusal};
+use crate::owner::{OwnerEnds, end_at_refusal};
 use crate::drive::drive;
 use sn_graph::Graph;
 use sn_io::{Gate, Sink};
@@ -25,36 +25,36 @@ use sn_jobs::{JobHand, make};
 use sn_list::Memory;
 use sn_model::{Outcome, Run};
 use sn_output::LineSink;
-use sn_workers::{Hall, Signals, help};
+use sn_workers::{Shared, Signals, help};
 use std::alloc::Global;
 use std::sync::{Arc, Wait};
 use std::thread::{Threads, join_mut};
 
-/// The owner's desk, and the hand of the workers.
-fn open(alloc: Global, run: &Arc<Run>, alone: bool) -> Result<(Desk, JobHand), Memory>
-    ensures desk { IfOk result (λ made. IsDeskOf run.now.value made.0) }
+/// The owner's ends of both queues, and the hand of the workers.
+fn open(alloc: Global, run: &Arc<Run>, alone: bool) -> Result<(OwnerEnds, JobHand), Memory>
+    ensures ends { IfOk result (λ made. AreEndsOf run.now.value made.0) }
     ensures hand { IfOk result (λ made. made.1.made.run ≡ run.now.value) }
 {
     let (owner, mut theirs) = make(alloc, run, run.queue())?;
     let hand = theirs.split()?;
-    let desk = Desk { owner, hand, alone };
-    Ok((desk, theirs))
+    let ends = OwnerEnds { owner, hand, alone };
+    Ok((ends, theirs))
 }
 
 /// Drives a graph while other threads make calls.
 fn drive_with<R: Threads + Wait + Sync, S: Sink, G: Gate>(
     rt: &R,
-    hall: &Hall<G>,
-    desk: &mut Desk,
+    shared: &Shared<G>,
+    ends: &mut OwnerEnds,
     theirs: &mut JobHand,
     workers: u32,
     graph: &mut Graph,
     out: &mut LineSink<S>,
 ) -> Outcome
-    requires desk { IsDeskOf hall.now.run.now.value desk.old }
-    requires hand { theirs.old.made.run ≡ hall.now.run.now.value }
-    requires of { IsGraphOf graph.old hall.now.run.now.value }
-    ensures of { IsGraphOf graph.new hall.now.run.now.value }
+    requires ends { AreEndsOf shared.now.run.now.value ends.old }
+    requires hand { theirs.old.made.run ≡ shared.now.run.now.value }
+    requires of { IsGraphOf graph.old shared.now.run.now.value }
+    ensures of { IsGraphOf graph.new shared.now.run.now.value }
     ensures goes { Goes out.old.names.now (shows (seen graph.old) (S.held out.old.sink.now) (S.faults out.old.sink.now)) (shows (seen graph.new) (S.held out.new.sink.now) (S.faults out.new.sink.now)) (Ended result) }
     ensures names { out.new.names.now ≡ out.old.names.now }
     ensures same_sink { out.new.sink.ghost_name ≡ out.old.sink.ghost_name }
@@ -62,17 +62,17 @@ fn drive_with<R: Threads + Wait + Sync, S: Sink, G: Gate>(
     let ((), outcome) = join_mut(
         rt,
         &mut ||
-            requires { theirs.now.made.run ≡ hall.now.run.now.value }
-        { help(rt, hall, theirs, workers) },
+            requires { theirs.now.made.run ≡ shared.now.run.now.value }
+        { help(rt, shared, theirs, workers) },
         &mut || -> Outcome
-            requires { IsDeskOf hall.now.run.now.value desk.now × IsGraphOf graph.now hall.now.run.now.value }
-            ensures of { IsGraphOf graph.exit.now hall.entry.now.run.now.value }
+            requires { AreEndsOf shared.now.run.now.value ends.now × IsGraphOf graph.now shared.now.run.now.value }
+            ensures of { IsGraphOf graph.exit.now shared.entry.now.run.now.value }
             ensures goes { Goes out.entry.now.names.now (shows (seen graph.entry.now) (S.held out.entry.now.sink.now) (S.faults out.entry.now.sink.now)) (shows (seen graph.exit.now) (S.held out.exit.now.sink.now) (S.faults out.exit.now.sink.now)) (Ended result) }
             ensures names { out.exit.now.names.now ≡ out.entry.now.names.now }
             ensures same_sink { out.exit.now.sink.ghost_name ≡ out.entry.now.sink.ghost_name }
         {
-            let outcome = drive(rt, hall, desk, graph, out);
-            hall.signals.end();
+            let outcome = drive(rt, shared, ends, graph, out);
+            shared.signals.end();
             outcome
         },
     );
@@ -82,25 +82,25 @@ fn drive_with<R: Threads + Wait + Sync, S: Sink, G: Gate>(
 /// Drives a graph with all that a run needs, alone or with others.
 fn drive_all<R: Threads + Wait + Sync, S: Sink, G: Gate>(
     rt: &R,
-    hall: &Hall<G>,
+    shared: &Shared<G>,
     workers: u32,
     graph: &mut Graph,
     out: &mut LineSink<S>,
 ) -> Outcome
-    requires of { IsGraphOf graph.old hall.now.run.now.value }
-    ensures of { IsGraphOf graph.new hall.now.run.now.value }
+    requires of { IsGraphOf graph.old shared.now.run.now.value }
+    ensures of { IsGraphOf graph.new shared.now.run.now.value }
     ensures goes { Goes out.old.names.now (shows (seen graph.old) (S.held out.old.sink.now) (S.faults out.old.sink.now)) (shows (seen graph.new) (S.held out.new.sink.now) (S.faults out.new.sink.now)) (Ended result) }
     ensures names { out.new.names.now ≡ out.old.names.now }
     ensures same_sink { out.new.sink.ghost_name ≡ out.old.sink.ghost_name }
 {
     let alone = workers < 2;
-    let Ok((mut desk, mut theirs)) = open(hall.alloc, hall.run, alone) else {
-        return end_at_refusal(hall, graph);
+    let Ok((mut ends, mut theirs)) = open(shared.alloc, shared.run, alone) else {
+        return end_at_refusal(shared, graph);
     };
     if alone {
-        return drive(rt, hall, &mut desk, graph, out);
+        return drive(rt, shared, &mut ends, graph, out);
     }
-    drive_with(rt, hall, &mut desk, &mut theirs, workers, graph, out)
+    drive_with(rt, shared, &mut ends, &mut theirs, workers, graph, out)
 }
 
 /// Drives a graph to its end, at which nothing was applied yet. The calling thread applies events and writes the line of each record that
@@ -133,13 +133,13 @@ pub fn farm_drive<R: Threads + Wait + Sync, S: Sink, G: Gate>(
     ensures names { out.new.names.now ≡ out.old.names.now }
     ensures same_sink { out.new.sink.ghost_name ≡ out.old.sink.ghost_name }
 {
-    let hall = Hall {
+    let shared = Shared {
         alloc,
         run,
         gate,
         signals: Signals::new(),
     };
-    let outcome = drive_all(rt, &hall, workers, graph, out);
+    let outcome = drive_all(rt, &shared, workers, graph, out);
     let _out = graph.out();
     outcome
 }

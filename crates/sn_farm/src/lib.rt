@@ -4,7 +4,7 @@
 #![tactic(auto)]
 
 mod apply;
-mod desk;
+mod owner;
 mod drive;
 mod farm;
 

@@ -15,6 +15,7 @@ use sn_list::{Memory, Seq};
 use sn_model::{Run, Trail};
 use sn_net::Key;
 use sn_stream::{GetEnd, PutEnd, StreamItem};
+use sn_wakeup::Waker;
 use std::alloc::Global;
 use std::marker::Model;
 use std::sync::Arc;
@@ -25,6 +26,14 @@ pub struct Child {
     pub key: Key,
     pub to: Outbox,
     pub from: GetEnd,
+}
+
+impl Child {
+    /// What happens at the other ends of its streams wakes this.
+    fn register(&self, waker: &Arc<Waker>) -> Result<(), Memory> {
+        self.to.register(waker)?;
+        self.from.register(waker)
+    }
 }
 
 /// The node of a choice, a level of a star or a split. What it has given is its decisions on what it has received, each that asks for a
@@ -129,6 +138,23 @@ impl Fork {
         &self.steps
     }
 
+    /// What happens at the other ends of its streams wakes this, those of children that come later too.
+    pub fn register(&self, waker: &Arc<Waker>) -> Result<(), Memory> {
+        self.input.register(waker)?;
+        for child in self.children.iter() {
+            child.register(waker)?;
+        }
+        self.output.register(waker)
+    }
+
+    /// What happens at the other ends of a new child's streams wakes the fork, if anything does.
+    fn register_at(&self, child: &Child) -> Result<(), Memory> {
+        match self.input.waker() {
+            None => Ok(()),
+            Some(waker) => child.register(waker),
+        }
+    }
+
     /// Adds the child to which the item that waits goes. For want of memory it is given up, and nothing has changed.
     pub fn add_child(&mut self, child: Child) -> Result<(), Memory>
         requires lacks { Lacks self.old child.key }
@@ -137,6 +163,7 @@ impl Fork {
         ensures ok { OnOk result (self.new ≡ record self.old { children = self.old.children ++ child_seen child ∷ [] }) }
         ensures err { OnErr result (self.new ≡ self.old) }
     {
+        self.register_at(&child)?;
         self.children.reserve(1)?;
         enter(&mut self.replicas, child.key, self.children.len())?;
         self.children.push_reserved(child);

@@ -17,6 +17,7 @@ use Rattle.sn_list.proofs.seq.Seq.TheSendSync as seq
 use Rattle.sn_record.proofs.label_map.LabelMap.TheSendSync as label_map
 use Rattle.sn_record.proofs.value.Value.TheLaws.TheKnot as value
 use Rattle.sn_record.specs.contracts.item.Item as record_item
+use Rattle.sn_wakeup.proofs.Crossing.{listener_send, listener_sync}
 use Rattle.sn_stream.specs.contracts.ends.GetEnd as get_end
 use Rattle.sn_stream.specs.contracts.ends.PutEnd as put_end
 use Rattle.sn_stream.specs.contracts.ends.Stream as stream
@@ -39,10 +40,10 @@ line_sync =
     (rule.ghosts item.the_row known.the_row flow.the_row flow_rule.ghosts flow_rule.dict) ghosts (option_crosses.the_send item.the_row item_send) send sync frees
 
 stream_send : IsSend stream.the_row
-stream_send = declared_send stream.the_type (line_send, (search (sendable, crosses), (search (sendable, crosses), tt)))
+stream_send = declared_send stream.the_type (line_send, (search (sendable, crosses), (search (sendable, crosses), (listener_send, (listener_send, tt)))))
 
 stream_sync : IsSync stream.the_row
-stream_sync = declared_sync stream.the_type (line_sync, (search (sendable, crosses), (search (sendable, crosses), tt)))
+stream_sync = declared_sync stream.the_type (line_sync, (search (sendable, crosses), (search (sendable, crosses), (listener_sync, (listener_sync, tt)))))
 
 -- for the closures of callers, which take an end along, and items
 pub items_sync : IsSync record_item.the_row

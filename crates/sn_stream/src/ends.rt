@@ -15,17 +15,23 @@ use crossbeam_queue::Pass;
 use sn_list::Memory;
 use sn_model::Run;
 use sn_net_histories::Place;
+use sn_wakeup::{Listener, Waker};
 use std::alloc::Global;
 use std::marker::{Brand, Model};
 use std::snapshot::Snapshot;
 use std::sync::{Arc, Wait};
 
-/// The queue, and the run and the place whose history it follows.
+/// The queue, and the run and the place whose history it follows; and who is woken by what happens at the other end, of which nothing is
+/// claimed.
 #[derive(Drop)]
 pub struct Stream {
     line: Line,
     run: Snapshot<Run>,
     place: Snapshot<Place>,
+    /// Notified of each entry that is put.
+    reader: Listener,
+    /// Notified of each entry that is got, which makes room.
+    writer: Listener,
 }
 
 /// Puts entries. It is the only one that does.
@@ -85,7 +91,14 @@ impl PutEnd {
         ensures full { OnErr result (WasFull self.old) }
     {
         let line = &self.stream.line;
-        line.push_as::<Puts, R>(rt, &mut self.pass, x)
+        line.push_as::<Puts, R>(rt, &mut self.pass, x)?;
+        self.stream.reader.notify(rt);
+        Ok(())
+    }
+
+    /// Whoever puts here is woken by this when there is room again.
+    pub fn register(&self, waker: &Arc<Waker>) -> Result<(), Memory> {
+        self.stream.writer.register(waker)
     }
 }
 
@@ -100,7 +113,21 @@ impl GetEnd {
         ensures empty { IfNone result (WasEmpty self.old) }
     {
         let line = &self.stream.line;
-        line.pop_as::<Gets, R>(rt, &mut self.pass)
+        let entry = line.pop_as::<Gets, R>(rt, &mut self.pass);
+        if entry.is_some() {
+            self.stream.writer.notify(rt);
+        }
+        entry
+    }
+
+    /// Whoever gets here is woken by this when an entry comes.
+    pub fn register(&self, waker: &Arc<Waker>) -> Result<(), Memory> {
+        self.stream.reader.register(waker)
+    }
+
+    /// By what whoever gets here is woken, if it registered.
+    pub fn waker(&self) -> Option<&Arc<Waker>> {
+        self.stream.reader.waker()
     }
 }
 
@@ -124,6 +151,8 @@ fn made<J: Stating>(
         line,
         run: Snapshot::<Run>::of(run),
         place: Snapshot::of(place),
+        reader: Listener::new(),
+        writer: Listener::new(),
     };
     let stream = Arc::new(alloc, stream)?;
     let put = PutEnd {

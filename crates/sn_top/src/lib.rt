@@ -2,6 +2,7 @@
 //! on standard error and the exit status.
 #![tactic(auto)]
 
+mod engines;
 mod sample;
 mod serve;
 mod shared;

@@ -1,13 +1,5 @@
 //! What a run with workers prints.
-ghost use Rattle.std.specs.Prelude.{◌≡◌, ◌≤◌, IfErr, IfOk, List, None, Some};
-ghost use Rattle.sn_record.specs.declared.item.Fault.{Fault as EndingFault};
-ghost use Rattle.sn_io.specs.Causes.{Rose};
-ghost use Rattle.sn_io.specs.Told.{AppendsPrefix};
-ghost use Rattle.sn_output.specs.Printed.{printed};
-ghost use Rattle.sn_farm.specs.Farmed.{HasPrinted as FarmHasPrinted};
-ghost use Rattle.sn_model.specs.declared.outcome.Outcome.TheVariants as outcome;
-ghost use Rattle.sn_model.specs.Run.{MayGive};
-ghost use Rattle.sn_net.specs.Item.{ModelItem};
+ghost use Rattle.std.specs.Prelude.{◌≤◌, IfErr, IfOk};
 ghost use Rattle.sn_net.specs.WellFormed.{FitsBoxes};
 ghost use Rattle.sn_model.specs.Ranges.{IsWithin};
 ghost use Rattle.sn_model.specs.declared.run.TheConstants.{LONGEST_QUEUE};
@@ -16,19 +8,17 @@ ghost use Rattle.sn_plain.specs.Ready.{setting_at};
 ghost use Rattle.sn_plain.specs.Runs.{HasPrinted, WhyUnfinished, WithWorkers};
 ghost use Rattle.sn_plain.specs.Seen.{seen_sink};
 
+use crate::engines::run_together;
 use crate::shared::share;
-use sn_farm::farm_run;
 use sn_io::{Gate, Sink};
 use sn_list::Held;
 use sn_load::items_of;
 use sn_model::{Outcome, Run};
-use sn_names::Names;
-use sn_output::LineSink;
 use sn_plain::Ready;
 use sn_record::Fault;
 use sn_stop::Stop;
 use std::alloc::Global;
-use std::sync::{Arc, Wait};
+use std::sync::Wait;
 use std::thread::Threads;
 
 /// How a run with workers is set: the fuel of each call of a box, how many replicas a star may have, how many workers there are, and how
@@ -39,27 +29,6 @@ pub struct Setup {
     pub depth: u32,
     pub workers: u32,
     pub queue: u32,
-}
-
-/// Drives a run to its end with workers, and prints the line of each record that comes out.
-fn farm_to<R: Threads + Wait + Sync, O: Sink, G: Gate>(
-    rt: &R,
-    alloc: Global,
-    run: &Arc<Run>,
-    names: &Names,
-    workers: u32,
-    gate: &G,
-    out: &mut O,
-) -> Outcome
-    requires workers { (1 ≤ workers) × (workers ≤ 64) }
-    ensures part { ∥ ((ys : List ModelItem) × MayGive run.now.value ys × AppendsPrefix (O.held out.old) (O.held out.new) (printed names.now ys)) ∥₁ }
-    ensures whole { result ≡ outcome.Whole → FarmHasPrinted names.now run.now.value None (O.held out.old) (O.held out.new) }
-    ensures faulted { (fault : EndingFault) → result ≡ outcome.Faulted fault → FarmHasPrinted names.now run.now.value (Some fault) (O.held out.old) (O.held out.new) }
-    ensures rose { result ≡ outcome.WriteFault → Rose (O.faults out.old) (O.faults out.new) }
-    ensures later { O.faults out.old ≤ O.faults out.new }
-{
-    let mut lines = LineSink { sink: out, names };
-    farm_run(rt, alloc, run, workers, gate, &mut lines)
 }
 
 /// Runs a network over its records with workers, of which the calling thread is one. It prints each record that comes out, and answers
@@ -95,7 +64,15 @@ pub fn print_with_workers<R: Threads + Wait + Sync, O: Sink, G: Gate>(
     let (net, boxes) = parts.into_inner();
     let run = Run::new(net, boxes, setup.fuel, setup.depth, setup.queue, items);
     let shared = share(alloc, run)?;
-    match farm_to(rt, alloc, &shared, &names.value, setup.workers, gate, out) {
+    match run_together(
+        rt,
+        alloc,
+        shared,
+        &names.value,
+        setup.workers,
+        gate,
+        out,
+    ) {
         Outcome::Whole => Ok(None),
         Outcome::Faulted(fault) => Ok(Some(fault)),
         Outcome::WriteFault => Err(Stop::Write),

@@ -47,12 +47,12 @@ impl<R: Wait + Sync> Gate for Holding<'_, R> {
         self.entered.fetch_add(1, Ordering::SeqCst);
         let inside = self.inside.fetch_add(1, Ordering::SeqCst).wrapping_add(1);
         self.most.fetch_max(inside, Ordering::SeqCst);
-        let bed = Parker::new();
+        let parker = Parker::new();
         for _ in 0..self.milliseconds {
             if self.most.load(Ordering::SeqCst) >= self.wanted {
                 return;
             }
-            bed.park_timeout(self.rt, Duration::from_millis(1));
+            parker.park_timeout(self.rt, Duration::from_millis(1));
         }
     }
 

@@ -49,7 +49,7 @@ impl Served {
     }
 }
 
-fn owned(rt: &impl Abort, alloc: Global, words: &[&str]) -> Vec<String> {
+pub fn owned(rt: &impl Abort, alloc: Global, words: &[&str]) -> Vec<String> {
     let mut owned = Vec::new(alloc);
     for word in words {
         let word = String::from_str(alloc, word).expect(rt, "memory");

@@ -3,13 +3,10 @@ ghost use Rattle.sn_words.specs.Command.{IsInRange};
 ghost use Rattle.sn_plain.specs.Answer.{is_plain};
 
 use crate::served::{Served, files, serve_files, sink, try_files, try_sink};
-use sn_io::{MemFiles, MemSink, OpenGate};
+use sn_io::OpenGate;
 use sn_list::{Memory, Seq};
 use sn_top::{Command, DEFAULT_DEPTH, DEFAULT_FUEL, Status, serve_plain};
 use std::alloc::Global;
-use std::process::Abort;
-use std::sync::Wait;
-use std::thread::Threads;
 
 const SOURCE: &[u8] = b"net main ({a} -> {b}) connect [{a} -> {b=a}];";
 
@@ -29,41 +26,6 @@ fn command(alloc: Global) -> Result<Command, Memory>
         fuel: DEFAULT_FUEL,
         depth: DEFAULT_DEPTH,
     })
-}
-
-fn serve(rt: &impl Abort, alloc: Global, mut files: MemFiles, mut out: MemSink) -> Served {
-    let command = command(alloc).expect(rt, "memory");
-    let mut err = sink(rt, alloc, 64);
-    let status = serve_plain(alloc, &command, &mut files, &mut out, &mut err);
-    Served { status, out, err }
-}
-
-/// Whether a failing call to the files is told in this line.
-fn tells_read(rt: &impl Abort, alloc: Global, call: u64, line: &[u8]) -> bool {
-    let mut failing = files(rt, alloc, SOURCE, INPUT);
-    failing.fail_at(call).expect(rt, "memory");
-    serve(rt, alloc, failing, sink(rt, alloc, 1)).is(Status::Read, b"", line)
-}
-
-#[test]
-fn failed_reads_are_told(rt: HostRuntime) {
-    for (call, line) in [(1, b"read: s\n"), (2, b"read: i\n")] {
-        assert!(rt; tells_read(&rt, rt.alloc(), call, line), "call {call}");
-    }
-}
-
-/// What is served where a call to `out` fails.
-fn unwritten(rt: &impl Abort, alloc: Global, call: u64) -> Served {
-    let stored = files(rt, alloc, SOURCE, INPUT);
-    let mut out = sink(rt, alloc, 1);
-    out.fail_at(call).expect(rt, "memory");
-    serve(rt, alloc, stored, out)
-}
-
-#[test]
-fn failed_writes_are_told(rt: HostRuntime) {
-    let served = unwritten(&rt, rt.alloc(), 4);
-    assert!(rt; served.is(Status::Write, b"{b=", b"write\n"));
 }
 
 /// What may be left where memory may be wanted: all of the output, or some first bytes of it and of the line.
@@ -105,18 +67,4 @@ fn words_are_served(rt: HostRuntime) {
         let served = serve_files(&rt, rt.alloc(), &words, stored, out, &OpenGate);
         assert!(rt; served.is(Status::Ok, OUTPUT, b""), "{command}");
     }
-}
-
-/// What `run` does where a call to `out` fails.
-fn run_unwritten<R: Abort + Threads + Wait + Sync>(rt: &R, alloc: Global, call: u64) -> Served {
-    let stored = files(rt, alloc, SOURCE, INPUT);
-    let mut out = sink(rt, alloc, 64);
-    out.fail_at(call).expect(rt, "memory");
-    serve_files(rt, alloc, &["run", "s", "i"], stored, out, &OpenGate)
-}
-
-#[test]
-fn a_run_ends_where_the_sink_fails(rt: HostRuntime) {
-    let served = run_unwritten(&rt, rt.alloc(), 2);
-    assert!(rt; served.is(Status::Write, b"{b=1}\n", b"write\n"));
 }

@@ -5,6 +5,9 @@ ghost use Rattle.sn_turn.specs.Kinds.{way_out};
 
 use sn_component::{Component, Source};
 use sn_fork::Fork;
+use sn_list::Memory;
+use sn_wakeup::Waker;
+use std::sync::Arc;
 
 /// What a node is, with the ends that it owns. Each of these types keeps what it has given for what it has received.
 #[derive(Drop)]
@@ -21,4 +24,15 @@ pub enum Kind {
 pub struct Node {
     pub kind: Kind,
     pub ghost going: { has_ended (way_out kind) ≡ false },
+}
+
+impl Node {
+    /// What happens at the other ends of the node's streams wakes this: an entry that comes, and room for one of its own.
+    pub fn register(&self, waker: &Arc<Waker>) -> Result<(), Memory> {
+        match &self.kind {
+            Kind::Source(source) => source.register(waker),
+            Kind::Component(component) => component.register(waker),
+            Kind::Fork(fork) => fork.register(waker),
+        }
+    }
 }

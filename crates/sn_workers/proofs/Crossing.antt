@@ -4,7 +4,7 @@ use denote.Ref.{NamedLft}
 use denote.Param.Send.{IsSync, sendable}
 use Rattle.std.proofs.Crossing.{crosses}
 use Rattle.sn_model.proofs.Crossing.{run_send, run_sync}
-use Rattle.sn_workers.specs.contracts.hall.Hall as hall
+use Rattle.sn_workers.specs.contracts.shared.Shared as shared
 
-pub hall_sync : (κ : NamedLft) (G : RattleType) → IsSync G → IsSync (hall.the_row κ G)
-hall_sync κ G gate = search (sendable, crosses, run_send, run_sync) depth 60 fits 100000
+pub shared_sync : (κ : NamedLft) (G : RattleType) → IsSync G → IsSync (shared.the_row κ G)
+shared_sync κ G gate = search (sendable, crosses, run_send, run_sync) depth 60 fits 100000

@@ -1,20 +1,20 @@
 //! What the owner and the workers tell each other beside jobs and answers.
-use crate::bell::Bell;
 use crossbeam_utils::CachePadded;
+use sn_wakeup::EventCount;
 use std::sync::atomic::{AtomicBool, Ordering};
 
-/// Two flags, on lines of their own, since each is read again and again by other threads than those that write beside it; and a bell for
-/// each thing that a thread may wait for.
+/// Two flags, on lines of their own, since each is read again and again by other threads than those that write beside it; and an event
+/// for each thing that a thread may wait for.
 #[derive(Drop)]
 pub struct Signals {
     over: CachePadded<AtomicBool>,
     refused: CachePadded<AtomicBool>,
-    /// Rung for each job, and at the end: idle workers sleep on it.
-    pub jobs: Bell,
-    /// Rung for each answer, and where memory is refused: the owner sleeps on it.
-    pub answers: Bell,
-    /// Rung where an answer was collected, and at the end: workers with an answer for which there is no room sleep on it.
-    pub room: Bell,
+    /// Notified for each job, and at the end: idle workers sleep on it.
+    pub jobs: EventCount,
+    /// Notified for each answer, and where memory is refused: the owner sleeps on it.
+    pub answers: EventCount,
+    /// Notified where an answer was collected, and at the end: workers with an answer for which there is no room sleep on it.
+    pub room: EventCount,
 }
 
 impl Signals {
@@ -22,17 +22,17 @@ impl Signals {
         Signals {
             over: CachePadded::new(AtomicBool::new(false)),
             refused: CachePadded::new(AtomicBool::new(false)),
-            jobs: Bell::new(),
-            answers: Bell::new(),
-            room: Bell::new(),
+            jobs: EventCount::new(),
+            answers: EventCount::new(),
+            room: EventCount::new(),
         }
     }
 
     /// The owner says that the workers are to end.
     pub fn end(&self) {
         self.over.store(true, Ordering::SeqCst);
-        self.jobs.ring_for_all();
-        self.room.ring_for_all();
+        self.jobs.notify_all();
+        self.room.notify_all();
     }
 
     pub fn is_over(&self) -> bool {
@@ -42,7 +42,7 @@ impl Signals {
     /// A worker was refused memory for a call, which will have no answer.
     pub fn refuse(&self) {
         self.refused.store(true, Ordering::SeqCst);
-        self.answers.ring();
+        self.answers.notify_one();
     }
 
     pub fn is_refused(&self) -> bool {

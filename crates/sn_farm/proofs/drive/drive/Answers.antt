@@ -1,13 +1,13 @@
 use Rattle.std.proofs.Common.{refl, ◌∙◌}
 use Rattle.sn_graph.specs.Graph.{seen}
-use Rattle.sn_farm.specs.declared.desk.Turn.TheVariants.{Ended, Idle, Went}
+use Rattle.sn_farm.specs.declared.owner.Turn.TheVariants.{Ended, Idle, Went}
 use Rattle.sn_farm.proofs.Turning.{goes_on, idled, stays}
 use Rattle.sn_farm.proofs.drive.drive.Goals as goal
 
 pub loop-init : goal.loop-init
 loop-init g c = record {
   ready = (tt, tt);
-  desk = c.requires.desk;
+  ends = c.requires.ends;
   of = c.requires.of;
   goes = stays c.args.out.now.names.now (seen c.args.graph.now) _ _;
   names = refl;
@@ -17,7 +17,7 @@ loop-init g c = record {
 pub loop-preserved-in-Went : goal.loop-preserved-in-Went
 loop-preserved-in-Went g c = record {
   ready = (tt, tt);
-  desk = c.turn.ensures.desk;
+  ends = c.turn.ensures.ends;
   of = c.turn.ensures.of;
   goes = goes_on c.args.out.now.names.now _ _ _ _ c.turn.result Went c.loop.invariant.names c.in-Went.is c.loop.invariant.goes c.turn.ensures.goes;
   names = c.turn.ensures.names ∙ c.loop.invariant.names;
@@ -27,7 +27,7 @@ loop-preserved-in-Went g c = record {
 pub loop-preserved : goal.loop-preserved
 loop-preserved g c = record {
   ready = (tt, tt);
-  desk = c.turn.ensures.desk;
+  ends = c.turn.ensures.ends;
   of = c.turn.ensures.of;
   goes = idled c.args.out.now.names.now _ _ (goes_on c.args.out.now.names.now _ _ _ _ c.turn.result Idle c.loop.invariant.names c.in-Idle.is c.loop.invariant.goes c.turn.ensures.goes);
   names = c.turn.ensures.names ∙ c.loop.invariant.names;

@@ -2,7 +2,7 @@ use Rattle.std.proofs.Common.{ap, subst}
 use Rattle.sn_view.specs.View.{View}
 use Rattle.sn_graph.specs.Graph.{seen}
 use Rattle.sn_farm.specs.Turns.{Goes, shows}
-use Rattle.sn_farm.specs.declared.desk.Turn.TheVariants.{Ended}
+use Rattle.sn_farm.specs.declared.owner.Turn.TheVariants.{Ended}
 use Rattle.sn_model.specs.declared.outcome.Outcome.{Outcome}
 use Rattle.sn_farm.proofs.Ending.{drive_faulted, drive_first, drive_last, drive_written}
 use Rattle.sn_farm.proofs.farm.farm_drive.Goals as goal

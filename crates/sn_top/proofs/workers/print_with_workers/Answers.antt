@@ -24,34 +24,34 @@ returns-in_err-shared-clause-ended g c =
 
 pub returns-in-Whole-clause-done : goal.returns-in-Whole-clause-done
 returns-in-Whole-clause-done g c =
-    let out : Sink = seen_sink g.O.Sink.held g.O.Sink.faults c.args.out.now c.farm_to.new.out in
+    let out : Sink = seen_sink g.O.Sink.held g.O.Sink.faults c.args.out.now c.run_together.new.out in
     let run : Run = c.in_ok-shared.shared.value in
     let is : run ≡ c.new-run.result = c.in_ok-shared.ensures in
     farm_printed (limits_of c.args.setup.fuel c.args.setup.depth) c.args.ready out c.requires.formed c.requires.typed run (ap net_of is ∙ c.new-run.ensures.net ∙ ap (λ (x : _). x.0) c.into_inner-net.ensures) (ap boxes_of is ∙ c.new-run.ensures.boxes ∙ ap (λ (x : _). x.1) c.into_inner-net.ensures) (ap fuel_of is ∙ c.new-run.ensures.fuel) (ap depth_of is ∙ c.new-run.ensures.depth)
-    (ap input_of is ∙ ap (λ (xs : List Item). map modelled xs) c.new-run.ensures.items ∙ c.in_ok-items.ensures.items) None (c.farm_to.ensures.whole c.in-Whole.is)
+    (ap input_of is ∙ ap (λ (xs : List Item). map modelled xs) c.new-run.ensures.items ∙ c.in_ok-items.ensures.items) None (c.run_together.ensures.whole c.in-Whole.is)
 
 pub returns-in-Faulted-clause-done : goal.returns-in-Faulted-clause-done
 returns-in-Faulted-clause-done g c =
-    let out : Sink = seen_sink g.O.Sink.held g.O.Sink.faults c.args.out.now c.farm_to.new.out in
+    let out : Sink = seen_sink g.O.Sink.held g.O.Sink.faults c.args.out.now c.run_together.new.out in
     let run : Run = c.in_ok-shared.shared.value in
     let is : run ≡ c.new-run.result = c.in_ok-shared.ensures in
     farm_printed (limits_of c.args.setup.fuel c.args.setup.depth) c.args.ready out c.requires.formed c.requires.typed run (ap net_of is ∙ c.new-run.ensures.net ∙ ap (λ (x : _). x.0) c.into_inner-net.ensures) (ap boxes_of is ∙ c.new-run.ensures.boxes ∙ ap (λ (x : _). x.1) c.into_inner-net.ensures) (ap fuel_of is ∙ c.new-run.ensures.fuel) (ap depth_of is ∙ c.new-run.ensures.depth)
-    (ap input_of is ∙ ap (λ (xs : List Item). map modelled xs) c.new-run.ensures.items ∙ c.in_ok-items.ensures.items) (Some c.in-Faulted.fault) (c.farm_to.ensures.faulted c.in-Faulted.fault c.in-Faulted.is)
+    (ap input_of is ∙ ap (λ (xs : List Item). map modelled xs) c.new-run.ensures.items ∙ c.in_ok-items.ensures.items) (Some c.in-Faulted.fault) (c.run_together.ensures.faulted c.in-Faulted.fault c.in-Faulted.is)
 
 pub returns-in-WriteFault-clause-ended : goal.returns-in-WriteFault-clause-ended
 returns-in-WriteFault-clause-ended g c =
-    let out : Sink = seen_sink g.O.Sink.held g.O.Sink.faults c.args.out.now c.farm_to.new.out in
+    let out : Sink = seen_sink g.O.Sink.held g.O.Sink.faults c.args.out.now c.run_together.new.out in
     let run : Run = c.in_ok-shared.shared.value in
     let is : run ≡ c.new-run.result = c.in_ok-shared.ensures in (
-      c.farm_to.ensures.rose c.in-WriteFault.is,
+      c.run_together.ensures.rose c.in-WriteFault.is,
       farm_begun (limits_of c.args.setup.fuel c.args.setup.depth) c.args.ready out c.requires.formed c.requires.typed run (ap net_of is ∙ c.new-run.ensures.net ∙ ap (λ (x : _). x.0) c.into_inner-net.ensures) (ap boxes_of is ∙ c.new-run.ensures.boxes ∙ ap (λ (x : _). x.1) c.into_inner-net.ensures) (ap fuel_of is ∙ c.new-run.ensures.fuel) (ap depth_of is ∙ c.new-run.ensures.depth)
-          (ap input_of is ∙ ap (λ (xs : List Item). map modelled xs) c.new-run.ensures.items ∙ c.in_ok-items.ensures.items) c.farm_to.ensures.part,
+          (ap input_of is ∙ ap (λ (xs : List Item). map modelled xs) c.new-run.ensures.items ∙ c.in_ok-items.ensures.items) c.run_together.ensures.part,
     )
 
 pub returns-clause-ended : goal.returns-clause-ended
 returns-clause-ended g c =
-    let out : Sink = seen_sink g.O.Sink.held g.O.Sink.faults c.args.out.now c.farm_to.new.out in
+    let out : Sink = seen_sink g.O.Sink.held g.O.Sink.faults c.args.out.now c.run_together.new.out in
     let run : Run = c.in_ok-shared.shared.value in
     let is : run ≡ c.new-run.result = c.in_ok-shared.ensures in
     farm_begun (limits_of c.args.setup.fuel c.args.setup.depth) c.args.ready out c.requires.formed c.requires.typed run (ap net_of is ∙ c.new-run.ensures.net ∙ ap (λ (x : _). x.0) c.into_inner-net.ensures) (ap boxes_of is ∙ c.new-run.ensures.boxes ∙ ap (λ (x : _). x.1) c.into_inner-net.ensures) (ap fuel_of is ∙ c.new-run.ensures.fuel) (ap depth_of is ∙ c.new-run.ensures.depth)
-    (ap input_of is ∙ ap (λ (xs : List Item). map modelled xs) c.new-run.ensures.items ∙ c.in_ok-items.ensures.items) c.farm_to.ensures.part
+    (ap input_of is ∙ ap (λ (xs : List Item). map modelled xs) c.new-run.ensures.items ∙ c.in_ok-items.ensures.items) c.run_together.ensures.part

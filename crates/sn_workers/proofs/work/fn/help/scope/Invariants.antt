@@ -2,4 +2,4 @@ use Rattle.std.proofs.Common.{◌≡◌}
 use Rattle.sn_workers.proofs.work.fn.help.scope.Given as goal
 
 abbrev pub invariant-loop : goal.invariant-loop
-invariant-loop g l = l.hand.made.run ≡ l.hall.now.run.now.value
+invariant-loop g l = l.hand.made.run ≡ l.shared.now.run.now.value

@@ -1,7 +1,7 @@
 use Rattle.std.proofs.Common.{true≢false, refl, sym, ◌∙◌}
 use Rattle.sn_graph.specs.Graph.{seen}
 use Rattle.sn_farm.proofs.Turning.{gives_up, rests}
-use Rattle.sn_farm.proofs.desk.end_at_refusal.Goals as goal
+use Rattle.sn_farm.proofs.owner.end_at_refusal.Goals as goal
 
 pub returns-then-at_rest : goal.returns-then-at_rest
 returns-then-at_rest g c names held faults = rests names (seen c.args.graph.now) _ _ (record { rest = c.if-at_rest.ensures.rest.0 refl; only = c.if-at_rest.ensures.only refl })

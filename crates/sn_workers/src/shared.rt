@@ -12,14 +12,14 @@ use std::sync::Arc;
 
 /// The run, the gate round each call, and what the threads tell each other.
 #[derive(Drop)]
-pub struct Hall<'a, G> {
+pub struct Shared<'a, G> {
     pub alloc: Global,
     pub run: &'a Arc<Run>,
     pub gate: &'a G,
     pub signals: Signals,
 }
 
-impl<G: Gate> Hall<'_, G> {
+impl<G: Gate> Shared<'_, G> {
     /// Makes the call of a job in this thread, under the gate. For want of memory the job comes back.
     pub fn make_call(&self, job: Job) -> Result<Done, Job>
         requires { IsJobOf self.now.run.now.value job }

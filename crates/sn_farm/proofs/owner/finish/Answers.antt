@@ -2,11 +2,11 @@ use Rattle.std.proofs.Common.{subst, sym, []}
 use Rattle.sn_graph.specs.Graph.{seen}
 use Rattle.sn_farm.specs.Events.{Emits}
 use Rattle.sn_farm.specs.Turns.{Goes, shows}
-use Rattle.sn_farm.specs.declared.desk.Turn.{Turn}
+use Rattle.sn_farm.specs.declared.owner.Turn.{Turn}
 use Rattle.sn_farm.proofs.Leaving.{answered}
 use Rattle.sn_farm.proofs.Turning.{goes_then, nothing}
-use Rattle.sn_farm.proofs.desk.finish.Goals as goal
-use Rattle.sn_farm.proofs.desk.finish.Goals.{in-Err-Memory, in-Ok, in-Ok-2}
+use Rattle.sn_farm.proofs.owner.finish.Goals as goal
+use Rattle.sn_farm.proofs.owner.finish.Goals.{in-Err-Memory, in-Ok, in-Ok-2}
 
 pub returns-clause-goes : goal.returns-clause-goes
 returns-clause-goes g c names held faults =
