@@ -13,22 +13,15 @@ const DEFAULT_DEPTH: u32 = 1_000;
 
 const DEFAULT_QUEUE: u32 = 16;
 
-const DEFAULT_WORKERS: u32 = 4;
-
-const MOST_WORKERS: u64 = 64;
-
-/// Units of fuel for each call of a box, how many replicas a star may have, how many entries a stream between two nodes holds, and how many
-/// workers there are.
+/// Units of fuel for each call of a box, how many replicas a star may have, and how many entries a stream between two nodes holds.
 #[derive(Clone, Copy)]
 pub struct Limits {
     pub fuel: u64,
     pub depth: u32,
     pub queue: u32,
-    pub workers: u32,
     pub ghost some_fuel: { IsWithin fuel MOST_FUEL },
     pub ghost some_replicas: { IsWithin depth MOST_REPLICAS },
     pub ghost some_room: { IsWithin queue LONGEST_QUEUE },
-    pub ghost some_workers: { IsWithin workers 64 },
 }
 
 /// What is printed.
@@ -78,7 +71,6 @@ impl<'a> Command<'a> {
                 fuel: DEFAULT_FUEL,
                 depth: DEFAULT_DEPTH,
                 queue: DEFAULT_QUEUE,
-                workers: DEFAULT_WORKERS,
             },
             report: Report::Records,
         };
@@ -97,9 +89,6 @@ impl<'a> Command<'a> {
             }
             Some(("--queue", digits)) => {
                 self.limits.queue = read_up_to(u64::from(LONGEST_QUEUE), digits)? as u32
-            }
-            Some(("--workers", digits)) => {
-                self.limits.workers = read_up_to(MOST_WORKERS, digits)? as u32
             }
             Some(_) => return None,
             None if word == "--count" => self.report = Report::Counts,

@@ -1,7 +1,7 @@
 //! Runs the main net of a source over the records of an input, an event of sn_graph after the other, or a turn of a node of sn_turn after
 //! the other, and prints what comes out as `snet once` does, up to the first fault.
 //!
-//! `drive ORDER SOURCE INPUT [SEED] [--fuel=N] [--depth=N] [--queue=N] [--workers=N] [--count] [--steps]`, where ORDER says which event is next:
+//! `drive ORDER SOURCE INPUT [SEED] [--fuel=N] [--depth=N] [--queue=N] [--count] [--steps]`, where ORDER says which event is next:
 //! - `next`: what `next_event` says; each call is answered at once;
 //! - `late`: the same, but a call is answered only where nothing else may happen, the oldest alone;
 //! - `reverse`: the same, but then all calls are answered, from the last that was begun to the first;
@@ -10,8 +10,7 @@
 //! or which node takes the next turn, of a network whose merges are all deterministic:
 //! - `turns`: one after the other, and a new one behind all others;
 //! - `turns-reverse`: the same, from the last to the first;
-//! - `turns-shuffled`: any, by chance;
-//! - `crew`: whichever a worker takes, of which there are so many as `--workers` says, or 4.
+//! - `turns-shuffled`: any, by chance.
 //!
 //! With `--count` it prints how many events happened or turns were taken and how many nodes there are, in place of the records, and with `--steps`
 //! the steps from the network to the part of it that each node is. A stream between two nodes has room for so many entries as `--queue` says,
@@ -21,7 +20,6 @@
 
 mod chance;
 mod command;
-mod crew;
 mod driving;
 mod load;
 mod nodes;
@@ -32,23 +30,19 @@ mod transcript;
 mod trying;
 mod turns;
 
-use command::{Command, Limits, Report};
-use crew::print_by_crew;
+use command::{Command, Report};
 use load::{Loaded, load};
 use nodes::{count_nodes, steps_of_all};
 use order::Way;
 use refusal::Refusal;
 use sn_graph::Graph;
-use sn_io::StdSink;
-use sn_model::{Outcome, Run};
+use sn_model::Run;
 use sn_names::Names;
-use sn_output::LineSink;
 use sn_record::Item;
 use std::alloc::AllocError;
 use std::io::{ErrorKind, Write};
 use std::process::ExitCode;
 use std::sync::{Arc, Wait};
-use std::thread::Threads;
 use std::{env, fs, io};
 use to_rest::drive;
 use transcript::Transcript;
@@ -152,29 +146,8 @@ fn print_nodes(
     Ok(0)
 }
 
-/// Lets workers take turns, prints what comes out, and answers the exit status.
-fn go_by_crew<R: Threads + Wait + Sync>(
-    rt: &HostRuntime,
-    wait: &R,
-    limits: Limits,
-    run: &Arc<Run>,
-    names: &Names,
-) -> Result<u8, Refusal> {
-    let mut sink = StdSink::new(rt.stdout());
-    let mut out = LineSink {
-        sink: &mut sink,
-        names,
-    };
-    match print_by_crew(wait, rt.alloc(), run, limits.workers, &mut out)? {
-        Outcome::Whole => Ok(0),
-        Outcome::Faulted(_) => Ok(FAULT),
-        Outcome::WriteFault => Err(Refusal::Write),
-        Outcome::Memory => Err(Refusal::Workers),
-    }
-}
-
 /// Lets a run go on as the command says, prints what it asks for, and answers the exit status.
-fn go<R: Threads + Wait + Sync>(
+fn go<R: Wait>(
     rt: &HostRuntime,
     wait: &R,
     command: &Command,
@@ -190,19 +163,11 @@ fn go<R: Threads + Wait + Sync>(
             let nodes = take_turns(wait, rt.alloc(), run, order, command.seed)?;
             print_nodes(rt, command.report, names, &nodes)
         }
-        Way::Crew => match command.report {
-            Report::Records => go_by_crew(rt, wait, command.limits, run, names),
-            Report::Counts | Report::Steps => Err(Refusal::Steps),
-        },
     }
 }
 
 /// Does what the words ask for, and answers the exit status.
-fn run<R: Threads + Wait + Sync>(
-    rt: &HostRuntime,
-    wait: &R,
-    words: &[String],
-) -> Result<u8, Refusal> {
+fn run<R: Wait>(rt: &HostRuntime, wait: &R, words: &[String]) -> Result<u8, Refusal> {
     let alloc = rt.alloc();
     let command = Command::read(words).ok_or(Refusal::Usage)?;
     let Loaded { run, names } = loaded(rt, &command)?;
@@ -211,13 +176,13 @@ fn run<R: Threads + Wait + Sync>(
 }
 
 /// What the words of the command line ask for.
-fn serve<R: Threads + Wait + Sync>(rt: &HostRuntime, wait: &R) -> Result<u8, Refusal> {
+fn serve<R: Wait>(rt: &HostRuntime, wait: &R) -> Result<u8, Refusal> {
     let words = words(rt)?;
     run(rt, wait, words.as_slice())
 }
 
-/// The same, once more where memory was wanted, of which it is told only before anything is printed.
-fn serve_again<R: Threads + Wait + Sync>(rt: &HostRuntime, wait: &R) -> Result<u8, Refusal> {
+/// The same, once more where memory was wanted: nothing is printed before all is there.
+fn serve_again<R: Wait>(rt: &HostRuntime, wait: &R) -> Result<u8, Refusal> {
     match serve(rt, wait) {
         Err(Refusal::Memory) => serve(rt, wait),
         other => other,

@@ -27,8 +27,6 @@ pub enum Turns {
 pub enum Way {
     Events(Order),
     Turns(Turns),
-    /// Turns of nodes, by workers.
-    Crew,
 }
 
 impl Way {
@@ -41,7 +39,6 @@ impl Way {
             "turns" => Some(Way::Turns(Turns::Forward)),
             "turns-reverse" => Some(Way::Turns(Turns::Backward)),
             "turns-shuffled" => Some(Way::Turns(Turns::Shuffled)),
-            "crew" => Some(Way::Crew),
             _ => None,
         }
     }

@@ -22,12 +22,8 @@ pub enum Refusal {
     Calls,
     /// So many turns were taken that no more are, and the end hasn't come.
     Turns,
-    /// Nodes do not show the steps to them, and workers count nothing.
+    /// Nodes do not show the steps to them.
     Steps,
-    /// The network has a free merge.
-    Free,
-    /// Memory was wanted while workers ran.
-    Workers,
     Memory,
     Write,
 }
@@ -59,7 +55,7 @@ impl fmt::Display for Refusal {
     fn fmt<W: fmt::Write>(&self, f: &mut fmt::Formatter<W>) -> fmt::Result {
         f.write_str(match self {
             Refusal::Usage => {
-                "drive next|late|reverse|shuffled|turns|turns-reverse|turns-shuffled|crew SOURCE INPUT [SEED] [--fuel=N] [--depth=N] [--queue=N] [--workers=N] [--count] [--steps]"
+                "drive next|late|reverse|shuffled|turns|turns-reverse|turns-shuffled SOURCE INPUT [SEED] [--fuel=N] [--depth=N] [--queue=N] [--count] [--steps]"
             }
             Refusal::Read => "a file was not read",
             Refusal::Source => "the source is refused",
@@ -68,9 +64,7 @@ impl fmt::Display for Refusal {
             Refusal::Events => "too many events happened",
             Refusal::Calls => "a call is not answered",
             Refusal::Turns => "the end doesn't come",
-            Refusal::Steps => "this is not shown of nodes",
-            Refusal::Free => "the network has a free merge",
-            Refusal::Workers => "there is no memory left for workers",
+            Refusal::Steps => "steps are shown of events alone",
             Refusal::Memory => "there is no memory left",
             Refusal::Write => "the output was not written",
         })

@@ -17,8 +17,8 @@ ghost use Rattle.sn_farm.specs.Turns.{Goes, shows};
 ghost use Rattle.sn_farm.specs.declared.owner.Turn.TheVariants.{Ended};
 ghost use Rattle.sn_model.specs.declared.outcome.Outcome.TheVariants as outcome;
 
-use crate::owner::{OwnerEnds, end_at_refusal};
 use crate::drive::drive;
+use crate::owner::{OwnerEnds, end_at_refusal};
 use sn_graph::Graph;
 use sn_io::{Gate, Sink};
 use sn_jobs::{JobHand, make};

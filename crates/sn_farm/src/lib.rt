@@ -4,8 +4,8 @@
 #![tactic(auto)]
 
 mod apply;
-mod owner;
 mod drive;
 mod farm;
+mod owner;
 
 pub use farm::{farm_drive, farm_run};

@@ -64,15 +64,7 @@ pub fn print_with_workers<R: Threads + Wait + Sync, O: Sink, G: Gate>(
     let (net, boxes) = parts.into_inner();
     let run = Run::new(net, boxes, setup.fuel, setup.depth, setup.queue, items);
     let shared = share(alloc, run)?;
-    match run_together(
-        rt,
-        alloc,
-        shared,
-        &names.value,
-        setup.workers,
-        gate,
-        out,
-    ) {
+    match run_together(rt, alloc, shared, &names.value, setup.workers, gate, out) {
         Outcome::Whole => Ok(None),
         Outcome::Faulted(fault) => Ok(Some(fault)),
         Outcome::WriteFault => Err(Stop::Write),

@@ -47,7 +47,12 @@ fn tiles(rt: &impl Abort, alloc: Global) -> String {
 fn joined(rt: &impl Abort, alloc: Global, many: u64) -> String {
     let mut lines = String::new(alloc);
     for i in 1..=many {
-        let line = format!(in alloc; "{{p={}, q={}, <id>={i}, <w>=0}}\n", i.wrapping_mul(i), i.wrapping_add(1)).expect(rt, "memory");
+        let line = format!(in alloc;
+            "{{p={}, q={}, <id>={i}, <w>=0}}\n",
+            i.wrapping_mul(i),
+            i.wrapping_add(1)
+        )
+        .expect(rt, "memory");
         lines.push_str(line.as_str()).expect(rt, "memory");
     }
     lines
@@ -95,7 +100,15 @@ fn divide<R: Abort + Threads + Wait + Sync>(
     if is_err_failing {
         err.fail_at(1).expect(rt, "memory");
     }
-    let status = serve_words(rt, alloc, &words, &mut stored, &mut out, &mut err, &OpenGate);
+    let status = serve_words(
+        rt,
+        alloc,
+        &words,
+        &mut stored,
+        &mut out,
+        &mut err,
+        &OpenGate,
+    );
     Served { status, out, err }
 }
 
@@ -111,10 +124,16 @@ fn a_fault_ends_a_run_whatever_the_workers_do(rt: HostRuntime) {
     let before = ["{x=1}\n"];
     for workers in ["1", "2", "8"] {
         let served = divide(&rt, rt.alloc(), DIVIDES, workers, false);
-        assert!(rt; ended_at_fault(&served, &before, DIVIDED), "{workers} workers");
+        assert!(rt;
+            ended_at_fault(&served, &before, DIVIDED),
+            "{workers} workers"
+        );
         let served = divide(&rt, rt.alloc(), DIVIDES_FREELY, workers, false);
         let may_be = ["", "{x=1}\n", "{x=1}\n{x=3}\n"];
-        assert!(rt; ended_at_fault(&served, &may_be, DIVIDED), "{workers} workers, freely");
+        assert!(rt;
+            ended_at_fault(&served, &may_be, DIVIDED),
+            "{workers} workers, freely"
+        );
     }
     let served = divide(&rt, rt.alloc(), DIVIDES, "4", true);
     assert!(rt; ended_at_fault(&served, &before, b""));
@@ -155,8 +174,14 @@ fn keeps_bytes<R: Abort + Threads + Wait + Sync>(rt: &R, alloc: Global, command:
 #[test]
 fn what_fails_is_told(rt: HostRuntime) {
     for command in ["once", "run"] {
-        assert!(rt; tells_read(&rt, rt.alloc(), command, 1, b"read: s\n"), "{command}");
-        assert!(rt; tells_read(&rt, rt.alloc(), command, 2, b"read: i\n"), "{command}");
+        assert!(rt;
+            tells_read(&rt, rt.alloc(), command, 1, b"read: s\n"),
+            "{command}"
+        );
+        assert!(rt;
+            tells_read(&rt, rt.alloc(), command, 2, b"read: i\n"),
+            "{command}"
+        );
         assert!(rt; keeps_bytes(&rt, rt.alloc(), command), "{command}");
     }
 }

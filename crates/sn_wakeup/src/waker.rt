@@ -54,7 +54,9 @@ impl Waker {
             self.queue.output.notify_one();
             return;
         };
-        if self.is_notified.load(Ordering::SeqCst) || self.is_notified.swap(true, Ordering::SeqCst) {
+        if self.is_notified.load(Ordering::SeqCst)
+            || self.is_notified.swap(true, Ordering::SeqCst)
+        {
             return;
         }
         if self.is_idle.swap(false, Ordering::SeqCst) {
