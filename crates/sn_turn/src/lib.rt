@@ -2,6 +2,7 @@
 #![tactic(auto)]
 
 mod grow;
+mod heap;
 mod node;
 mod push;
 mod spot;
@@ -11,5 +12,6 @@ mod turned;
 mod unfold;
 mod whole;
 
+pub use heap::OnHeap;
 pub use node::{Kind, Node};
 pub use turned::{TurnFault, Turned};

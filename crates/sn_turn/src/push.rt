@@ -9,6 +9,7 @@ ghost use Rattle.sn_fork.specs.Seen.{IsNew, keys_of};
 ghost use Rattle.sn_turn.specs.Nodes.{Grown};
 ghost use Rattle.sn_turn.specs.Places.{new_component, new_fork};
 
+use crate::heap::OnHeap;
 use crate::node::{Kind, Node};
 use crate::spot::Spot;
 use sn_component::{Component, Keeps};
@@ -36,7 +37,7 @@ pub(crate) fn push_component(
     let run = run.clone()?;
     let component = Component::new(alloc, run, path, keeps, input, output);
     nodes.push(Node {
-        kind: Kind::Component(component),
+        kind: Kind::Component(OnHeap::new(alloc, component)?),
     })?;
     Ok(())
 }
@@ -64,7 +65,7 @@ pub(crate) fn push_fork(
     let run = run.clone()?;
     let fork = Fork::new(alloc, run, path, left, steps, input, children, output);
     nodes.push(Node {
-        kind: Kind::Fork(fork),
+        kind: Kind::Fork(OnHeap::new(alloc, fork)?),
     })?;
     Ok(())
 }

@@ -7,6 +7,7 @@ ghost use Rattle.sn_turn.specs.Turns.{Spawned, Unfolds, Went};
 ghost use Rattle.sn_turn.specs.Rounds.{RoundOf};
 ghost use Rattle.sn_turn.specs.declared.node.Kind.TheVariants as some_kind;
 
+use crate::heap::OnHeap;
 use crate::node::{Kind, Node};
 use crate::turned::{TurnFault, Turned, answer};
 use crate::unfold::unfold;
@@ -21,12 +22,12 @@ use std::sync::Wait;
 const MOST_REPLICAS: u32 = 64;
 
 /// A turn of the source.
-fn turn_source<R: Wait>(mut source: Source, rt: &R, alloc: Global) -> Result<Turned, TurnFault>
+fn turn_source<R: Wait>(mut source: OnHeap<Source>, rt: &R, alloc: Global) -> Result<Turned, TurnFault>
     requires { has_ended source.output ≡ false }
     ensures fault { IfErr result (λ fault. fault.node.kind ≡ some_kind.Source source) }
     ensures went { IfOk result (Went (some_kind.Source source)) }
 {
-    match source.turn(rt, alloc) {
+    match source.get_mut().turn(rt, alloc) {
         Ok(moved) => Ok(answer(Kind::Source(source), Vec::new(alloc), moved)),
         Err(_) => Err(TurnFault {
             node: Node {
@@ -38,7 +39,7 @@ fn turn_source<R: Wait>(mut source: Source, rt: &R, alloc: Global) -> Result<Tur
 
 /// A turn of a box, a filter or a synchrocell.
 fn turn_component<R: Wait, G: Gate>(
-    mut component: Component,
+    mut component: OnHeap<Component>,
     rt: &R,
     alloc: Global,
     gate: &G,
@@ -48,7 +49,7 @@ fn turn_component<R: Wait, G: Gate>(
     ensures fault { IfErr result (λ fault. fault.node.kind ≡ some_kind.Component component) }
     ensures went { IfOk result (Went (some_kind.Component component)) }
 {
-    match component.turn(rt, alloc, gate, call) {
+    match component.get_mut().turn(rt, alloc, gate, call) {
         Ok(moved) => Ok(answer(Kind::Component(component), Vec::new(alloc), moved)),
         Err(_) => Err(TurnFault {
             node: Node {
@@ -117,16 +118,16 @@ fn go_on<R: Wait>(fork: &mut Fork, rt: &R, alloc: Global, spawned: &mut Vec<Node
 }
 
 /// A turn of a choice, a level of a star or a split.
-fn turn_fork<R: Wait>(mut fork: Fork, rt: &R, alloc: Global) -> Result<Turned, TurnFault>
+fn turn_fork<R: Wait>(mut fork: OnHeap<Fork>, rt: &R, alloc: Global) -> Result<Turned, TurnFault>
     requires { has_ended fork.output ≡ false }
     ensures fault { IfErr result (λ fault. fault.node.kind ≡ some_kind.Fork fork) }
     ensures went { IfOk result (Went (some_kind.Fork fork)) }
 {
     let mut spawned = Vec::new(alloc);
-    match round(&mut fork, rt, alloc, &mut spawned) {
+    match round(fork.get_mut(), rt, alloc, &mut spawned) {
         Ok(Some(moved)) => Ok(answer(Kind::Fork(fork), spawned, moved)),
         Ok(None) => {
-            let moved = go_on(&mut fork, rt, alloc, &mut spawned);
+            let moved = go_on(fork.get_mut(), rt, alloc, &mut spawned);
             Ok(answer(Kind::Fork(fork), spawned, moved))
         }
         Err(_) => Err(TurnFault {

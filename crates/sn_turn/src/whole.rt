@@ -8,6 +8,7 @@ ghost use Rattle.sn_component.specs.Facts.{history_for};
 ghost use Rattle.sn_turn.specs.Nodes.{AreNodesOf, IsNewSource};
 
 use crate::grow::grow;
+use crate::heap::OnHeap;
 use crate::node::{Kind, Node};
 use crate::spot::Spot;
 use sn_component::Source;
@@ -25,8 +26,9 @@ fn source_node(alloc: Global, run: &Arc<Run>, put: PutEnd) -> Result<Node, Memor
     ensures { IfOk result IsNewSource }
 {
     let run = run.clone()?;
+    let source = OnHeap::new(alloc, Source::new(alloc, run, put))?;
     Ok(Node {
-        kind: Kind::Source(Source::new(alloc, run, put)),
+        kind: Kind::Source(source),
     })
 }
 

@@ -1,12 +1,17 @@
-use Rattle.std.proofs.Common.{rules, ◌≡◌, [], ap, refl, ◌∙◌}
-use Rattle.sn_component.specs.Moved.{is_done}
+use Rattle.std.proofs.Common.{rules, ◌≡◌, [], ap, refl, subst, ◌∙◌}
+use Rattle.sn_component.specs.Moved.{WentSourcing, is_done}
 use Rattle.sn_component.specs.Outbox.{has_ended}
+use Rattle.sn_component.specs.Seen.{Sourcing}
 use Rattle.sn_turn.specs.declared.node.Kind.TheVariants as some_kind
 use Rattle.sn_turn.proofs.Turning.{source_moves, went_to}
 use Rattle.sn_turn.proofs.turn.turn_source.Goals as goal
 
 pub returns-in-Ok-clause-went : goal.returns-in-Ok-clause-went
 returns-in-Ok-clause-went g c =
+    let lent = c.get_mut.ensures.value in
+    let went = subst (λ (s : Sourcing). WentSourcing s c.turn.new.self c.in-Ok.moved) lent c.in-Ok.ensures.went in
     let ended : has_ended c.turn.new.self.output ≡ is_done c.in-Ok.moved = search rules in
     went_to (some_kind.Source c.args.source) (some_kind.Source c.turn.new.self) c.answer.result c.in-Ok.moved [] c.answer.ensures.moved
-    (ap (λ v. v.items) c.answer.ensures.spawned ∙ c.new.ensures.items) c.answer.ensures.node (c.turn.ensures.run, c.turn.ensures.made) (source_moves c.args.source c.turn.new.self c.in-Ok.moved c.in-Ok.ensures.went) ended refl
+    (ap (λ v. v.items) c.answer.ensures.spawned ∙ c.new.ensures.items) c.answer.ensures.node
+    (c.turn.ensures.run ∙ ap (λ (s : Sourcing). s.run) lent, c.turn.ensures.made ∙ ap (λ (s : Sourcing). s.output.made) lent)
+    (source_moves c.args.source c.turn.new.self c.in-Ok.moved went) ended refl

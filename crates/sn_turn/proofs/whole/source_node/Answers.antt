@@ -4,4 +4,5 @@ use Rattle.sn_turn.proofs.whole.source_node.Goals as goal
 
 pub returns : goal.returns
 returns c =
-    (c.new.result, refl, (ap (λ (s : Sourcing). s.next) c.new.ensures, ap (λ (s : Sourcing). s.output.moved) c.new.ensures ∙ c.requires.put, ap (λ (s : Sourcing). s.held) c.new.ensures))
+    let begun = c.in_ok-source.ensures ∙ c.new.ensures in
+    (c.in_ok-source.source, refl, (ap (λ (s : Sourcing). s.next) begun, ap (λ (s : Sourcing). s.output.moved) begun ∙ c.requires.put, ap (λ (s : Sourcing). s.held) begun))
