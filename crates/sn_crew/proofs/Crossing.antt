@@ -26,6 +26,7 @@ use Rattle.sn_component.specs.contracts.source.Source.TheInside as source_inside
 use Rattle.sn_fork.specs.contracts.fork.Child as child
 use Rattle.sn_fork.specs.contracts.fork.Fork as fork
 use Rattle.sn_fork.specs.contracts.fork.Fork.TheInside as fork_inside
+use Rattle.sn_turn.proofs.heap.OnHeap.TheSendSync as on_heap
 use Rattle.sn_turn.specs.contracts.node.Kind as kind
 use Rattle.sn_turn.specs.contracts.node.Node as node
 use Rattle.sn_wakeup.specs.contracts.run_queue.RunQueue as queue
@@ -107,7 +108,7 @@ fork_send : IsSend fork.the_row
 fork_send = search (sendable, crosses, fork_parts) depth 60 fits 100000
 
 kind_send : IsSend kind.the_row
-kind_send = search (sendable, crosses, source_send, component_send, fork_send) depth 60 fits 100000
+kind_send = search (sendable, crosses, on_heap.the_send, source_send, component_send, fork_send) depth 60 fits 100000
 
 pub node_send : IsSend node.the_row
 node_send = declared_send node.the_type (kind_send, tt)

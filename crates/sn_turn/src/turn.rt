@@ -22,7 +22,11 @@ use std::sync::Wait;
 const MOST_REPLICAS: u32 = 64;
 
 /// A turn of the source.
-fn turn_source<R: Wait>(mut source: OnHeap<Source>, rt: &R, alloc: Global) -> Result<Turned, TurnFault>
+fn turn_source<R: Wait>(
+    mut source: OnHeap<Source>,
+    rt: &R,
+    alloc: Global,
+) -> Result<Turned, TurnFault>
     requires { has_ended source.output ≡ false }
     ensures fault { IfErr result (λ fault. fault.node.kind ≡ some_kind.Source source) }
     ensures went { IfOk result (Went (some_kind.Source source)) }

@@ -12,8 +12,7 @@ returns-in-Ok-clause-went g c =
     let went = subst (λ (w : Working). WentWorking w c.turn.new.self c.in-Ok.moved) lent c.in-Ok.ensures.went in
     let ended : has_ended c.turn.new.self.output ≡ is_done c.in-Ok.moved = search rules in
     went_to (some_kind.Component c.args.component) (some_kind.Component c.turn.new.self) c.answer.result c.in-Ok.moved [] c.answer.ensures.moved
-    (ap (λ v. v.items) c.answer.ensures.spawned ∙ c.new.ensures.items) c.answer.ensures.node
-    (
+    (ap (λ v. v.items) c.answer.ensures.spawned ∙ c.new.ensures.items) c.answer.ensures.node (
       c.turn.ensures.run ∙ ap (λ (w : Working). w.run) lent,
       c.turn.ensures.path ∙ ap (λ (w : Working). w.path) lent,
       c.turn.ensures.input ∙ ap (λ (w : Working). w.input.made) lent,
