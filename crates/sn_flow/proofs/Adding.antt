@@ -5,8 +5,9 @@ use Rattle.std.proofs.lemmas.List.{take_more, take-append-drop}
 use Rattle.std.proofs.lemmas.List.Elements.{Contains-append_left, Contains-append_right, Contains-append_cases}
 use Rattle.sn_record.specs.LabelSet.{Labels, contains}
 use Rattle.sn_record.proofs.Sets.{same_labels}
-use Rattle.sn_types.specs.RecordType.{is_same, is_subset}
-use Rattle.sn_types.proofs.Subtypes.{is_subset-IsSubset}
+use Rattle.sn_record.specs.Fits.{fits}
+use Rattle.sn_types.specs.RecordType.{is_same}
+use Rattle.sn_record.proofs.Fitting.{fits-Fits, fits_itself}
 use Rattle.sn_typing.specs.Accepted.{most_variants}
 use Rattle.std.specs.Prelude.{Err}
 use Rattle.sn_flow.specs.declared.stop.Stop.{Stop}
@@ -29,11 +30,11 @@ same_bool false false f g = refl
 
 pub same_is : (s t : Labels) → IsTrue (is_same s t) → s ≡ t
 same_is s t test =
-    let parts = both_parts (is_subset s t) (is_subset t s) test in
-    same_labels s t (λ l. same_bool (contains s l) (contains t l) ((is_subset-IsSubset s t).0 parts.0 l) ((is_subset-IsSubset t s).0 parts.1 l))
+    let parts = both_parts (fits s t) (fits t s) test in
+    same_labels s t (λ l. same_bool (contains s l) (contains t l) (((fits-Fits s t).0 parts.0).within l) (((fits-Fits t s).0 parts.1).within l))
 
 pub is_same_itself : (s : Labels) → IsTrue (is_same s s)
-is_same_itself s = let test = (is_subset-IsSubset s s).1 (λ l there. there) in both_from (is_subset s s) (is_subset s s) test test
+is_same_itself s = let test = (fits-Fits s s).1 (fits_itself s) in both_from (fits s s) (fits s s) test test
 
 pub among : (sets : List Labels) (v : Labels) → IsTrue (list_any (λ s. is_same s v) sets) → Contains sets v
 among [] v test = cc

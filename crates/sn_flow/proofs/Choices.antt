@@ -4,7 +4,7 @@ use Rattle.std.specs.List.{Contains}
 use Rattle.std.proofs.lemmas.List.Elements.{Contains-append_left, Contains-append_right, Contains-append_cases}
 use Rattle.sn_record.specs.LabelSet.{Labels, union}
 use Rattle.sn_typing.specs.Outline.{Outline, Choice}
-use Rattle.sn_typing.specs.Flow.{HasFace, IsUnbeaten, Flows}
+use Rattle.sn_typing.specs.Flow.{HasFace, MayTake, Flows}
 use Rattle.sn_typing.specs.Reached.{Turn, Branch}
 use Rattle.sn_typing.specs.Accepted.{IsReached, most_variants}
 use Rattle.sn_flow.specs.declared.table.Table.{Table}
@@ -54,7 +54,7 @@ module _ (net : Outline) (before : Table) where
 module _ (place : ℕ) (faces : List (List Labels)) (branch : ℕ → Outline) (v : Labels) (before : Table) (vs : ℕ → List Labels) where
   -- the variants of each branch are those that come to it
   abbrev pub AreSent : Type 0
-  AreSent = (i : ℕ) (u : Labels) → Contains (vs i) u ↔ ((w : Labels) × IsUnbeaten faces i w (union v w) × (u ≡ union v w))
+  AreSent = (i : ℕ) (u : Labels) → Contains (vs i) u ↔ ((w : Labels) × MayTake faces i w v × (u ≡ union v w))
 
   sent_reached : AreSent → HasFace faces v → (root : Outline) (input : List Labels) (way : List Turn) → IsReached root input way (Choice place faces branch) v
       → (i : ℕ) (u : Labels) → Contains (vs i) u → IsReached root input (way ++ Branch i ∷ []) (branch i) u

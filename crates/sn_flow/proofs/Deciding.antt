@@ -6,7 +6,7 @@ use Rattle.std.proofs.lemmas.List.Elements.{Contains-append_left, Contains-appen
 use Rattle.sn_record.specs.LabelSet.{Labels}
 use Rattle.sn_net.specs.Face.{ascending}
 use Rattle.sn_net.proofs.SortedSets.{ascending-alike, ascending-ascends, same_from_alike}
-use Rattle.sn_types.specs.RecordType.{has_subset}
+use Rattle.sn_types.specs.RecordType.{has_fit}
 use Rattle.sn_typing.specs.Outline.{Outline}
 use Rattle.sn_typing.specs.Accepted.{IsBounded, IsDeclared}
 use Rattle.sn_typing.proofs.Routes.{routed_safe}
@@ -57,28 +57,28 @@ module _ (net : Outline) (input : List Labels) (t : Table) (whole : IsWhole net 
       variant : Labels
       listed : Contains us variant
       is : spot place variant ≡ s
-      bad : has_subset output variant ≡ false
+      bad : has_fit output variant ≡ false
 
     more_bad : (u : Labels) (us : List Labels) (s : Spot) → Bad us s → Bad (u ∷ us) s
     more_bad u us s b = record { variant = b.variant; listed = behind u us b.variant b.listed; is = b.is; bad = b.bad }
 
     bad_of : (us : List Labels) (s : Spot) → Contains (flow_spots place output us) s → Bad us s
     bad_of [] s there = absurd (none s there)
-    bad_of (u ∷ us) s there = at (has_subset output u) refl there (λ rest. bad_of us s rest)
+    bad_of (u ∷ us) s there = at (has_fit output u) refl there (λ rest. bad_of us s rest)
       where
-        at : (b : Bool) → has_subset output u ≡ b → Contains (if b then flow_spots place output us else spot place u ∷ flow_spots place output us) s → (Contains (flow_spots place output us) s → Bad us s) → Bad (u ∷ us) s
+        at : (b : Bool) → has_fit output u ≡ b → Contains (if b then flow_spots place output us else spot place u ∷ flow_spots place output us) s → (Contains (flow_spots place output us) s → Bad us s) → Bad (u ∷ us) s
         at true is listed rest = more_bad u us s (rest listed)
         at false is listed rest = either (cases (spot place u) (flow_spots place output us) s listed)
             (λ same. record { variant = u; listed = head u us; is = same; bad = is })
             (λ more. more_bad u us s (rest more))
 
-    of_bad : (us : List Labels) (u : Labels) → Contains us u → has_subset output u ≡ false → Contains (flow_spots place output us) (spot place u)
+    of_bad : (us : List Labels) (u : Labels) → Contains us u → has_fit output u ≡ false → Contains (flow_spots place output us) (spot place u)
     of_bad [] u there not = absurd (none u there)
-    of_bad (w ∷ us) u there not = at (has_subset output w) refl (cases w us u there) (λ rest. of_bad us u rest not)
+    of_bad (w ∷ us) u there not = at (has_fit output w) refl (cases w us u there) (λ rest. of_bad us u rest not)
       where
-        at : (b : Bool) → has_subset output w ≡ b → (w ≡ u) ⊎ Contains us u → (Contains us u → Contains (flow_spots place output us) (spot place u))
+        at : (b : Bool) → has_fit output w ≡ b → (w ≡ u) ⊎ Contains us u → (Contains us u → Contains (flow_spots place output us) (spot place u))
             → Contains (if b then flow_spots place output us else spot place w ∷ flow_spots place output us) (spot place u)
-        at true is (inl same) rest = absurd (differ (sym is ∙ ap (has_subset output) same ∙ not))
+        at true is (inl same) rest = absurd (differ (sym is ∙ ap (has_fit output) same ∙ not))
           where
             differ : true ≡ false → ⊥
             differ e = cc
@@ -97,7 +97,7 @@ module _ (net : Outline) (input : List Labels) (t : Table) (whole : IsWhole net 
         (λ first. record { from = v; listed = head v vs; flow = bad_of (flow_in (rows_of t) v) s first })
         (λ rest. let f = bad_from vs s rest in record { from = f.from; listed = behind v vs f.from f.listed; flow = f.flow })
 
-    from_bad : (vs : List Labels) (v u : Labels) → Contains vs v → Contains (flow_in (rows_of t) v) u → has_subset output u ≡ false → Contains (bad_spots place output (rows_of t) vs) (spot place u)
+    from_bad : (vs : List Labels) (v u : Labels) → Contains vs v → Contains (flow_in (rows_of t) v) u → has_fit output u ≡ false → Contains (bad_spots place output (rows_of t) vs) (spot place u)
     from_bad [] v u there flow not = absurd (none v there)
     from_bad (w ∷ vs) v u there flow not = either (cases w vs v there)
         (λ same. Contains-append_left (flow_spots place output (flow_in (rows_of t) w)) (bad_spots place output (rows_of t) vs) (spot place u)
@@ -113,7 +113,7 @@ module _ (net : Outline) (input : List Labels) (t : Table) (whole : IsWhole net 
     of_undeclared : (u : Labels) → IsUndeclared net input output u → Contains (bad_spots place output (rows_of t) input) (spot place u)
     of_undeclared u is =
         from_bad input is.from u is.listed (((flow_is net t is.from whole.holds (whole.covers is.from is.listed)).same u).1 is.flow)
-        (either (truth (has_subset output u)) (λ so. absurd (is.undeclared (has_is output u so))) (λ nay. nay))
+        (either (truth (has_fit output u)) (λ so. absurd (is.undeclared (has_is output u so))) (λ nay. nay))
 
     pub bad_output : least None (spots net t) ≡ None → (s : Spot) → least None (bad_spots place output (rows_of t) input) ≡ Some s
         → IsSafe net input × IsFirst (λ q w. (q ≡ place) × IsUndeclared net input output w) s.place s.variant
@@ -130,7 +130,7 @@ module _ (net : Outline) (input : List Labels) (t : Table) (whole : IsWhole net 
     accepted routed e = (
       all_routed routed,
       λ v u there flow.
-          either (truth (has_subset output u)) (λ so. has_is output u so)
+          either (truth (has_fit output u)) (λ so. has_is output u so)
           (λ nay. absurd (nothing_found (bad_spots place output (rows_of t) input) e (spot place u)
           (from_bad input v u there (((flow_is net t v whole.holds (whole.covers v there)).same u).1 flow) nay))),
     )

@@ -4,8 +4,8 @@ use Rattle.std.specs.Prelude.{nat_lt, slice_get, unwrap_or, Ok, Err}
 use Rattle.std.specs.List.{Contains, list_any}
 use Rattle.std.proofs.lemmas.Bool.Decides.{nat_tests}
 use Rattle.sn_record.specs.LabelSet.{Labels}
-use Rattle.sn_types.specs.RecordType.{has_subset}
-use Rattle.sn_types.proofs.Subtypes.{has_subset-HasSubset}
+use Rattle.sn_types.specs.RecordType.{has_fit}
+use Rattle.sn_types.proofs.Subtypes.{has_fit-HasFit}
 use Rattle.sn_typing.specs.Outline.{Outline, Choice}
 use Rattle.sn_typing.specs.Flow.{HasFace}
 use Rattle.sn_flow.specs.declared.stop.Stop.{Stop}
@@ -201,21 +201,21 @@ module _ (branch : ℕ → Outline) (faces : List (List Labels)) (v : Labels) (b
 pub sent_read : (faces : List (List Labels)) (i : ℕ) (v : Labels) (face : List Labels) → i < length faces → face ≡ get_or faces i face → chosen_of faces i v face ≡ sent_of faces v i
 sent_read faces i v face below is = ap (chosen_of faces i v) (sym (ap (λ (f : Option (List Labels)). unwrap_or f []) (slice_get_read faces (length faces) i face refl below is)))
 
-pub face_found : (faces : List (List Labels)) (v : Labels) (b : Bool) → b ≡ list_any (λ face. has_subset face v) faces → b ≡ true → HasFace faces v
-face_found faces v b is test = at faces (λ face there. there) (any_found (λ face. has_subset face v) faces (sym is ∙ test))
+pub face_found : (faces : List (List Labels)) (v : Labels) (b : Bool) → b ≡ list_any (λ face. has_fit face v) faces → b ≡ true → HasFace faces v
+face_found faces v b is test = at faces (λ face there. there) (any_found (λ face. has_fit face v) faces (sym is ∙ test))
   where
-    at : (all : List (List Labels)) → ((face : List Labels) → Contains faces face → Contains all face) → (face : List Labels) × Contains faces face × IsTrue (has_subset face v) → HasFace faces v
+    at : (all : List (List Labels)) → ((face : List Labels) → Contains faces face → Contains all face) → (face : List Labels) × Contains faces face × IsTrue (has_fit face v) → HasFace faces v
     at all within (face, listed, has) =
-        let found = (has_subset-HasSubset face v).0 has in
-        record { branch = listed.0; variant = found.variant; own = record { face = face; here = slice_at faces face listed; listed = found.listed }; within = found.within }
+        let found = (has_fit-HasFit face v).0 has in
+        record { branch = listed.0; variant = found.variant; own = record { face = face; here = slice_at faces face listed; listed = found.listed }; fits = found.fits }
       where
         slice_at : (xs : List (List Labels)) (x : List Labels) (there : Contains xs x) → slice_get xs there.0 ≡ Some x
         slice_at xs x there = slice_get-get_or xs there.0 x there.1 ∙ ap (λ (z : List Labels). Some z) there.2
 
-pub no_face : (faces : List (List Labels)) (v : Labels) (b : Bool) → b ≡ list_any (λ face. has_subset face v) faces → b ≡ false → HasFace faces v → ⊥
+pub no_face : (faces : List (List Labels)) (v : Labels) (b : Bool) → b ≡ list_any (λ face. has_fit face v) faces → b ≡ false → HasFace faces v → ⊥
 no_face faces v b is test has =
-    true_false (sym (found_any (λ face. has_subset face v) faces has.own.face (has.branch, slice_get_within faces has.branch has.own.face has.own.here, get_or_from_slice_get faces has.branch has.own.face has.own.face has.own.here)
-    ((has_subset-HasSubset has.own.face v).1 (record { variant = has.variant; listed = has.own.listed; within = has.within }))) ∙ sym is ∙ test)
+    true_false (sym (found_any (λ face. has_fit face v) faces has.own.face (has.branch, slice_get_within faces has.branch has.own.face has.own.here, get_or_from_slice_get faces has.branch has.own.face has.own.face has.own.here)
+    ((has_fit-HasFit has.own.face v).1 (record { variant = has.variant; listed = has.own.listed; fits = has.fits }))) ∙ sym is ∙ test)
   where
     true_false : true ≡ false → ⊥
     true_false e = cc

@@ -3,7 +3,8 @@ use Rattle.std.proofs.Common.{◌≡◌, ℕ, ◌+◌, ◌<◌, Bool, false, IsT
 use Rattle.std.specs.Prelude.{Ok, Err, Some, Result, slice_get, not, ◌&&◌}
 use Rattle.std.specs.List.{list_any}
 use Rattle.sn_record.specs.LabelSet.{Labels, contains}
-use Rattle.sn_types.specs.RecordType.{is_same, is_subset}
+use Rattle.sn_record.specs.Fits.{fits}
+use Rattle.sn_types.specs.RecordType.{is_same}
 use Rattle.sn_typing.specs.Outline.{Outline, Choice, Component, Series, Split, Star}
 use Rattle.sn_typing.specs.Flow.{HasFace}
 use Rattle.sn_typing.specs.Accepted.{most_variants}
@@ -107,7 +108,7 @@ module _ (branch : ℕ → Outline) (faces : List (List Labels)) (v : Labels) (b
 
 -- a member of a star's set, which stays
 module _ (exit : Labels) (guarded : Bool) (body : Outline) (v : Labels) (before : Table) (i : ℕ) (parts last : List Table) (members members' : List Labels) (u : Labels) (here : slice_get members i ≡ Some u) (b : Bool)
-    (test : b ≡ (not guarded && is_subset exit u)) (is : b ≡ false) where
+    (test : b ≡ (not guarded && fits exit u)) (is : b ≡ false) where
   pub member_any : (found : Result (List Labels) Stop) (result : Result (Unit {0}) Stop) → PartVisited body 0 u parts last found → FoundAdded members found members' result
       → Turned exit guarded body v before i parts members last members' result
   member_any (Ok more) (Ok done) (visits, kept, more_is) adds = λ at. close_goes exit guarded body v before (part_at parts 0) members i u here at b test (part_at last 0) more is visits more_is members' adds

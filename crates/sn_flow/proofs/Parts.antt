@@ -5,13 +5,14 @@ use Rattle.std.proofs.lemmas.List.Elements.{Contains-append_left, Contains-appen
 use Rattle.sn_record.specs.LabelSet.{Labels, contains, union, minus}
 use Rattle.sn_net.specs.Filter.{tag}
 use Rattle.sn_typing.specs.Outline.{Outline, Component, Series, Star, Split}
-use Rattle.sn_types.specs.RecordType.{HasSubset}
-use Rattle.sn_typing.specs.Flow.{Flows}
+use Rattle.sn_typing.specs.Flow.{Flows, Takes}
 use Rattle.sn_typing.specs.Reached.{Left, Right, Body}
 use Rattle.sn_typing.specs.Accepted.{most_variants}
 use Rattle.sn_flow.specs.declared.table.Table.{Table}
 use Rattle.sn_flow.specs.Tables.{Came, Covers, Holds, IsFlow, child, part_at, parts_of, rows_of}
 use Rattle.sn_flow.specs.Visits.{AddsRow, row_of, Adds, AreFlows, Closes, Refuted, RefutedAll, Visits, VisitsAll}
+use Rattle.sn_flow.specs.Taken.{with_exit}
+use Rattle.sn_flow.proofs.Taking.{leaving_from, leaving_to}
 use Rattle.sn_flow.proofs.Lists.{cases, none, head, mapped, unmapped}
 use Rattle.sn_flow.proofs.Ways.{to_left, to_right, to_body, to_replica}
 
@@ -58,7 +59,7 @@ module _ (place : ℕ) (takes : List Labels) (named : Labels) (outputs : List La
   abbrev given_by : Labels → Labels
   given_by o = union o (minus v named)
 
-  pub component_flow : HasSubset takes v → Adds [] (each given_by outputs) flow → IsFlow (Component place takes named outputs) v flow
+  pub component_flow : Takes takes v → Adds [] (each given_by outputs) flow → IsFlow (Component place takes named outputs) v flow
   component_flow has adds = record {
     few = adds.few (omega arith);
     same = λ u. (λ there. to u ((adds.same u).0 there), λ flows. from u flows);
@@ -71,7 +72,7 @@ module _ (place : ℕ) (takes : List Labels) (named : Labels) (outputs : List La
       from : (u : Labels) → Flows (Component place takes named outputs) v u → Contains flow u
       from u (has', (o, listed, is)) = (adds.same u).1 (inr (subst (Contains (each given_by outputs)) (sym is) (mapped given_by outputs o listed)))
 
-  pub nothing_flows : (HasSubset takes v → ⊥) → flow ≡ [] → IsFlow (Component place takes named outputs) v flow
+  pub nothing_flows : (Takes takes v → ⊥) → flow ≡ [] → IsFlow (Component place takes named outputs) v flow
   nothing_flows unrouted is = record {
     few = subst (λ (f : List Labels). length f ≤ most_variants) (sym is) (omega arith);
     same = λ u. ((λ there. absurd (none u (subst (λ (f : List Labels). Contains f u) is there))), (λ (has, rest). absurd (unrouted has)));
@@ -164,16 +165,16 @@ module _ (place id : ℕ) (body : Outline) (v : Labels) (before t inner : Table)
 -- Stars.
 module _ (exit : Labels) (guarded : Bool) (body : Outline) (v : Labels) (before t inner : Table) (members flow : List Labels) where
   pub star_added : rows_of t ≡ rows_of before ++ row_of v flow ∷ [] → child t 0 ≡ inner → Closes exit guarded body v (child before 0) inner members
-      → length flow ≤ most_variants → ((u : Labels) → Contains flow u ↔ Contains (each (λ w. union w exit) members) u) → AddsRow (Star exit guarded body) v before t flow
+      → length flow ≤ most_variants → ((u : Labels) → Contains flow u ↔ Contains (with_exit members exit) u) → AddsRow (Star exit guarded body) v before t flow
   star_added rows first closes few same = record {
     rows = rows;
     is = λ holds. record {
       few = few;
       same = λ u. (
         λ there.
-            (let found = unmapped (λ (w : Labels). union w exit) members u ((same u).0 there) in
-            (found.origin, (closes.same holds.1 found.origin).0 found.listed, sym found.is)),
-        λ (w, come, is). (same u).1 (subst (Contains (each (λ w. union w exit) members)) (sym is) (mapped (λ (w : Labels). union w exit) members w ((closes.same holds.1 w).1 come))),
+            (let found = leaving_from members exit u ((same u).0 there) in
+            (found.origin, (closes.same holds.1 found.origin).0 found.listed, found.alike, found.is)),
+        λ (w, come, alike, is). (same u).1 (subst (Contains (with_exit members exit)) (sym is) (leaving_to members exit w ((closes.same holds.1 w).1 come) alike)),
       );
     };
     inner = λ holds. (

@@ -6,10 +6,10 @@ use Rattle.std.proofs.lemmas.List.Elements.{Contains-append_left, Contains-appen
 use Rattle.std.proofs.lemmas.Option.{slice_get_within}
 use Rattle.sn_record.specs.LabelSet.{Labels, contains, union}
 use Rattle.sn_net.specs.Filter.{tag}
-use Rattle.sn_types.specs.RecordType.{has_subset}
-use Rattle.sn_types.proofs.Subtypes.{has_subset-HasSubset}
+use Rattle.sn_types.specs.RecordType.{has_fit}
+use Rattle.sn_types.proofs.Subtypes.{has_fit-HasFit}
 use Rattle.sn_typing.specs.Outline.{Outline, Component, Series, Choice, Star, Split}
-use Rattle.sn_types.specs.RecordType.{HasSubset}
+use Rattle.sn_types.specs.RecordType.{HasFit}
 use Rattle.sn_typing.specs.Flow.{IsRouted}
 use Rattle.sn_typing.specs.Reached.{Turn, Left, Right, Branch, Body, Reached, Reached.{here, left, right, branch, inside, replica}}
 use Rattle.sn_flow.specs.declared.spots.Spot.{Spot}
@@ -18,6 +18,8 @@ use Rattle.sn_flow.specs.declared.table.Table.{Table}
 use Rattle.sn_flow.specs.Tables.{Covers, child, rows_of}
 use Rattle.sn_flow.specs.Rows.{RowAt, RowAt.{here as row_here, left as row_left, right as row_right, branch as row_branch, inside as row_inside, replica as row_replica}}
 use Rattle.sn_flow.specs.Spots.{is_routed, joined, place_of, row_spots, spot, spots}
+use Rattle.sn_flow.specs.Taken.{is_taken}
+use Rattle.sn_flow.proofs.Taking.{is_taken-Takes}
 use Rattle.sn_flow.proofs.Goings.{face_found, no_face}
 use Rattle.sn_flow.proofs.Lists.{behind, cases, head, none}
 
@@ -33,21 +35,21 @@ differ : (b : Bool) → b ≡ true → b ≡ false → ⊥
 differ true e f = cc
 differ false e f = cc
 
-pub has_is : (variants : List Labels) (v : Labels) → has_subset variants v ≡ true → HasSubset variants v
-has_is variants v e = let found = (has_subset-HasSubset variants v).0 e in record { variant = found.variant; listed = found.listed; within = found.within }
+pub has_is : (variants : List Labels) (v : Labels) → has_fit variants v ≡ true → HasFit variants v
+has_is variants v e = (has_fit-HasFit variants v).0 e
 
-pub has_not : (variants : List Labels) (v : Labels) → has_subset variants v ≡ false → HasSubset variants v → ⊥
-has_not variants v e has = differ (has_subset variants v) ((has_subset-HasSubset variants v).1 (record { variant = has.variant; listed = has.listed; within = has.within })) e
+pub has_not : (variants : List Labels) (v : Labels) → has_fit variants v ≡ false → HasFit variants v → ⊥
+has_not variants v e has = differ (has_fit variants v) ((has_fit-HasFit variants v).1 has) e
 
 pub routed_is : (net : Outline) (v : Labels) → is_routed net v ≡ true → IsRouted net v
-routed_is (Component place takes named outputs) v e = has_is takes v e
+routed_is (Component place takes named outputs) v e = (is_taken-Takes takes v).0 e
 routed_is (Series a b) v e = tt
 routed_is (Choice place faces branches) v e = face_found faces v true (sym e) refl
 routed_is (Star exit guarded body) v e = tt
 routed_is (Split place id body) v e = e
 
 pub routed_not : (net : Outline) (v : Labels) → is_routed net v ≡ false → IsRouted net v → ⊥
-routed_not (Component place takes named outputs) v e is = has_not takes v e is
+routed_not (Component place takes named outputs) v e is = differ (is_taken takes v) ((is_taken-Takes takes v).1 is) e
 routed_not (Series a b) v e is = differ true refl e
 routed_not (Choice place faces branches) v e is = no_face faces v false (sym e) refl is
 routed_not (Star exit guarded body) v e is = differ true refl e

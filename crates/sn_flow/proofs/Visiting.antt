@@ -1,13 +1,13 @@
 -- What the functions that visit give, from what those that they call gave.
-use Rattle.std.proofs.Common.{◌≡◌, ◌⊎◌, inl, inr, ℕ, ◌+◌, ◌<◌, ◌≤◌, Bool, true, false, cond, not, ◌||◌, ◌&&◌, IsTrue, List, [], ◌∷◌, ◌++◌, length, get_or, take, map as each, refl, sym, ap, ◌∙◌, subst, arith}
+use Rattle.std.proofs.Common.{◌≡◌, ◌⊎◌, inl, inr, ℕ, ◌+◌, ◌<◌, ◌≤◌, Bool, true, false, cond, not, ◌||◌, ◌&&◌, IsTrue, List, [], ◌∷◌, ◌++◌, length, get_or, take, refl, sym, ap, ◌∙◌, subst, arith, append-nil}
 use Rattle.std.specs.Prelude.{Ok, Err, Some, slice_get}
 use Rattle.std.specs.List.{Contains, list_any}
-use Rattle.std.proofs.lemmas.List.{take_more, take_all, get_or-map}
+use Rattle.std.proofs.lemmas.List.{take_more, take_all}
 use Rattle.std.proofs.lemmas.Option.{slice_get_within, get_or_from_slice_get}
-use Rattle.std.proofs.Math.ListN.{length-map}
 use Rattle.sn_record.specs.LabelSet.{Labels, contains, union}
-use Rattle.sn_types.specs.RecordType.{is_same, is_subset}
-use Rattle.sn_types.proofs.Subtypes.{is_subset-IsSubset}
+use Rattle.sn_record.specs.Fits.{bind_alike, fits}
+use Rattle.sn_types.specs.RecordType.{is_same}
+use Rattle.sn_record.proofs.Fitting.{fits-Fits}
 use Rattle.sn_typing.specs.Outline.{Outline, Component, Series, Star, Split}
 use Rattle.sn_typing.specs.Flow.{Comes, Comes.{first}, Flows, SurelyLeaves}
 use Rattle.sn_typing.specs.Accepted.{most_variants}
@@ -17,9 +17,11 @@ use Rattle.sn_flow.specs.declared.table.Row.{Row}
 use Rattle.sn_flow.specs.declared.table.Table.{Table}
 use Rattle.sn_flow.specs.Tables.{AreDistinct, Covers, Holds, IsFlow, child, part_at, parts_of, rows_of, variants_of}
 use Rattle.sn_flow.specs.Visits.{Added, Adds, AddsRow, AllVisited, AreFlows, Closed, Closes, Closing, ComponentFlows, FormVisited, Refuted, RefutedAll, SameElsewhere, Visited, Visits, VisitsAll, WithExit, flow_in, row_of}
-use Rattle.sn_flow.proofs.Adding.{add_all_stops, adds_next, among, among_test, is_same_itself, same_is, taken_within}
+use Rattle.sn_flow.proofs.Adding.{adds_more, overflows_more, among, among_test, is_same_itself, same_is, taken_within}
 use Rattle.sn_net.specs.Filter.{tag}
-use Rattle.sn_flow.proofs.Lists.{behind, cases, head, mapped, none, unmapped}
+use Rattle.sn_flow.specs.Taken.{with_exit}
+use Rattle.sn_flow.proofs.Taking.{alone_leaves, alone_stays, exit_more, leaving_from, leaving_to}
+use Rattle.sn_flow.proofs.Lists.{behind, cases, head, mapped, none}
 use Rattle.sn_flow.proofs.Rows.{no_room, row_added, row_known}
 use Rattle.sn_flow.proofs.Parts.{component_added, no_visit, series_added, series_refuted, left_refuted, split_added, split_refuted, split_unrouted, star_added, visit_more}
 use Rattle.sn_flow.proofs.Choices.{flow_refuted, flows_more, visit_refuted}
@@ -131,7 +133,7 @@ module _ (net : Outline) (exit : Labels) (guarded : Bool) (body : Outline) (v : 
       subst (λ (o : Outline). Refuted o v before) (sym net_is) (stops before (sym (taken ∙ ap (λ (ps : List Table). part_at ps 0) (sym are))))
   star_stops Memory stops = tt
 
-  pub star_form : (after : Table) (members flow : List Labels) (done : List Table) → Closes exit guarded body v inner after members → Adds [] (each (λ w. union w exit) members) flow → part_at done 0 ≡ after
+  pub star_form : (after : Table) (members flow : List Labels) (done : List Table) → Closes exit guarded body v inner after members → Adds [] (with_exit members exit) flow → part_at done 0 ≡ after
       → FormVisited net v parts (Ok (done, flow))
   star_form after members flow done closes adds placed = λ before t are t_is rows.
       subst (λ (o : Outline). AddsRow o v before t flow) (sym net_is)
@@ -140,7 +142,7 @@ module _ (net : Outline) (exit : Labels) (guarded : Bool) (body : Outline) (v : 
       (adds.few (omega arith))
       (λ u. ((λ there. which u ((adds.same u).0 there)), (λ there. (adds.same u).1 (inr there)))))
     where
-      which : (u : Labels) → Contains [] u ⊎ Contains (each (λ w. union w exit) members) u → Contains (each (λ w. union w exit) members) u
+      which : (u : Labels) → Contains [] u ⊎ Contains (with_exit members exit) u → Contains (with_exit members exit) u
       which u (inl nothing) = absurd (none u nothing)
       which u (inr there) = there
 
@@ -153,9 +155,9 @@ module _ (net : Outline) (exit : Labels) (guarded : Bool) (body : Outline) (v : 
       let here : Holds body inner = subst (Holds body) (sym (taken ∙ ap (λ (ps : List Table). part_at ps 0) (sym are))) holds.1 in
       stops tt (record { all = few.all; few = few.few; listed = λ u there. few.listed u (which here u there) }))
     where
-      which : Holds body inner → (u : Labels) → Contains [] u ⊎ Contains (each (λ w. union w exit) members) u → Flows (Star exit guarded body) v u
+      which : Holds body inner → (u : Labels) → Contains [] u ⊎ Contains (with_exit members exit) u → Flows (Star exit guarded body) v u
       which here u (inl nothing) = absurd (none u nothing)
-      which here u (inr there) = let found = unmapped (λ (w : Labels). union w exit) members u there in (found.origin, (closes.same here found.origin).0 found.listed, sym found.is)
+      which here u (inr there) = let found = leaving_from members exit u there in (found.origin, (closes.same here found.origin).0 found.listed, found.alike, found.is)
   exit_stops after members Memory closes stops = tt
 
 -- a split
@@ -262,7 +264,7 @@ module _ (exit : Labels) (guarded : Bool) (body : Outline) (v : Labels) (before 
       which u (inr there) = there
   close_add_stops empty members copy Memory none_yet stops = tt
 
-  module _ (t : Table) (members : List Labels) (i : ℕ) (u : Labels) (here : slice_get members i ≡ Some u) (at : Stand t members i) (b : Bool) (test : b ≡ (not guarded && is_subset exit u)) where
+  module _ (t : Table) (members : List Labels) (i : ℕ) (u : Labels) (here : slice_get members i ≡ Some u) (at : Stand t members i) (b : Bool) (test : b ≡ (not guarded && fits exit u)) where
     member : Contains members u
     member = (i, slice_get_within members i u here, get_or_from_slice_get members i u u here)
 
@@ -275,15 +277,15 @@ module _ (exit : Labels) (guarded : Bool) (body : Outline) (v : Labels) (before 
     leaving : b ≡ true → SurelyLeaves exit guarded u
     leaving is = at_guard guarded (sym test ∙ is)
       where
-        at_guard : (g : Bool) → IsTrue (not g && is_subset exit u) → SurelyLeaves exit g u
+        at_guard : (g : Bool) → IsTrue (not g && fits exit u) → SurelyLeaves exit g u
         at_guard true e = absurd (differ e)
           where
             differ : false ≡ true → ⊥
             differ e = cc
-        at_guard false e = record { unguarded = refl; within = (is_subset-IsSubset exit u).0 e }
+        at_guard false e = record { unguarded = refl; fits = (fits-Fits exit u).0 e }
 
     staying : b ≡ false → SurelyLeaves exit guarded u → ⊥
-    staying is leaves = differ (sym (subst (λ (g : Bool). IsTrue (not g && is_subset exit u)) (sym leaves.unguarded) ((is_subset-IsSubset exit u).1 leaves.within)) ∙ sym test ∙ is)
+    staying is leaves = differ (sym (subst (λ (g : Bool). IsTrue (not g && fits exit u)) (sym leaves.unguarded) ((fits-Fits exit u).1 leaves.fits)) ∙ sym test ∙ is)
       where
         differ : true ≡ false → ⊥
         differ e = cc
@@ -318,20 +320,30 @@ module _ (exit : Labels) (guarded : Bool) (body : Outline) (v : Labels) (before 
 
 -- the members with the exit, one after another
 module _ (members : List Labels) (exit : Labels) where
-  abbrev pub whole_exit : List Labels
-  whole_exit = each (λ w. union w exit) members
+  pub exit_next : (i : ℕ) (m whole : Labels) (flow last : List Labels) → i < length members → m ≡ get_or members i m → whole ≡ union m exit → bind_alike m exit ≡ true
+      → Adds [] (with_exit (take i members) exit) flow → Adds flow (whole ∷ []) last → Adds [] (with_exit (take (i + 1) members) exit) last
+  exit_next i m whole flow last below here made alike earlier later =
+      subst (λ (us : List Labels). Adds [] us last) (sym (exit_more members exit i m below here))
+      (adds_more [] (with_exit (take i members) exit) flow (with_exit (m ∷ []) exit) last earlier
+      (subst (λ (us : List Labels). Adds flow us last) (ap (λ (u : Labels). u ∷ []) made ∙ sym (alone_leaves m exit alike)) later))
 
-  exit_place : (i : ℕ) (m whole : Labels) → i < length members → m ≡ get_or members i m → whole ≡ union m exit → get_or whole_exit i whole ≡ whole
-  exit_place i m whole below here made = get_or-map (λ (w : Labels). union w exit) members i m whole below ∙ ap (λ (w : Labels). union w exit) (sym here) ∙ sym made
+  pub exit_passes : (i : ℕ) (m : Labels) (flow : List Labels) → i < length members → m ≡ get_or members i m → bind_alike m exit ≡ false
+      → Adds [] (with_exit (take i members) exit) flow → Adds [] (with_exit (take (i + 1) members) exit) flow
+  exit_passes i m flow below here apart earlier =
+      subst (λ (us : List Labels). Adds [] us flow) (sym (exit_more members exit i m below here ∙ ap (λ (us : List Labels). with_exit (take i members) exit ++ us) (alone_stays m exit apart) ∙ append-nil _)) earlier
 
-  pub exit_next : (i : ℕ) (m whole : Labels) (flow last : List Labels) → i < length members → m ≡ get_or members i m → whole ≡ union m exit → Adds [] (take i whole_exit) flow → Adds flow (whole ∷ []) last → Adds [] (take (i + 1) whole_exit) last
-  exit_next i m whole flow last below here made earlier later =
-      adds_next [] whole_exit flow last i whole (omega (arith, below, length-map members (λ (w : Labels). union w exit))) (exit_place i m whole below here made) earlier later
+  pub exit_add_stops : (i : ℕ) (m whole : Labels) (flow last : List Labels) (stop : Stop) → i < length members → m ≡ get_or members i m → whole ≡ union m exit → bind_alike m exit ≡ true
+      → Adds [] (with_exit (take i members) exit) flow → Added flow (whole ∷ []) last (Err stop) → WithExit members exit (Err stop)
+  exit_add_stops i m whole flow last TooMany below here made alike earlier stops =
+      overflows_more [] (with_exit (take i members) exit) flow (whole ∷ []) (with_exit members exit) earlier stops
+      (λ u there. within u (subst (λ (us : List Labels). Contains us u) (ap (λ (us : List Labels). with_exit (take i members) exit ++ us) (ap (λ (z : Labels). z ∷ []) made ∙ sym (alone_leaves m exit alike))
+      ∙ sym (exit_more members exit i m below here)) there))
+    where
+      within : (u : Labels) → Contains (with_exit (take (i + 1) members) exit) u → Contains (with_exit members exit) u
+      within u there =
+          let found = leaving_from (take (i + 1) members) exit u there in
+          subst (Contains (with_exit members exit)) (sym found.is) (leaving_to members exit found.origin (taken_within (i + 1) members found.origin found.listed) found.alike)
+  exit_add_stops i m whole flow last Memory below here made alike earlier stops = tt
 
-  pub exit_add_stops : (i : ℕ) (m whole : Labels) (flow last : List Labels) (stop : Stop) → i < length members → m ≡ get_or members i m → whole ≡ union m exit → Adds [] (take i whole_exit) flow → Added flow (whole ∷ []) last (Err stop) → WithExit members exit (Err stop)
-  exit_add_stops i m whole flow last TooMany below here made earlier stops =
-      add_all_stops [] whole_exit flow last last i whole TooMany (omega (arith, below, length-map members (λ (w : Labels). union w exit))) (exit_place i m whole below here made) earlier stops
-  exit_add_stops i m whole flow last Memory below here made earlier stops = tt
-
-  pub exit_ends : (i : ℕ) (flow : List Labels) → length members ≤ i → Adds [] (take i whole_exit) flow → WithExit members exit (Ok flow)
-  exit_ends i flow past adds = subst (λ (ws : List Labels). Adds [] ws flow) (take_all i whole_exit (omega (arith, past, length-map members (λ (w : Labels). union w exit)))) adds
+  pub exit_ends : (i : ℕ) (flow : List Labels) → length members ≤ i → Adds [] (with_exit (take i members) exit) flow → WithExit members exit (Ok flow)
+  exit_ends i flow past adds = subst (λ (ms : List Labels). Adds [] (with_exit ms exit) flow) (take_all i members past) adds

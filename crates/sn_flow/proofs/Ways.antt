@@ -3,7 +3,7 @@ use Rattle.std.proofs.Common.{ℕ, Bool, IsTrue, List, [], ◌∷◌, ◌++◌}
 use Rattle.sn_record.specs.LabelSet.{Labels, contains, union}
 use Rattle.sn_net.specs.Filter.{tag}
 use Rattle.sn_typing.specs.Outline.{Outline, Series, Choice, Star, Split}
-use Rattle.sn_typing.specs.Flow.{HasFace, IsUnbeaten, SurelyLeaves, Comes, Flows}
+use Rattle.sn_typing.specs.Flow.{HasFace, MayTake, SurelyLeaves, Comes, Flows}
 use Rattle.sn_typing.specs.Reached.{Turn, Left, Right, Branch, Body, Reached, Reached.{here, left, right, branch, inside, replica}}
 use Rattle.sn_typing.specs.Accepted.{IsReached}
 
@@ -31,7 +31,7 @@ module _ (root : Outline) (input : List Labels) (way : List Turn) where
   to_right a b v w is flow = one_more (Series a b) v Right b w is (right a b v w [] b w flow (here b w))
 
   pub to_branch : (place : ℕ) (faces : List (List Labels)) (branches : ℕ → Outline) (v : Labels) (i : ℕ) (w : Labels) → IsReached root input way (Choice place faces branches) v
-      → HasFace faces v → IsUnbeaten faces i w (union v w) → IsReached root input (way ++ Branch i ∷ []) (branches i) (union v w)
+      → HasFace faces v → MayTake faces i w v → IsReached root input (way ++ Branch i ∷ []) (branches i) (union v w)
   to_branch place faces branches v i w is has unbeaten =
       one_more (Choice place faces branches) v (Branch i) (branches i) (union v w) is
       (branch place faces branches v i w [] (branches i) (union v w) has unbeaten (here (branches i) (union v w)))

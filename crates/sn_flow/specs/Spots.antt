@@ -6,7 +6,8 @@ use Rattle.std.specs.Ordering.{is_lt, nat_cmp, on, then_cmp}
 use Rattle.sn_record.specs.LabelSet.{Labels, contains}
 use Rattle.sn_net.specs.Face.{variant_cmp}
 use Rattle.sn_net.specs.Filter.{tag}
-use Rattle.sn_types.specs.RecordType.{has_subset}
+use Rattle.sn_types.specs.RecordType.{has_fit}
+use Rattle.sn_flow.specs.Taken.{is_taken}
 use Rattle.sn_typing.specs.Outline.{Outline, Component, Series, Choice, Star, Split}
 use Rattle.sn_flow.specs.declared.spots.Spot.{Spot}
 use Rattle.sn_flow.specs.declared.table.Row.{Row}
@@ -40,9 +41,9 @@ place_of (Split place id body) = place
 
 -- whether the form itself has a route
 abbrev pub is_routed : Outline → Labels → Bool
-is_routed (Component place takes named outputs) v = has_subset takes v
+is_routed (Component place takes named outputs) v = is_taken takes v
 is_routed (Series a b) v = true
-is_routed (Choice place faces branch) v = list_any (λ face. has_subset face v) faces
+is_routed (Choice place faces branch) v = list_any (λ face. has_fit face v) faces
 is_routed (Star exit guarded body) v = true
 is_routed (Split place id body) v = contains v (tag id)
 
@@ -64,10 +65,10 @@ spots (Choice place faces branch) t = row_spots (Choice place faces branch) (row
 spots (Star exit guarded body) t = row_spots (Star exit guarded body) (rows_of t) ++ spots body (child t 0)
 spots (Split place id body) t = row_spots (Split place id body) (rows_of t) ++ spots body (child t 0)
 
--- the variants of a flow that have no subset in the output
+-- the variants of a flow that no variant of the output fits
 abbrev pub flow_spots : ℕ → List Labels → List Labels → List Spot
 flow_spots place output [] = []
-flow_spots place output (u ∷ us) = if has_subset output u then flow_spots place output us else spot place u ∷ flow_spots place output us
+flow_spots place output (u ∷ us) = if has_fit output u then flow_spots place output us else spot place u ∷ flow_spots place output us
 
 -- the same of all that flows out for the input
 abbrev pub bad_spots : ℕ → List Labels → List Row → List Labels → List Spot

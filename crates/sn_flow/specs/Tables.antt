@@ -4,7 +4,7 @@ use Rattle.std.specs.List.{Contains}
 use Rattle.sn_record.specs.LabelSet.{Labels, contains, union}
 use Rattle.sn_net.specs.Filter.{tag}
 use Rattle.sn_typing.specs.Outline.{Outline, Component, Series, Choice, Star, Split}
-use Rattle.sn_typing.specs.Flow.{Flows, HasFace, IsUnbeaten, Comes, SurelyLeaves}
+use Rattle.sn_typing.specs.Flow.{Flows, HasFace, MayTake, Comes, SurelyLeaves}
 use Rattle.sn_typing.specs.Reached.{Turn, Left, Right, Branch, Body}
 use Rattle.sn_typing.specs.Accepted.{AreFew, IsReached, most_variants}
 use Rattle.sn_flow.specs.declared.table.Row.{Row}
@@ -53,7 +53,7 @@ abbrev pub Inner : Outline → Table → Labels → Type 0
 Inner (Component place takes named outputs) t v = Unit {0}
 Inner (Series a b) t v = (HasRow a (child t 0) v × Inner a (child t 0) v) × ((w : Labels) → Flows a v w → HasRow b (child t 1) w × Inner b (child t 1) w)
 Inner (Choice place faces branch) t v =
-    HasFace faces v → (i : ℕ) (w : Labels) → IsUnbeaten faces i w (union v w) → HasRow (branch i) (child t i) (union v w) × Inner (branch i) (child t i) (union v w)
+    HasFace faces v → (i : ℕ) (w : Labels) → MayTake faces i w v → HasRow (branch i) (child t i) (union v w) × Inner (branch i) (child t i) (union v w)
 Inner (Star exit guarded body) t v =
     AreFew (Comes exit guarded (Flows body) v)
     × ((u : Labels) → Comes exit guarded (Flows body) v u → (SurelyLeaves exit guarded u → ⊥) → HasRow body (child t 0) u × Inner body (child t 0) u)

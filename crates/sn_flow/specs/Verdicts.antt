@@ -8,7 +8,7 @@ use Rattle.sn_net.specs.Face.{variant_cmp}
 use Rattle.sn_net.specs.declared.expr.BoxProgram.{BoxProgram}
 use Rattle.sn_net.specs.declared.net.Claim.{Claim}
 use Rattle.sn_typing.specs.Outline.{Outline, outline}
-use Rattle.sn_types.specs.RecordType.{HasSubset}
+use Rattle.sn_types.specs.RecordType.{HasFit}
 use Rattle.sn_typing.specs.Flow.{Flows, IsRouted, Safe}
 use Rattle.sn_typing.specs.Reached.{Turn}
 use Rattle.sn_typing.specs.Accepted.{IsAccepted, IsBounded, IsReached}
@@ -24,12 +24,12 @@ pub record IsUnrouted (net : Outline) (input : List Labels) (place : ℕ) (u : L
   pub here : place_of part ≡ place
   pub unrouted : IsRouted part u → ⊥
 
--- u comes out for some variant of the input, and has no subset in the output
+-- u comes out for some variant of the input, and no variant of the output fits it
 pub record IsUndeclared (net : Outline) (input output : List Labels) (u : Labels) : Type 0 where
   pub from : Labels
   pub listed : Contains input from
   pub flow : Flows net from u
-  pub undeclared : HasSubset output u → ⊥
+  pub undeclared : HasFit output u → ⊥
 
 -- the place and the variant are the first of some: no other has a lesser place, or the same and a lesser variant
 pub record IsFirst (among : ℕ → Labels → Type 0) (place : ℕ) (u : Labels) : Type 0 where

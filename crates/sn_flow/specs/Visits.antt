@@ -1,7 +1,7 @@
 -- What a visit of a part with a variant makes of its table, and when it stops.
-use Rattle.std.specs.Prelude.{◌≡◌, ◌↔◌, ◌⊎◌, ℕ, ◌+◌, Bool, ◌≤◌, List, [], ◌∷◌, ◌++◌, length, map, take, if◌then◌else◌, Result, Ok, Err}
+use Rattle.std.specs.Prelude.{◌≡◌, ◌↔◌, ◌⊎◌, ℕ, ◌+◌, Bool, ◌≤◌, List, [], ◌∷◌, ◌++◌, length, take, if◌then◌else◌, Result, Ok, Err}
 use Rattle.std.specs.List.{Contains}
-use Rattle.sn_record.specs.LabelSet.{Labels, union}
+use Rattle.sn_record.specs.LabelSet.{Labels}
 use Rattle.sn_typing.specs.Outline.{Outline, Component, Star}
 use Rattle.sn_typing.specs.Flow.{Comes, Flows, SurelyLeaves}
 use Rattle.sn_typing.specs.Reached.{Turn}
@@ -10,6 +10,7 @@ use Rattle.sn_flow.specs.declared.stop.Stop.{Stop}
 use Rattle.sn_flow.specs.declared.stop.Stop.TheVariants.{TooMany, Memory}
 use Rattle.sn_flow.specs.declared.table.Table.{Table}
 use Rattle.sn_types.specs.RecordType.{is_same}
+use Rattle.sn_flow.specs.Taken.{with_exit}
 use Rattle.sn_flow.specs.declared.table.Row.{Row}
 use Rattle.sn_flow.specs.Tables.{AreDistinct, Came, Covers, Holds, Inner, InnerCame, InnerHolds, IsFlow, child, part_at, parts_of, rows_of}
 
@@ -189,10 +190,10 @@ Turned exit guarded body v before i parts members parts' members' (Ok done) =
 Turned exit guarded body v before i parts members parts' members' (Err stop) =
     Closing exit guarded body v before (part_at parts 0) members i → Closed exit guarded body v before (Err stop)
 
--- the members with the exit, each once
+-- the members with the binding tags of the exit, with it, each once
 abbrev pub WithExit : List Labels → Labels → Result (List Labels) Stop → Type 0
-WithExit members exit (Ok flow) = Adds [] (map (λ w. union w exit) members) flow
-WithExit members exit (Err TooMany) = Overflows [] (map (λ w. union w exit) members)
+WithExit members exit (Ok flow) = Adds [] (with_exit members exit) flow
+WithExit members exit (Err TooMany) = Overflows [] (with_exit members exit)
 WithExit members exit (Err Memory) = Unit {0}
 
 -- The branches of a choice before the i-th were visited with what is sent to them, and what flows out was put together.

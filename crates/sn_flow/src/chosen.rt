@@ -1,10 +1,10 @@
 //! Which variants a choice sends to its branches.
 ghost use Rattle.std.specs.Prelude.{◌≡◌, IfOk};
 ghost use Rattle.std.specs.List.{list_any};
-ghost use Rattle.sn_types.specs.RecordType.{has_subset};
+ghost use Rattle.sn_types.specs.RecordType.{has_fit};
 ghost use Rattle.sn_flow.specs.Chosen.{chosen_of, is_beaten, is_before};
 
-use crate::sets::{has_subset, is_subset};
+use crate::sets::{bind_alike, fits, has_fit};
 use sn_list::{Memory, Seq};
 use sn_record::LabelSet;
 use sn_stack::append;
@@ -14,7 +14,7 @@ use std::alloc::Global;
 fn is_before(i: usize, size: usize, whole: &LabelSet, j: usize, other: &LabelSet) -> bool
     ensures { result ≡ is_before i size whole.now j other.now }
 {
-    is_subset(other, whole) && (other.len() > size || (other.len() == size && j < i))
+    fits(other, whole) && (other.len() > size || (other.len() == size && j < i))
 }
 
 /// Whether a variant of the face of branch `j` is.
@@ -41,7 +41,7 @@ fn is_beaten(faces: &[Seq<LabelSet>], i: usize, size: usize, whole: &LabelSet) -
     false
 }
 
-/// The variant with each of `own`, variants of branch `i`, that isn't beaten within both.
+/// The variant with each of `own`, variants of branch `i`, that has the same binding tags and isn't beaten within both.
 pub fn chosen(
     alloc: Global,
     faces: &[Seq<LabelSet>],
@@ -53,6 +53,9 @@ pub fn chosen(
 {
     let mut sets = Seq::new(alloc);
     for other in own {
+        if !bind_alike(other, variant) {
+            continue;
+        }
         let whole = variant.union(other)?;
         if !is_beaten(faces, i, other.len(), &whole) {
             append(&mut sets, whole)?;
@@ -61,12 +64,12 @@ pub fn chosen(
     Ok(sets)
 }
 
-/// Whether some face has a subset of the variant.
+/// Whether some face has a variant that fits this one.
 pub fn has_face(faces: &[Seq<LabelSet>], variant: &LabelSet) -> bool
-    ensures { result ≡ list_any (λ face. has_subset face variant.now) faces.now }
+    ensures { result ≡ list_any (λ face. has_fit face variant.now) faces.now }
 {
     for face in faces {
-        if has_subset(face.as_slice(), variant) {
+        if has_fit(face.as_slice(), variant) {
             return true;
         }
     }

@@ -6,7 +6,7 @@ ghost use Rattle.sn_typing.specs.Outline.{template_variant};
 ghost use Rattle.sn_flow.specs.Visits.{ComponentFlows};
 
 use crate::indexed::Indexed;
-use crate::sets::{add_union, has_subset};
+use crate::sets::{add_union, is_taken};
 use crate::stop::Stop;
 use sn_list::{Memory, Seq};
 use sn_net::{BoxProgram, Filter, Template, variant_of};
@@ -15,8 +15,7 @@ use sn_stack::append;
 use std::alloc::Global;
 use std::slice::from_ref;
 
-/// What a component answers to a variant: each output with what of the variant is not named, if one of those that it takes is a
-/// subset.
+/// What a component answers to a variant that it takes: each output with what of the variant is not named.
 fn component_flow(
     alloc: Global,
     takes: &[LabelSet],
@@ -26,7 +25,7 @@ fn component_flow(
 ) -> Result<Seq<LabelSet>, Stop>
     ensures { ComponentFlows takes.now named.now outputs.now variant.now result }
 {
-    if !has_subset(takes, variant) {
+    if !is_taken(takes, variant) {
         return Ok(Seq::new(alloc));
     }
     let rest = variant.minus(named)?;

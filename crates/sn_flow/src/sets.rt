@@ -1,8 +1,10 @@
 //! Sets of variants, as lists in which none stands twice.
 ghost use Rattle.std.specs.Prelude.{◌≡◌, ◌∷◌, [], ◌&&◌};
-ghost use Rattle.std.specs.List.{list_any};
+ghost use Rattle.std.specs.List.{list_all, list_any};
 ghost use Rattle.sn_record.specs.LabelSet.{union};
-ghost use Rattle.sn_types.specs.RecordType.{has_subset, is_same, is_subset};
+ghost use Rattle.sn_record.specs.Fits.{bind_alike, fits};
+ghost use Rattle.sn_types.specs.RecordType.{has_fit, is_same};
+ghost use Rattle.sn_flow.specs.Taken.{is_taken};
 ghost use Rattle.sn_flow.specs.Visits.{Added, FoundAdded};
 
 use crate::indexed::Indexed;
@@ -14,23 +16,49 @@ use std::alloc::Global;
 /// How many variants a set has at most.
 pub const MOST_VARIANTS: usize = 1024;
 
-/// Whether `small` is a subset of `large`.
-pub fn is_subset(small: &LabelSet, large: &LabelSet) -> bool
-    ensures { result ≡ is_subset small.now large.now }
+/// Whether `small` fits `large`.
+pub fn fits(small: &LabelSet, large: &LabelSet) -> bool
+    ensures { result ≡ fits small.now large.now }
 {
-    small.is_subset(large)
+    small.fits(large)
 }
 
-/// Whether some variant of the list is a subset of `set`.
-pub fn has_subset(variants: &[LabelSet], set: &LabelSet) -> bool
-    ensures { result ≡ has_subset variants.now set.now }
+/// Whether the two have the same binding tags.
+pub fn bind_alike(left: &LabelSet, right: &LabelSet) -> bool
+    ensures { result ≡ bind_alike left.now right.now }
+{
+    left.binds_alike(right)
+}
+
+/// Whether some variant of the list fits `set`.
+pub fn has_fit(variants: &[LabelSet], set: &LabelSet) -> bool
+    ensures { result ≡ has_fit variants.now set.now }
 {
     for variant in variants {
-        if is_subset(variant, set) {
+        if fits(variant, set) {
             return true;
         }
     }
     false
+}
+
+/// Whether each variant of the list has the binding tags of `set`.
+fn all_bind_alike(variants: &[LabelSet], set: &LabelSet) -> bool
+    ensures { result ≡ list_all (λ variant. bind_alike variant set.now) variants.now }
+{
+    for variant in variants {
+        if !bind_alike(variant, set) {
+            return false;
+        }
+    }
+    true
+}
+
+/// Whether a component that takes the variants takes `set`.
+pub fn is_taken(takes: &[LabelSet], set: &LabelSet) -> bool
+    ensures { result ≡ is_taken takes.now set.now }
+{
+    has_fit(takes, set) && all_bind_alike(takes, set)
 }
 
 /// Adds a copy of a variant, unless it is there.

@@ -9,13 +9,14 @@ ghost use Rattle.sn_flow.specs.Spots.{bad_spots, flow_spots, is_routed, least, p
 
 use crate::chosen::has_face;
 use crate::indexed::Indexed;
-use crate::sets::{has_subset, is_subset};
+use crate::sets::{has_fit, is_taken};
 use crate::table::{Row, Table, flow_of, part_of};
 use sn_list::Memory;
 use sn_net::{Boxes, Net, compare, variant_of};
 use sn_record::{Kind, Label, LabelSet};
 use std::alloc::Global;
 use std::mem::replace;
+use std::slice::from_ref;
 
 /// A place, and the variant that is refused there.
 #[derive(Drop)]
@@ -79,10 +80,10 @@ fn is_routed(alloc: Global, net: &Net, boxes: &Boxes, variant: &LabelSet) -> Res
     match net {
         Net::Box { number, .. } => {
             let takes = variant_of(alloc, boxes.at(*number as usize).input.as_slice())?;
-            Ok(is_subset(&takes, variant))
+            Ok(is_taken(from_ref(&takes), variant))
         }
-        Net::Filter(filter) => Ok(is_subset(&filter.pattern, variant)),
-        Net::Sync { patterns, .. } => Ok(has_subset(patterns.as_slice(), variant)),
+        Net::Filter(filter) => Ok(is_taken(from_ref(&filter.pattern), variant)),
+        Net::Sync { patterns, .. } => Ok(is_taken(patterns.as_slice(), variant)),
         Net::Choice { faces, .. } => Ok(has_face(faces.as_slice(), variant)),
         Net::Split { tag, .. } => Ok(variant.contains(Label {
             kind: Kind::Tag,
@@ -151,7 +152,7 @@ pub fn unrouted_spot(
     }
 }
 
-/// Keeps the soonest of `best` and the variants of the flow that have no subset in the output.
+/// Keeps the soonest of `best` and the variants of the flow that no variant of the output fits.
 fn flow_spot(
     place: u32,
     output: &[LabelSet],
@@ -161,7 +162,7 @@ fn flow_spot(
     ensures { OnOk result (best.new ≡ least best.old (flow_spots place output.now flow.now)) }
 {
     for variant in flow {
-        if has_subset(output, variant) {
+        if has_fit(output, variant) {
             continue;
         }
         keep_sooner(best, place, variant)?;
@@ -169,7 +170,7 @@ fn flow_spot(
     Ok(())
 }
 
-/// Keeps the soonest of `best` and what flows out for the input and has no subset in the output.
+/// Keeps the soonest of `best` and what flows out for the input and no variant of the output fits.
 pub fn bad_spot(
     alloc: Global,
     place: u32,

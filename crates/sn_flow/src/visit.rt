@@ -2,7 +2,7 @@
 ghost use Rattle.std.specs.Prelude.{◌≡◌, ◌<◌, ◌&&◌, ℕ, length, map, not};
 ghost use Rattle.std.specs.List.{All};
 ghost use Rattle.sn_record.specs.LabelSet.{Labels};
-ghost use Rattle.sn_types.specs.RecordType.{is_subset};
+ghost use Rattle.sn_record.specs.Fits.{fits};
 ghost use Rattle.sn_net.specs.WellFormed.{IsSoundChoice, FitsBoxes};
 ghost use Rattle.sn_typing.specs.Outline.{Choice, Series, Split, Star, branch_of, is_guarded, outline};
 ghost use Rattle.sn_flow.specs.declared.table.Table.{Table as SomeTable};
@@ -11,7 +11,7 @@ ghost use Rattle.sn_flow.specs.Visits.{FormVisited, PartVisited, PartVisitedAll,
 use crate::chosen::{chosen, has_face};
 use crate::flows::{box_flow, cell_flow, filter_flow};
 use crate::indexed::Indexed;
-use crate::sets::{MOST_VARIANTS, add, add_found, add_union, is_subset};
+use crate::sets::{MOST_VARIANTS, add, add_found, add_union, bind_alike, fits};
 use crate::stop::Stop;
 use crate::table::{Table, add_row, has_row, put_back, take_out};
 use sn_list::Seq;
@@ -224,9 +224,9 @@ fn visit_part_with(
 
 /// Whether records of the variant surely leave.
 fn leaves(exit: &LabelSet, guarded: bool, variant: &LabelSet) -> bool
-    ensures { result ≡ (not guarded && is_subset exit.now variant.now) }
+    ensures { result ≡ (not guarded && fits exit.now variant.now) }
 {
-    !guarded && is_subset(exit, variant)
+    !guarded && fits(exit, variant)
 }
 
 /// Visits a star's body, its only part, with the i-th of what comes from the variant, if that stays, and adds what flows out.
@@ -253,12 +253,15 @@ fn visit_member(
     add_found(alloc, members, found)
 }
 
-/// Each of the variants with the exit.
+/// Each of the variants that have the binding tags of the exit, with it.
 fn with_exit(alloc: Global, members: &[LabelSet], exit: &LabelSet) -> Result<Seq<LabelSet>, Stop>
     ensures { WithExit members.now exit.now result }
 {
     let mut flow = Indexed::new(alloc);
     for member in members {
+        if !bind_alike(member, exit) {
+            continue;
+        }
         add_union(alloc, &mut flow, member, exit)?;
     }
     Ok(flow.into_seq())

@@ -9,4 +9,4 @@ use Rattle.sn_tagexpr.proofs.EveryTag.{every_tag-weaker}
 use Rattle.sn_net.specs.Filter.{is_over, tag}
 
 pub tags_there : (pattern : Labels) (r : Entries) (expr : TagExpr) → Matches r pattern → IsTrue (is_over pattern expr) → IsTrue (every_tag (λ id. contains_key r (tag id)) expr)
-tags_there pattern r expr matches over = every_tag-weaker _ (λ id. contains_key r (tag id)) (λ id there. matches (tag id) there) expr over
+tags_there pattern r expr matches over = every_tag-weaker _ (λ id. contains_key r (tag id)) (λ id there. matches.within (tag id) there) expr over

@@ -5,5 +5,6 @@ pub mod Maps
 pub mod Sets
 pub mod Values
 pub mod Records
+pub mod Fitting
 pub mod Scores
 pub mod Compared

@@ -12,7 +12,7 @@ use Rattle.sn_record.specs.declared.label.Label.{Label}
 use Rattle.sn_record.specs.declared.value.Value.{Value}
 use Rattle.sn_record.specs.Label.{label_cmp, label_cmp_total, label_cmp-IsAntisymmetric}
 use Rattle.sn_record.specs.LabelSet.{Labels, contains}
-use Rattle.sn_record.specs.Record.{Entries, FitsLabel, IsRecord, Matches, is_missing, overlay, restrict, inherit}
+use Rattle.sn_record.specs.Record.{Entries, FitsLabel, IsRecord, is_missing, overlay, restrict, inherit}
 use Rattle.sn_record.proofs.Maps.{ties_itself, same_label, option_or-none, is_some-cond, get-append, get-retain_keys, get-slice_get}
 
 -- records that have the same value at each label are one
@@ -86,9 +86,9 @@ get-inherit_emitted r v o l there = get-inherit r v o l ∙ first_wins _ _ None 
 pub inherit-empty : (r : Entries) → inherit r map.empty map.empty ≡ r
 inherit-empty r = same_record _ r (λ l. get-inherit r map.empty map.empty l ∙ rw (map.get-empty label_cmp l, map.get-empty label_cmp l) refl)
 
--- what the emitted record matches, the whole matches
-pub Matches-inherit_emitted : (r : Entries) (v w : Labels) (o : Entries) → Matches o w → Matches (inherit r v o) w
-Matches-inherit_emitted r v w o matches l there = ap is_some (get-inherit_emitted r v o l (matches l there)) ∙ matches l there
+-- a label of the emitted record is one of the whole
+pub emitted_there : (r : Entries) (v : Labels) (o : Entries) (l : Label) → IsTrue (map.contains_key o l) → IsTrue (map.contains_key (inherit r v o) l)
+emitted_there r v o l there = ap is_some (get-inherit_emitted r v o l there) ∙ there
 
 pub IsRecord-empty : IsRecord map.empty
 IsRecord-empty l = rw (map.get-empty label_cmp l) tt

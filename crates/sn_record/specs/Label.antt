@@ -1,5 +1,5 @@
--- The order of labels: fields before tags, and then by number.
-use Rattle.std.specs.Prelude.{◌≡◌, ℕ, refl}
+-- The order of labels: fields before tags, and then by number. The tags with the greatest numbers are binding.
+use Rattle.std.specs.Prelude.{◌≡◌, ℕ, refl, Bool, true, false, ◌&&◌, nat_le}
 use Rattle.std.specs.declared.cmp.Ordering.{Ordering}
 use Rattle.std.specs.declared.cmp.Ordering.TheVariants.{Equal}
 use Rattle.std.specs.Ordering.{nat_cmp, on, then_cmp, ordering_then}
@@ -32,3 +32,15 @@ label_cmp-IsAntisymmetric x y e =
     let kinds = same_kind x.kind y.kind (nat_cmp x.id y.id) e in
     let ids = nat_cmp-IsAntisymmetric x.id y.id kinds.1 in
     λ i. record { kind = kinds.0 i; id = ids i }
+
+abbrev pub is_tag : Kind → Bool
+is_tag Field = false
+is_tag Tag = true
+
+-- the least number of a binding tag
+abbrev pub first_binding : ℕ
+first_binding = 2147483648
+
+-- whether the label is a binding tag
+abbrev pub is_binding : Label → Bool
+is_binding l = is_tag l.kind && nat_le first_binding l.id

@@ -1,6 +1,5 @@
 -- Records, by the value at each label.
-use Rattle.std.specs.Prelude.{◌≡◌, ◌++◌, ℕ, Bool, not, ◌&&◌, IsTrue, IfSome, if◌then◌else◌, max, List, [], ◌∷◌, Option, None, Some}
-use Rattle.std.specs.List.{list_all}
+use Rattle.std.specs.Prelude.{◌≡◌, ◌++◌, ℕ, Bool, not, ◌&&◌, IfSome, if◌then◌else◌, max, List, [], ◌∷◌, Option, None, Some}
 use Rattle.std.specs.FinMap as map
 use Rattle.sn_record.specs.declared.label.Label.{Label}
 use Rattle.sn_record.specs.declared.label.Kind.TheVariants.{Tag}
@@ -9,6 +8,7 @@ use Rattle.sn_record.specs.declared.value.Value.TheOpen.{Value-F}
 use Rattle.sn_record.specs.declared.value.Value.TheViews.{out-Value}
 use Rattle.sn_record.specs.Label.{label_cmp}
 use Rattle.sn_record.specs.LabelSet.{Labels, contains}
+use Rattle.sn_record.specs.Fits.{FitsAmong, fits}
 use Rattle.sn_record.specs.Value.{IsSound}
 
 abbrev pub Entries : Type 0
@@ -28,13 +28,13 @@ pub record FitsLabel (l : Label) (v : Value) : Type 0 where
 abbrev pub IsRecord : Entries → Type 0
 IsRecord r = (l : Label) → IfSome (map.get r l) (FitsLabel l)
 
--- each label of v is one of r
+-- v fits the labels of r
 abbrev pub Matches : Entries → Labels → Type 0
-Matches r v = (l : Label) → IsTrue (contains v l) → IsTrue (map.contains_key r l)
+Matches r v = FitsAmong (map.contains_key r) v
 
--- whether r has each label of v: the test of `Matches`
+-- whether v fits the labels of r: the test of `Matches`
 abbrev pub is_match : Entries → Labels → Bool
-is_match r v = list_all (map.contains_key r) (map.keys v)
+is_match r v = fits v r
 
 -- the greater of two sizes, where there are any
 abbrev pub greater : Option ℕ → Option ℕ → Option ℕ

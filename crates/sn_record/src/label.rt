@@ -3,7 +3,7 @@ ghost use Rattle.std.proofs.Common.{rules};
 ghost use Rattle.std.specs.Cmp.{partial_order_from_own_ties};
 ghost use Rattle.std.specs.Cmp.Rules.{comparing};
 ghost use Rattle.std.specs.Ordering.{as_partial_cmp};
-ghost use Rattle.sn_record.specs.Label.{label_cmp, label_cmp_total};
+ghost use Rattle.sn_record.specs.Label.{is_binding, label_cmp, label_cmp_total};
 
 use sn_list::sorted::KeyOrder;
 use std::cmp::Ordering;
@@ -20,6 +20,18 @@ pub enum Kind {
 pub struct Label {
     pub kind: Kind,
     pub id: u32,
+}
+
+/// The least number of a binding tag.
+pub const FIRST_BINDING: u32 = 1 << 31;
+
+impl Label {
+    /// Whether the label is a binding tag: a record that has one is taken by those variants alone that name it.
+    pub fn is_binding(&self) -> bool
+        ensures { result ≡ is_binding self.now }
+    {
+        self.kind == Kind::Tag && self.id >= FIRST_BINDING
+    }
 }
 
 impl Ord for Label {

@@ -1,8 +1,10 @@
 ghost use Rattle.std.specs.Prelude.{◌≡◌, ◌<◌, ◌==◌, ◌||◌, IfOk, OnOk, OnErr, IsTrue, ◌↔◌, not, slice_get};
 ghost use Rattle.std.specs.FinMap as map;
 ghost use Rattle.std.specs.List.{filter};
+ghost use Rattle.sn_record.specs.Fits.{BindAlike, Fits};
 ghost use Rattle.sn_record.specs.LabelSet.{contains, IsSubset, union, minus};
 
+use crate::fits::{are_bound, fits};
 use crate::label::Label;
 use crate::label_map::LabelMap;
 use sn_list::Memory;
@@ -94,6 +96,20 @@ impl LabelSet {
             }
         }
         true
+    }
+
+    /// Whether each label is one of `other`, and each binding tag of `other` is one of these.
+    pub fn fits(&self, other: &LabelSet) -> bool
+        ensures { IsTrue result ↔ Fits self.now other.now }
+    {
+        fits(self, &other.labels)
+    }
+
+    /// Whether both have the same binding tags.
+    pub fn binds_alike(&self, other: &LabelSet) -> bool
+        ensures { IsTrue result ↔ BindAlike self.now other.now }
+    {
+        are_bound(self, other.as_slice()) && are_bound(other, self.as_slice())
     }
 
     /// The labels that are in either set.

@@ -4,6 +4,7 @@
 #![tactic(auto)]
 
 mod best;
+mod fits;
 mod item;
 mod label;
 mod label_map;
@@ -15,7 +16,7 @@ mod value;
 
 pub use best::score;
 pub use item::{Fault, FaultKind, Item, Items};
-pub use label::{ByLabel, Kind, Label};
+pub use label::{ByLabel, FIRST_BINDING, Kind, Label};
 pub use label_set::LabelSet;
 pub use merging::{in_order, merge};
 pub use record::Record;

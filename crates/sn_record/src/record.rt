@@ -5,6 +5,7 @@ ghost use Rattle.std.specs.FinMap as map;
 ghost use Rattle.sn_record.specs.LabelSet.{contains};
 ghost use Rattle.sn_record.specs.Record.{is_missing};
 
+use crate::fits::fits;
 use crate::label::Label;
 use crate::label_map::LabelMap;
 use crate::label_set::LabelSet;
@@ -183,16 +184,11 @@ impl Record {
         self.values.insert(label, value)
     }
 
-    /// Whether the record has each label of `variant`.
+    /// Whether `variant` fits the labels of the record.
     pub fn matches(&self, variant: &LabelSet) -> bool
         ensures { IsTrue result ↔ Matches self.now variant.now }
     {
-        for entry in variant.as_slice() {
-            if self.get(entry.0).is_none() {
-                return false;
-            }
-        }
-        true
+        fits(variant, &self.values)
     }
 
     /// What the record has, and what `other` has at other labels.

@@ -7,7 +7,7 @@ use Rattle.sn_net.specs.Filter.{field}
 use Rattle.sn_net.specs.declared.net.Merge.TheVariants.{Det}
 use Rattle.sn_record.specs.declared.label.Label.{Label}
 use Rattle.sn_record.specs.LabelSet.{Labels, union}
-use Rattle.sn_types.specs.RecordType.{HasSubset}
+use Rattle.sn_types.specs.RecordType.{HasFit}
 use Rattle.sn_typing.specs.Accepted.{IsAccepted, IsBounded, IsDeclared}
 use Rattle.sn_typing.specs.Flow.{Safe}
 use Rattle.sn_typing.specs.Outline.{Outline, Component, Series, Star, Split, outline}
@@ -15,8 +15,8 @@ use Rattle.sn_typing.proofs.Forms.{outline-Box, outline-Filter, outline-Serial, 
 use Rattle.sn_sampled.proofs.Tree.{input_variant, output_variant}
 use Rattle.sn_sampled.proofs.Entered.{the_names}
 use Rattle.sn_sampled.proofs.Declared.{label_k, label_n, label_s, start_part, step_part, exit_labels, exit_guard}
-use Rattle.sn_sampled.proofs.Labels.{Holds, holds_all, holds_flow, holds_same, holds_union, held_once, subset_by_lists}
-use Rattle.sn_sampled.proofs.Narrow.{Narrow, narrow_component, narrow_series, narrow_star, narrow_split, narrow_bounded, narrow_declared, safe_series, safe_star, safe_from, takes_one}
+use Rattle.sn_sampled.proofs.Labels.{Holds, holds_all, holds_flow, holds_same, holds_union, held_once, fits_by_lists}
+use Rattle.sn_sampled.proofs.Narrow.{Narrow, narrow_component, narrow_series, narrow_star, narrow_split, narrow_bounded, narrow_declared, safe_series, safe_star, safe_from, one_fits, takes_one}
 use Rattle.sn_sampled.proofs.Trees.{the_boxes, the_claim, main_net, behind_net, call_net, start_net, split_net, star_net, step_net}
 
 abbrev pub label_v : Label
@@ -112,15 +112,15 @@ main_holds = holds_same (union start_narrow.0 exit_labels) (all_labels ++ label_
 -- each part has a route
 call_safe : Safe call_outline input_labels
 call_safe = takes_one (variant_of (label_v ∷ [])) input_labels
-    (subset_by_lists (variant_of (label_v ∷ [])) input_labels (label_v ∷ []) (label_v ∷ label_k ∷ label_n ∷ []) (holds_all (label_v ∷ [])) input_holds refl)
+    (fits_by_lists (variant_of (label_v ∷ [])) input_labels (label_v ∷ []) (label_v ∷ label_k ∷ label_n ∷ []) (holds_all (label_v ∷ [])) input_holds refl refl)
 
 start_safe : Safe start_outline call_narrow.0
 start_safe = takes_one start_part.pattern call_narrow.0
-    (subset_by_lists start_part.pattern call_narrow.0 (label_n ∷ []) (label_w ∷ label_k ∷ label_n ∷ []) (holds_all (label_n ∷ [])) call_holds refl)
+    (fits_by_lists start_part.pattern call_narrow.0 (label_n ∷ []) (label_w ∷ label_k ∷ label_n ∷ []) (holds_all (label_n ∷ [])) call_holds refl refl)
 
 step_safe : Safe step_outline start_narrow.0
 step_safe = takes_one step_part.pattern start_narrow.0
-    (subset_by_lists step_part.pattern start_narrow.0 (label_n ∷ label_s ∷ []) all_labels (holds_all (label_n ∷ label_s ∷ [])) start_holds refl)
+    (fits_by_lists step_part.pattern start_narrow.0 (label_n ∷ label_s ∷ []) all_labels (holds_all (label_n ∷ label_s ∷ [])) start_holds refl refl)
 
 split_safe : Safe split_outline start_narrow.0
 split_safe = (start_holds label_k, safe_star exit_labels true step_outline start_narrow.0 step_narrow round_same step_safe)
@@ -128,8 +128,8 @@ split_safe = (start_holds label_k, safe_star exit_labels true step_outline start
 main_safe : Safe main_outline input_labels
 main_safe = safe_series call_outline behind_outline input_labels call_narrow call_safe (safe_series start_outline split_outline call_narrow.0 start_narrow start_safe split_safe)
 
-output_within : HasSubset (output_labels ∷ []) main_narrow.0
-output_within = takes_one output_labels main_narrow.0 (subset_by_lists output_labels main_narrow.0 all_labels all_labels (holds_all all_labels) main_holds refl)
+output_fits : HasFit (output_labels ∷ []) main_narrow.0
+output_fits = one_fits output_labels main_narrow.0 (fits_by_lists output_labels main_narrow.0 all_labels all_labels (holds_all all_labels) main_holds refl refl)
 
 pub claim_accepted : IsAccepted the_boxes the_claim
 claim_accepted =
@@ -137,6 +137,6 @@ claim_accepted =
     × IsDeclared o (input_labels ∷ []) (output_labels ∷ [])) (sym outline_is) (
       narrow_bounded main_outline input_labels main_narrow,
       safe_from main_outline input_labels main_safe,
-      narrow_declared main_outline input_labels main_narrow (output_labels ∷ []) output_within,
+      narrow_declared main_outline input_labels main_narrow (output_labels ∷ []) output_fits,
     ) in
     record { bounded = at.0; safe = at.1; declared = at.2 }

@@ -1,13 +1,14 @@
 -- Sets of labels that are told by lists of the labels.
-use Rattle.std.proofs.Common.{◌≡◌, ◌&&◌, ◌||◌, Bool, true, false, not, List, [], ◌∷◌, ◌++◌, refl, sym, ap, ◌∙◌}
+use Rattle.std.proofs.Common.{◌≡◌, ◌&&◌, ◌||◌, Bool, true, false, not, List, [], ◌∷◌, ◌++◌, refl, sym, ap, ◌∙◌, subst}
 use Rattle.std.specs.FinMap as map
 use Rattle.std.specs.List.{list_all, list_any}
 use Rattle.std.specs.Ordering.{eq_by_cmp}
 use Rattle.std.proofs.lemmas.Bool.{and_parts}
 use Rattle.sn_net.specs.Face.{variant_of}
 use Rattle.sn_record.specs.declared.label.Label.{Label}
-use Rattle.sn_record.specs.Label.{label_cmp}
-use Rattle.sn_record.specs.LabelSet.{Labels, contains, IsSubset, union, minus}
+use Rattle.sn_record.specs.Fits.{Fits}
+use Rattle.sn_record.specs.Label.{is_binding, label_cmp}
+use Rattle.sn_record.specs.LabelSet.{Labels, contains, union, minus}
 use Rattle.sn_record.proofs.Maps.{same_label}
 use Rattle.sn_record.proofs.Sets.{same_labels, contains-insert, contains-union, contains-minus}
 use Rattle.sn_typing.proofs.Subsets.{contains-variant_of}
@@ -42,9 +43,13 @@ has_then P (k ∷ labels) l here all =
       | false ↦ λ other h. has_then P labels l h parts.1
     ] refl here
 
--- a set is within another where each label of its list is in the other's
-pub subset_by_lists : (s t : Labels) (xs ys : List Label) → Holds s xs → Holds t ys → list_all (has ys) xs ≡ true → IsSubset s t
-subset_by_lists s t xs ys s_holds t_holds all l there = t_holds l ∙ has_then (has ys) xs l (sym (s_holds l) ∙ there) all
+-- a set fits another where each label of its list is in the other's, and each binding tag of that is in its own
+pub fits_by_lists : (s t : Labels) (xs ys : List Label) → Holds s xs → Holds t ys → list_all (has ys) xs ≡ true → list_all (λ l. not (is_binding l) || has xs l) ys ≡ true → Fits s t
+fits_by_lists s t xs ys s_holds t_holds all named = record {
+  within = λ l there. t_holds l ∙ has_then (has ys) xs l (sym (s_holds l) ∙ there) all;
+  bound = λ l binds there.
+      s_holds l ∙ subst (λ b. (not b || has xs l) ≡ true) binds (has_then (λ k. not (is_binding k) || has xs k) ys l (sym (t_holds l) ∙ there) named);
+}
 
 both_ways : (a b : Bool) → (a ≡ true → b ≡ true) → (b ≡ true → a ≡ true) → a ≡ b
 both_ways true true f g = refl

@@ -1,10 +1,11 @@
 -- Networks in which one variant alone reaches each part from a variant, and one alone flows out.
 use Rattle.std.proofs.Common.{◌≡◌, ℕ, zero, suc, Bool, List, [], ◌∷◌, refl, sym, ap, ◌∙◌, subst, arith}
 use Rattle.std.specs.List.{Contains}
-use Rattle.sn_record.specs.LabelSet.{Labels, IsSubset, union, minus}
-use Rattle.sn_types.specs.RecordType.{HasSubset}
+use Rattle.sn_record.specs.Fits.{Fits}
+use Rattle.sn_record.specs.LabelSet.{Labels, contains, union, minus}
+use Rattle.sn_types.specs.RecordType.{HasFit}
 use Rattle.sn_typing.specs.Accepted.{AreFew, ComesTo, IsBounded, IsDeclared, IsReached}
-use Rattle.sn_typing.specs.Flow.{Comes, Comes.{first, next}, Flows, Safe}
+use Rattle.sn_typing.specs.Flow.{Comes, Comes.{first, next}, Flows, Safe, Takes}
 use Rattle.sn_typing.specs.Outline.{Outline, Component, Series, Choice, Star, Split}
 use Rattle.sn_typing.specs.Reached.{Turn, Left, Right, Body, Reached, Reached.{here, left, right, inside, replica}}
 
@@ -44,7 +45,7 @@ only_comes exit guarded body v x same w (next u w' come stays flow) = x.1 w (sub
 
 abbrev pub narrow_star : (exit : Labels) (guarded : Bool) (body : Outline) (v : Labels) (x : Narrow body v) → x.0 ≡ v → Narrow (Star exit guarded body) v
 narrow_star exit guarded body v x same =
-    (union v exit, λ u f. f.2 ∙ ap (λ w. union w exit) (only_comes exit guarded body v x same f.0 f.1), (only_comes exit guarded body v x same, x))
+    (union v exit, λ u f. f.3 ∙ ap (λ w. union w exit) (only_comes exit guarded body v x same f.0 f.1), (only_comes exit guarded body v x same, x))
 
 abbrev pub narrow_split : (place id : ℕ) (body : Outline) (v : Labels) (x : Narrow body v) → Narrow (Split place id body) v
 narrow_split place id body v x = (x.0, λ u f. x.1 u f.1, x)
@@ -86,10 +87,10 @@ narrow_bounded net v n = record {
   stars = λ way part u is. few_come part u (from_one net v way part u n is).1;
 }
 
--- and declared where what flows out has a subset in the output
-pub narrow_declared : (net : Outline) (v : Labels) (n : Narrow net v) (output : List Labels) → HasSubset output n.0 → IsDeclared net (v ∷ []) output
+-- and declared where a variant of the output fits what flows out
+pub narrow_declared : (net : Outline) (v : Labels) (n : Narrow net v) (output : List Labels) → HasFit output n.0 → IsDeclared net (v ∷ []) output
 narrow_declared net v n output has v' u listed flow =
-    subst (HasSubset output) (sym (n.1 u (subst (λ z. Flows net z u) (only_listed v v' listed) flow))) has
+    subst (HasFit output) (sym (n.1 u (subst (λ z. Flows net z u) (only_listed v v' listed) flow))) has
 
 -- what is safe from the one variant
 pub safe_series : (a b : Outline) (v : Labels) (x : Narrow a v) → Safe a v → Safe b x.0 → Safe (Series a b) v
@@ -101,5 +102,11 @@ safe_star exit guarded body v x same inner u come stays = subst (Safe body) (sym
 pub safe_from : (net : Outline) (v : Labels) → Safe net v → (u : Labels) → Contains (v ∷ []) u → Safe net u
 safe_from net v safe u listed = subst (Safe net) (sym (only_listed v u listed)) safe
 
-pub takes_one : (takes v : Labels) → IsSubset takes v → HasSubset (takes ∷ []) v
-takes_one takes v within = record { variant = takes; listed = listed_one takes takes refl; within = within }
+pub one_fits : (takes v : Labels) → Fits takes v → HasFit (takes ∷ []) v
+one_fits takes v fits = record { variant = takes; listed = listed_one takes takes refl; fits = fits }
+
+pub takes_one : (takes v : Labels) → Fits takes v → Takes (takes ∷ []) v
+takes_one takes v fits = record {
+  has = one_fits takes v fits;
+  alike = λ s t one other l binds. ap (λ u. contains u l) (only_listed takes s one ∙ sym (only_listed takes t other));
+}

@@ -39,7 +39,10 @@ record_has x l =
 
 -- so it matches the input variant
 record_matches : (x : ℕ) → is_match (sample_record the_names x) input_labels ≡ true
-record_matches x = (is_match-Matches (sample_record the_names x) input_labels).1 (λ l there. record_has x l ∙ sym (input_holds l) ∙ there)
+record_matches x = (is_match-Matches (sample_record the_names x) input_labels).1 (record {
+  within = λ l there. record_has x l ∙ sym (input_holds l) ∙ there;
+  bound = λ l binds there. input_holds l ∙ sym (record_has x l) ∙ there;
+})
 
 -- no item fails a test that each record passes
 module _ (fails : Item → Bool) (never : (x : ℕ) → fails (item.Rec (sample_record the_names x)) ≡ false) where

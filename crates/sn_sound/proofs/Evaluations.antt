@@ -27,17 +27,16 @@ use Rattle.sn_net.specs.declared.expr.Expr.TheViews.{out-Expr}
 use Rattle.sn_net.specs.Boxes.{all_closed, closed_step, has_size, is_closed_at, IsClosedBox}
 use Rattle.sn_net.specs.BoxValues.{condition, combined, truth_of, negative, opposite}
 use Rattle.sn_net.specs.BoxEvaluation.{Progress, Outcome, Outcome.{Gives, Faults}, Evaluator, followed, ended, all_values, last_value, unless_decided, called, emitting, with_emitted, with_values, fits_kind, node, with_unit, evaluation, body_outcome, values_at, answered, inheriting, box_answer}
-use Rattle.sn_net.specs.Cell.{CellState}
+use Rattle.sn_net.specs.Cell.{CellState, Passing}
 use Rattle.sn_net.specs.Face.{variant_of}
 use Rattle.sn_net.specs.Item.{ModelItem, Stuck}
 use Rattle.sn_model.specs.Components.{answering, call_record}
 use Rattle.sn_typing.specs.Outline.{box_outline}
-use Rattle.sn_types.specs.RecordType.{HasSubset}
-use Rattle.sn_typing.specs.Flow.{Flows}
+use Rattle.sn_typing.specs.Flow.{Flows, Takes}
 use Rattle.sn_typing.specs.Typed.{IsOf}
-use Rattle.sn_typing.proofs.Subsets.{contains-variant_of}
+use Rattle.sn_typing.proofs.Subsets.{or_false, or_turned}
 use Rattle.sn_sound.proofs.Carried.{each_append}
-use Rattle.sn_sound.proofs.Emitted.{inherits, only_variant}
+use Rattle.sn_sound.proofs.Emitted.{inherits, made_matches, only_variant}
 use Rattle.sn_sound.proofs.Follows.{Answers}
 use Rattle.sn_sound.proofs.Scores.{contains_mapped, all_at}
 
@@ -59,34 +58,20 @@ Any x = Unit {0}
 abbrev set_labels : List Label → Label → Bool
 set_labels labels l = list_any (eq_by_cmp label_cmp l) labels
 
-moved : (a b c : Bool) → IsTrue (a || (b || c)) → IsTrue ((b || a) || c)
-moved true true c e = refl
-moved true false c e = refl
-moved false true c e = refl
-moved false false c e = e
-
-first_alone : (b : Bool) → IsTrue (b || false) → IsTrue b
-first_alone true e = e
-first_alone false e = e
-
-second : (a b : Bool) → IsTrue b → IsTrue (a || b)
-second true b e = refl
-second false b e = e
-
 values_set : (labels : List Label) (values : List Value) (made result : Entries) → length values ≡ length labels → with_values labels values made ≡ Ok result
-    → (l : Label) → IsTrue (map.contains_key made l || set_labels labels l) → IsTrue (map.contains_key result l)
-values_set [] values made result as_many is l there =
+    → (l : Label) → map.contains_key result l ≡ (map.contains_key made l || set_labels labels l)
+values_set [] values made result as_many is l =
     let same : made ≡ result = cc in
-    subst (λ (m : Entries). IsTrue (map.contains_key m l)) same (first_alone (map.contains_key made l) there)
-values_set (label ∷ labels) [] made result as_many is l there = absurd (omega (arith, as_many))
-values_set (label ∷ labels) (value ∷ values) made result as_many is l there =
-    at (fits_kind label.kind (out-Value value)) is (λ same rest. values_set labels values (map.insert made label value) result (omega (arith, as_many)) same l rest)
+    ap (λ (m : Entries). map.contains_key m l) (sym same) ∙ sym (or_false (map.contains_key made l))
+values_set (label ∷ labels) [] made result as_many is l = absurd (omega (arith, as_many))
+values_set (label ∷ labels) (value ∷ values) made result as_many is l =
+    at (fits_kind label.kind (out-Value value)) is (λ same. values_set labels values (map.insert made label value) result (omega (arith, as_many)) same l)
   where
     at : (b : Bool) → cond b (with_values labels values (map.insert made label value)) (Err Kind) ≡ Ok result
-        → (with_values labels values (map.insert made label value) ≡ Ok result → IsTrue (map.contains_key (map.insert made label value) l || set_labels labels l) → IsTrue (map.contains_key result l))
-        → IsTrue (map.contains_key result l)
+        → (with_values labels values (map.insert made label value) ≡ Ok result → map.contains_key result l ≡ (map.contains_key (map.insert made label value) l || set_labels labels l))
+        → map.contains_key result l ≡ (map.contains_key made l || (eq_by_cmp label_cmp l label || set_labels labels l))
     at true e later =
-        later e (ap (λ b. b || set_labels labels l) (contains_key-insert made label value l) ∙ moved (map.contains_key made l) (eq_by_cmp label_cmp l label) (set_labels labels l) there)
+        later e ∙ ap (λ b. b || set_labels labels l) (contains_key-insert made label value l) ∙ or_turned (eq_by_cmp label_cmp l label) (map.contains_key made l) (set_labels labels l)
     at false e later = cc
 
 module _ (program : BoxProgram) where
@@ -122,7 +107,7 @@ module _ (program : BoxProgram) where
       record {
         labels = labels;
         listed = listed;
-        matched = λ l there. values_set labels values map.empty made as_many is l (second (map.contains_key (map.empty {X = Value} {R = label_cmp}) l) _ (sym (contains-variant_of labels l) ∙ there));
+        matched = made_matches labels made (values_set labels values map.empty made as_many is);
       },
       tt,
     ),
@@ -254,7 +239,7 @@ module _ (program : BoxProgram) where
             node_good (evaluation program levels) emits closed_funs (out-Expr e) n variables (record { fuel = fuel; emitted = progress.emitted }) (opened e n closed) well
 
   -- each emitted record, with what it inherits, is of what flows out
-  module _ (place : ℕ) (r : Entries) (v : Labels) (has : HasSubset (variant_of program.input ∷ []) v) (from : Matches r v) where
+  module _ (place : ℕ) (r : Entries) (v : Labels) (takes : Takes (variant_of program.input ∷ []) v) (from : Matches r v) where
     abbrev out : Labels → Type 0
     out = Flows (box_outline place (Some program)) v
 
@@ -263,7 +248,7 @@ module _ (program : BoxProgram) where
     inherit_each (made ∷ emitted) well = (
       record {
         variant = union (variant_of well.0.labels) (minus v (variant_of program.input));
-        listed = (has, (variant_of well.0.labels, contains_mapped variant_of program.outputs well.0.labels well.0.listed, refl));
+        listed = (takes, (variant_of well.0.labels, contains_mapped variant_of program.outputs well.0.labels well.0.listed, refl));
         matched = inherits r made (variant_of well.0.labels) v (variant_of program.input) well.0.matched from;
       },
       inherit_each emitted well.1,
@@ -274,12 +259,15 @@ module _ (program : BoxProgram) where
     answered_each (Faults fault emitted) good = each_append (IsOf out) (inheriting program r emitted) _ (inherit_each emitted good) (tt, tt)
 
   pub box_answers : (place fuel : ℕ) → IsClosedBox program
-      → Answers (variant_of program.input ∷ []) (Flows (box_outline place (Some program))) (record { next = λ (s : CellState) (x : ModelItem). s; emits = λ s x. answering (call_record (Some program) place fuel) x })
+      → Answers (variant_of program.input ∷ []) (Flows (box_outline place (Some program))) (record { next = λ (s : CellState) (x : ModelItem). s; emits = λ s x. answering (call_record (Some program) place fuel) x }) Passing
   box_answers place fuel closed = record {
-    records = λ q r v has matches.
-        subst (λ b. Each (IsOf (Flows (box_outline place (Some program)) v)) (cond b (box_answer program place r fuel) (Stuck place ∷ [])))
-        (sym ((is_match-Matches r (variant_of program.input)).1 (only_variant (variant_of program.input) r v has matches)))
-        (answered_each place r v has matches (body_outcome program r fuel)
-        (evaluation_good closed.funs fuel program.body (values_at r program.input) (record { fuel = fuel; emitted = [] }) (length program.input, closed.body) tt));
-    faults = λ q fault. refl;
+    start = tt;
+    records = λ q r v here takes matches. (
+      here,
+      subst (λ b. Each (IsOf (Flows (box_outline place (Some program)) v)) (cond b (box_answer program place r fuel) (Stuck place ∷ [])))
+          (sym ((is_match-Matches r (variant_of program.input)).1 (only_variant (variant_of program.input) r v takes.has matches)))
+          (answered_each place r v takes matches (body_outcome program r fuel)
+          (evaluation_good closed.funs fuel program.body (values_at r program.input) (record { fuel = fuel; emitted = [] }) (length program.input, closed.body) tt)),
+    );
+    faults = λ q fault here. (here, refl);
   }

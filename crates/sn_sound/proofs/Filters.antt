@@ -1,5 +1,5 @@
 -- A closed filter answers each record that it takes by records of its templates.
-use Rattle.std.proofs.Common.{◌≡◌, ℕ, ◌||◌, Bool, true, false, cond, is_some, IsTrue, List, [], ◌∷◌, map as each, Option, None, Some, Result, Ok, Err, refl, sym, ap, ◌∙◌, subst}
+use Rattle.std.proofs.Common.{◌≡◌, ℕ, ◌||◌, cond, is_some, IsTrue, List, [], ◌∷◌, map as each, Option, None, Some, Result, Ok, Err, refl, sym, ap, ◌∙◌, subst}
 use Rattle.std.specs.List.{All, AllByRecursion as Each, list_any, Contains}
 use Rattle.std.specs.Ordering.{eq_by_cmp}
 use Rattle.std.specs.FinMap as map
@@ -19,14 +19,14 @@ use Rattle.sn_net.specs.declared.filter.Part.{Part}
 use Rattle.sn_net.specs.declared.filter.Part.TheVariants.{Copy, Rename, Compute}
 use Rattle.sn_net.specs.Answer.{and_then, computed, filter_answer, inherited, part_value, tag_number, template_record, up_to_fault, with_parts}
 use Rattle.sn_net.specs.Filter.{IsClosed, IsClosedTemplate, field, is_from, target}
-use Rattle.sn_net.specs.Item.{ModelItem, Stuck}
-use Rattle.sn_net.specs.Cell.{CellState}
+use Rattle.sn_net.specs.Item.{Stuck}
+use Rattle.sn_net.specs.Cell.{Passing}
 use Rattle.sn_model.specs.Components.{filter_item}
 use Rattle.sn_typing.specs.Outline.{filter_outline, template_variant}
 use Rattle.sn_typing.specs.Flow.{Flows}
 use Rattle.sn_typing.specs.Typed.{IsOf}
-use Rattle.sn_typing.proofs.Subsets.{contains-variant_of}
-use Rattle.sn_sound.proofs.Emitted.{inherits, only_variant}
+use Rattle.sn_typing.proofs.Subsets.{or_false, or_turned}
+use Rattle.sn_sound.proofs.Emitted.{inherits, made_matches, only_variant}
 use Rattle.sn_sound.proofs.Follows.{Answers}
 use Rattle.sn_sound.proofs.Scores.{contains_head, contains_behind, contains_mapped}
 
@@ -41,50 +41,32 @@ module _ (r : Entries) (pattern : Labels) (matches : Matches r pattern) where
   computed_value (Err fault) = tt
 
   part_gives : (part : Part) → IsTrue (is_from pattern part) → GivesValue (part_value r part)
-  part_gives (Copy label) from = matches label from
-  part_gives (Rename new old) from = matches (field old) from
+  part_gives (Copy label) from = matches.within label from
+  part_gives (Rename new old) from = matches.within (field old) from
   part_gives (Compute id expr) from = computed_value (worth (tag_number r) expr)
 
-  moved : (a b c : Bool) → IsTrue (a || (b || c)) → IsTrue ((b || a) || c)
-  moved true true c e = refl
-  moved true false c e = refl
-  moved false b c e = or_same b c e
-    where
-      or_same : (b c : Bool) → IsTrue (b || c) → IsTrue ((b || false) || c)
-      or_same true c e = refl
-      or_same false c e = e
-
-  first_alone : (b : Bool) → IsTrue (b || false) → IsTrue b
-  first_alone true e = e
-  first_alone false e = e
-
-  -- what is made has what was made before, and the target of each part
+  -- what is made has the labels of what was made before, and the target of each part
   parts_made : (parts : List Part) → All (λ part. IsTrue (is_from pattern part)) parts → (made result : Entries) → with_parts r parts made ≡ Ok result
-      → (l : Label) → IsTrue (map.contains_key made l || list_any (eq_by_cmp label_cmp l) (each target parts)) → IsTrue (map.contains_key result l)
-  parts_made [] named made result is l there =
+      → (l : Label) → map.contains_key result l ≡ (map.contains_key made l || list_any (eq_by_cmp label_cmp l) (each target parts))
+  parts_made [] named made result is l =
       let same : made ≡ result = cc in
-      subst (λ (m : Entries). IsTrue (map.contains_key m l)) same (first_alone (map.contains_key made l) there)
-  parts_made (part ∷ parts) named made result is l there =
-      at (part_value r part) (part_gives part (All-head (λ part. IsTrue (is_from pattern part)) part parts named)) is (λ next same rest. parts_made parts (All-tail (λ part. IsTrue (is_from pattern part)) part parts named) next result same l rest)
+      ap (λ (m : Entries). map.contains_key m l) (sym same) ∙ sym (or_false (map.contains_key made l))
+  parts_made (part ∷ parts) named made result is l =
+      at (part_value r part) (part_gives part (All-head (λ part. IsTrue (is_from pattern part)) part parts named)) is (λ next same. parts_made parts (All-tail (λ part. IsTrue (is_from pattern part)) part parts named) next result same l)
     where
       at : (x : Result (Option Value) ExprFault) → GivesValue x → and_then made (target part) x (with_parts r parts) ≡ Ok result
-          → ((next : Entries) → with_parts r parts next ≡ Ok result → IsTrue (map.contains_key next l || list_any (eq_by_cmp label_cmp l) (each target parts)) → IsTrue (map.contains_key result l))
-          → IsTrue (map.contains_key result l)
+          → ((next : Entries) → with_parts r parts next ≡ Ok result → map.contains_key result l ≡ (map.contains_key next l || list_any (eq_by_cmp label_cmp l) (each target parts)))
+          → map.contains_key result l ≡ (map.contains_key made l || (eq_by_cmp label_cmp l (target part) || list_any (eq_by_cmp label_cmp l) (each target parts)))
       at (Err fault) gives e later = cc
       at (Ok None) gives e later = cc
       at (Ok (Some value)) gives e later =
           later (map.insert made (target part) value) e
-          (ap (λ b. b || list_any (eq_by_cmp label_cmp l) (each target parts)) (contains_key-insert made (target part) value l)
-          ∙ moved (map.contains_key made l) (eq_by_cmp label_cmp l (target part)) (list_any (eq_by_cmp label_cmp l) (each target parts)) there)
+          ∙ ap (λ b. b || list_any (eq_by_cmp label_cmp l) (each target parts)) (contains_key-insert made (target part) value l)
+          ∙ or_turned (eq_by_cmp label_cmp l (target part)) (map.contains_key made l) (list_any (eq_by_cmp label_cmp l) (each target parts))
 
   template_made : (template : Template) → IsClosedTemplate pattern template → (result : Entries) → with_parts r template.parts map.empty ≡ Ok result → Matches result (template_variant template)
-  template_made template closed result is l there =
-      parts_made template.parts closed.named map.empty result is l
-      (second (map.contains_key (map.empty {X = Value} {R = label_cmp}) l) _ (sym (contains-variant_of (each target template.parts) l) ∙ there))
-    where
-      second : (a b : Bool) → IsTrue b → IsTrue (a || b)
-      second true b e = refl
-      second false b e = e
+  template_made template closed result is =
+      made_matches (each target template.parts) result (λ l. parts_made template.parts closed.named map.empty result is l)
 
   module _ (place : ℕ) (v : Labels) (from : Matches r v) (W : Labels → Type 0) where
     templates_made : (templates : List Template) → All (IsClosedTemplate pattern) templates
@@ -107,13 +89,16 @@ module _ (r : Entries) (pattern : Labels) (matches : Matches r pattern) where
           rest,
         )
 
-pub filter_answers : (filter : Filter) (next : CellState → ModelItem → CellState) → IsClosed filter
-    → Answers (filter.pattern ∷ []) (Flows (filter_outline filter)) (record { next = next; emits = λ s x. filter_item filter x })
-filter_answers filter next closed = record {
-  records = λ q r v has matches.
-      let own : Matches r filter.pattern = only_variant filter.pattern r v has matches in
-      subst (λ b. Each (IsOf (Flows (filter_outline filter) v)) (cond b (filter_answer filter r) (Stuck filter.place ∷ []))) (sym ((is_match-Matches r filter.pattern).1 own))
-      (templates_made r filter.pattern own filter.place v matches (Flows (filter_outline filter) v) filter.templates closed
-      (λ template there. (has, (template_variant template, contains_mapped template_variant filter.templates template there, refl))));
-  faults = λ q fault. refl;
+pub filter_answers : (filter : Filter) → IsClosed filter
+    → Answers (filter.pattern ∷ []) (Flows (filter_outline filter)) (record { next = λ s x. s; emits = λ s x. filter_item filter x }) Passing
+filter_answers filter closed = record {
+  start = tt;
+  records = λ q r v here takes matches.
+      let own : Matches r filter.pattern = only_variant filter.pattern r v takes.has matches in (
+        here,
+        subst (λ b. Each (IsOf (Flows (filter_outline filter) v)) (cond b (filter_answer filter r) (Stuck filter.place ∷ []))) (sym ((is_match-Matches r filter.pattern).1 own))
+            (templates_made r filter.pattern own filter.place v matches (Flows (filter_outline filter) v) filter.templates closed
+            (λ template there. (takes, (template_variant template, contains_mapped template_variant filter.templates template there, refl)))),
+      );
+  faults = λ q fault here. (here, refl);
 }

@@ -1,13 +1,14 @@
 -- A tree that follows an outline conveys records of safe variants to records of what flows out.
-use Rattle.std.proofs.Common.{◌≡◌, ℕ, zero, suc, Bool, true, false, cond, List, [], ◌∷◌, Option, None, Some, Result, Ok, Err, refl, sym, ap, ◌∙◌, subst}
+use Rattle.std.proofs.Common.{◌≡◌, ℕ, zero, suc, Bool, true, false, cond, IfSome, List, [], ◌∷◌, Option, None, Some, Result, Ok, Err, refl, sym, ap, ◌∙◌, subst}
 use Rattle.std.specs.Prelude.{is_some, slice_get, unwrap_or, pos}
-use Rattle.std.specs.List.{AllByRecursion as Each}
+use Rattle.std.specs.List.{AllByRecursion as Each, Contains}
 use Rattle.std.specs.FinMap as map
 use Rattle.std.specs.Ordering.{int_eq}
 use Rattle.sn_record.specs.declared.item.Fault.{Fault as FaultAt}
 use Rattle.sn_record.specs.declared.value.Value.{Value}
 use Rattle.sn_record.specs.LabelSet.{Labels, union}
 use Rattle.sn_record.specs.Record.{Entries, Matches, is_match}
+use Rattle.sn_record.proofs.Fitting.{fits_through}
 use Rattle.sn_record.proofs.Scores.{is_match-Matches}
 use Rattle.sn_streams.specs.Forks.{Router}
 use Rattle.sn_streams.specs.Keys.{Key as StreamKey, Own, Branch, Inside, Value as ValueKey}
@@ -20,7 +21,7 @@ use Rattle.sn_net.specs.declared.net.Merge.{Merge}
 use Rattle.sn_net.specs.declared.routing.Key.{Key}
 use Rattle.sn_net.specs.declared.routing.Key.TheVariants as key
 use Rattle.sn_net.specs.Answer.{tag_number}
-use Rattle.sn_net.specs.Cell.{CellState, Passing}
+use Rattle.sn_net.specs.Cell.{CellState, Waiting, Passing}
 use Rattle.sn_net.specs.Dispatchers.{Network, stream_key, passed_by, router, dispatched, branch_child, choice, replica_child, split, inside_child, no_way_inside, level_key, level}
 use Rattle.sn_net.specs.Filter.{tag}
 use Rattle.sn_net.specs.Item.{ModelItem, Rec, Fault, Stuck, is_stuck}
@@ -28,11 +29,10 @@ use Rattle.sn_net.specs.Route.{best_branch, branch_key, choice_key, guarded, exi
 use Rattle.sn_sound.specs.Conveyed.{Conveys}
 use Rattle.sn_sound.proofs.Carried.{conveys_from}
 use Rattle.sn_typing.specs.Outline.{Outline, Component, Series, Choice, Star, Split, is_guarded}
-use Rattle.sn_types.specs.RecordType.{HasSubset}
-use Rattle.sn_typing.specs.Flow.{IsUnbeaten, SurelyLeaves, Comes, Comes.{first, next}, Flows, Safe}
-use Rattle.sn_typing.specs.Typed.{MatchesOne, IsOf, labels_of}
-use Rattle.sn_typing.proofs.Subsets.{matched_labels, labels_matched, union_within}
-use Rattle.sn_sound.proofs.Scores.{best_is_unbeaten, some_branch}
+use Rattle.sn_typing.specs.Flow.{MayTake, SurelyLeaves, Takes, Comes, Comes.{first, next}, Flows, Safe}
+use Rattle.sn_typing.specs.Typed.{MatchesOne, IsOf}
+use Rattle.sn_typing.proofs.Subsets.{both_alike, union_fit}
+use Rattle.sn_sound.proofs.Scores.{best_is_taken, some_branch}
 
 -- more variants are allowed
 pub of_more : (V W : Labels → Type 0) → ((v : Labels) → V v → W v) → (x : ModelItem) → IsOf V x → IsOf W x
@@ -44,15 +44,21 @@ pub each_of_more : (V W : Labels → Type 0) → ((v : Labels) → V v → W v) 
 each_of_more V W more [] each = tt
 each_of_more V W more (x ∷ xs) each = (of_more V W more x each.0, each_of_more V W more xs each.1)
 
--- The machine answers records of what flows out to a record with a route, and lets faults pass, in each state.
-pub record Answers (takes : List Labels) (out : Labels → Labels → Type 0) (m : Machine ModelItem CellState) : Type 0 where
-  pub records : (q : CellState) (r : Entries) (v : Labels) → HasSubset takes v → Matches r v → Each (IsOf (out v)) (m.emits q (Rec r))
-  pub faults : (q : CellState) (fault : FaultAt) → m.emits q (Fault fault) ≡ Fault fault ∷ []
+-- each record that is held matches one of the variants
+abbrev pub Holds : List Labels → CellState → Type 0
+Holds takes Passing = Unit {0}
+Holds takes (Waiting slots) = Each (λ slot. IfSome slot (MatchesOne (Contains takes))) slots
+
+-- The machine holds records that it takes, answers records of what flows out to a record with a route, and lets faults pass.
+pub record Answers (takes : List Labels) (out : Labels → Labels → Type 0) (m : Machine ModelItem CellState) (s : CellState) : Type 0 where
+  pub start : Holds takes s
+  pub records : (q : CellState) (r : Entries) (v : Labels) → Holds takes q → Takes takes v → Matches r v → Holds takes (m.next q (Rec r)) × Each (IsOf (out v)) (m.emits q (Rec r))
+  pub faults : (q : CellState) (fault : FaultAt) → Holds takes q → Holds takes (m.next q (Fault fault)) × (m.emits q (Fault fault) ≡ Fault fault ∷ [])
 
 -- The tree has the form of the outline, and its components answer what the outline says.
 pub data Follows : Outline → Network → Type 0 where
   component : (place : ℕ) (takes : List Labels) (named : Labels) (outputs : List Labels) (m : Machine ModelItem CellState) (s : CellState)
-      → Answers takes (Flows (Component place takes named outputs)) m → Follows (Component place takes named outputs) (TreeComponent m s)
+      → Answers takes (Flows (Component place takes named outputs)) m s → Follows (Component place takes named outputs) (TreeComponent m s)
   series : (a b : Outline) (t u : Network) → Follows a t → Follows b u → Follows (Series a b) (TreeSeries t u)
   branches : (place : ℕ) (faces : List (List Labels)) (branch : ℕ → Outline) (m : Merge) (trees : List Network)
       → ((i : ℕ) (t : Network) → slice_get trees i ≡ Some t → Follows (branch i) t)
@@ -110,7 +116,7 @@ module _ (place : ℕ) (m : Merge) (faces : List (List Labels)) (branch : ℕ �
     (safe : (v : Labels) → V v → Safe (Choice place faces branch) v) (flows : (v u : Labels) → V v → Flows (Choice place faces branch) v u → W u) where
   -- a variant that comes to branch i
   abbrev pub ToBranch : ℕ → Labels → Type 0
-  ToBranch i u = (v : Labels) × V v × ((w : Labels) × IsUnbeaten faces i w (union v w) × (u ≡ union v w))
+  ToBranch i u = (v : Labels) × V v × ((w : Labels) × MayTake faces i w v × (u ≡ union v w))
 
   abbrev choice_known : StreamKey → Key → ModelItem → Type 0
   choice_known Own k x = IsOf W (passed_by place k x)
@@ -126,16 +132,16 @@ module _ (place : ℕ) (m : Merge) (faces : List (List Labels)) (branch : ℕ �
       at : (b : Option ℕ) → best_branch faces r ≡ b → choice_known (stream_key (branch_key b)) (branch_key b) (Rec r)
       at None none = absurd (some_branch faces r is.variant is.matched (safe is.variant is.listed).0 none)
       at (Some i) best =
-          let chosen = best_is_unbeaten faces r is.variant i is.matched best in
+          let chosen = best_is_taken faces r is.variant i is.matched best in
           record { variant = union is.variant chosen.0; listed = (is.variant, is.listed, (chosen.0, chosen.1, refl)); matched = chosen.2 }
 
   -- the branch is safe for what comes to it, and what flows out of it flows out
   pub branch_safe : (i : ℕ) (u : Labels) → ToBranch i u → Safe (branch i) u
-  branch_safe i u (v, is, (w, unbeaten, same)) = subst (Safe (branch i)) (sym same) ((safe v is).1 i w unbeaten)
+  branch_safe i u (v, is, (w, taken, same)) = subst (Safe (branch i)) (sym same) ((safe v is).1 i w taken)
 
   pub branch_flows : (i : ℕ) (u z : Labels) → ToBranch i u → Flows (branch i) u z → W z
-  branch_flows i u z (v, is, (w, unbeaten, same)) flow =
-      flows v z is ((safe v is).0, (i, w, unbeaten, subst (λ t. Flows (branch i) t z) same flow))
+  branch_flows i u z (v, is, (w, taken, same)) flow =
+      flows v z is ((safe v is).0, (i, w, taken, subst (λ t. Flows (branch i) t z) same flow))
 
   abbrev choice_sends : Router ModelItem
   choice_sends = router place (of_record (choice_key faces))
@@ -197,7 +203,7 @@ tap_says place exit guard r u matches = at (is_match r exit) refl
 
     at : (b : Bool) → is_match r exit ≡ b → TapSays exit guard r u (cond b (exit_key place guard r) key.Inside)
     at true test = exit_says place exit guard r u ((is_match-Matches r exit).0 test)
-    at false test = λ leaves. impossible (sym ((is_match-Matches r exit).1 (λ l there. matches l (leaves.within l there))) ∙ test)
+    at false test = λ leaves. impossible (sym ((is_match-Matches r exit).1 (fits_through (map.contains_key r) exit u leaves.fits matches)) ∙ test)
 
 -- Stars, a level after another.
 module _ (place : ℕ) (m : Merge) (exit : Labels) (guard : Option TagExpr) (body : Outline) (tree : Network) (V W : Labels → Type 0)
@@ -231,8 +237,8 @@ module _ (place : ℕ) (m : Merge) (exit : Labels) (guard : Option TagExpr) (bod
       let (v, in_v, come) = is.listed in
       record {
         variant = union is.variant exit;
-        listed = flows v (union is.variant exit) in_v (is.variant, come, refl);
-        matched = labels_matched r (union is.variant exit) (union_within is.variant exit (labels_of r) (matched_labels r is.variant is.matched) (matched_labels r exit matches));
+        listed = flows v (union is.variant exit) in_v (is.variant, come, both_alike (map.contains_key r) is.variant exit is.matched matches, refl);
+        matched = union_fit (map.contains_key r) is.variant exit is.matched matches;
       }
 
   last_known : (r : Entries) (is : MatchesOne AtTap r) (k : Key) → TapSays exit guard r is.variant k → last_tap_known (stream_key (no_way_inside place k)) (no_way_inside place k) (Rec r)
@@ -297,7 +303,7 @@ module _ (place id : ℕ) (m : Merge) (body : Outline) (tree : Network) (V W : L
       impossible e = cc
 
       at : (b : Option Value) → map.get r (tag id) ≡ b → split_known (stream_key (replica_key b)) (replica_key b) (Rec r)
-      at None none = absurd (impossible (sym (is.matched (tag id) (safe is.variant is.listed).0) ∙ ap is_some none))
+      at None none = absurd (impossible (sym (is.matched.within (tag id) (safe is.variant is.listed).0) ∙ ap is_some none))
       at (Some value) there = is
 
   pub split_conveys : Conveys Goes tree (IsOf V) (IsOf W) → Conveys Goes (split place m id tree) (IsOf V) (IsOf W)
@@ -311,15 +317,17 @@ module _ (place id : ℕ) (m : Merge) (body : Outline) (tree : Network) (V W : L
 -- What follows an outline that is safe for V conveys records of V to records of what flows out.
 pub follows_conveys : (o : Outline) (t : Network) → Follows o t → (V W : Labels → Type 0) → ((v : Labels) → V v → Safe o v) → ((v u : Labels) → V v → Flows o v u → W u)
     → Conveys Goes t (IsOf V) (IsOf W)
-follows_conveys o t (component place takes named outputs m s answers) V W safe flows = ((λ q. Unit {0}), tt, of_goes V, of_goes W, keeps)
+follows_conveys o t (component place takes named outputs m s answers) V W safe flows = (Holds takes, answers.start, of_goes V, of_goes W, keeps)
   where
-    keeps : (q : CellState) (x : ModelItem) → Unit {0} → IsOf V x → Unit {0} × Each (IsOf W) (m.emits q x)
-    keeps q (Rec r) here is = (
-      tt,
-      each_of_more (Flows (Component place takes named outputs) is.variant) W (λ u flow. flows is.variant u is.listed flow) (m.emits q (Rec r))
-          (answers.records q r is.variant (safe is.variant is.listed) is.matched),
-    )
-    keeps q (Fault fault) here is = (tt, subst (Each (IsOf W)) (sym (answers.faults q fault)) (tt, tt))
+    keeps : (q : CellState) (x : ModelItem) → Holds takes q → IsOf V x → Holds takes (m.next q x) × Each (IsOf W) (m.emits q x)
+    keeps q (Rec r) here is =
+        let answered = answers.records q r is.variant here (safe is.variant is.listed) is.matched in (
+          answered.0,
+          each_of_more (Flows (Component place takes named outputs) is.variant) W (λ u flow. flows is.variant u is.listed flow) (m.emits q (Rec r)) answered.1,
+        )
+    keeps q (Fault fault) here is =
+        let passes = answers.faults q fault here in
+        (passes.0, subst (Each (IsOf W)) (sym passes.1) (tt, tt))
     keeps q (Stuck at) here is = absurd is
 follows_conveys o t (series a b t' u' left right) V W safe flows =
     let Between : Labels → Type 0 = λ w. (v : Labels) × V v × Flows a v w in (

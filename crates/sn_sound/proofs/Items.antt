@@ -2,7 +2,9 @@
 use Rattle.std.proofs.Common.{◌≡◌, false, List, [], ◌∷◌, refl}
 use Rattle.std.specs.List.{All, AllByRecursion as Each, Contains}
 use Rattle.std.proofs.lemmas.List.Elements.{All-nil, All-cons, All-head, All-tail}
+use Rattle.std.specs.FinMap as map
 use Rattle.sn_record.specs.LabelSet.{Labels}
+use Rattle.sn_record.proofs.Fitting.{fits_itself, fits_through}
 use Rattle.sn_net.specs.declared.net.Claim.{Claim}
 use Rattle.sn_net.specs.declared.net.Net.{Net}
 use Rattle.sn_net.specs.Item.{ModelItem, Rec, Fault, Stuck, holds_stuck}
@@ -13,7 +15,7 @@ use Rattle.sn_typing.specs.Accepted.{IsAccepted}
 use Rattle.sn_typing.specs.Flow.{Flows, Safe}
 use Rattle.sn_typing.specs.Outline.{outline}
 use Rattle.sn_typing.specs.Typed.{IsOf, IsItemOfType, IsTyped, labels_of}
-use Rattle.sn_typing.proofs.Subsets.{labels_matched, within_itself}
+use Rattle.sn_typing.proofs.Subsets.{labels_matched}
 use Rattle.sn_sound.specs.Carried.{EachItem}
 use Rattle.sn_sound.specs.Conveyed.{Conveys}
 use Rattle.sn_sound.proofs.Carried.{conveys_carries, each_more}
@@ -45,7 +47,7 @@ module _ (s : Setting) (net : Net) (formed : IsWellFormed s.boxes net) where
   safely v = Safe (outline s.boxes net) v
 
   pub typed_is_safe : (x : ModelItem) → IsTyped s.boxes net x → IsOf safely x
-  typed_is_safe (Rec r) typed = record { variant = labels_of r; listed = typed; matched = labels_matched r (labels_of r) (within_itself (labels_of r)) }
+  typed_is_safe (Rec r) typed = record { variant = labels_of r; listed = typed; matched = labels_matched r (labels_of r) (fits_itself (labels_of r)) }
   typed_is_safe (Fault fault) typed = tt
   typed_is_safe (Stuck place) typed = absurd typed
 
@@ -76,7 +78,7 @@ module _ (s : Setting) (claim : Claim) (formed : IsWellFormed s.boxes claim.net)
   declared (Rec r) is =
       let (v, listed, flow) = is.listed in
       let has = accepted.declared v is.variant listed flow in
-      record { variant = has.variant; listed = has.listed; matched = λ l there. is.matched l (has.within l there) }
+      record { variant = has.variant; listed = has.listed; matched = fits_through (map.contains_key r) has.variant is.variant has.fits is.matched }
   declared (Fault fault) is = tt
   declared (Stuck place) is = absurd is
 

@@ -23,13 +23,13 @@ use Rattle.sn_typing.specs.Flow.{Safe}
 use Rattle.sn_sound.proofs.Follows.{Follows, Follows.{component, series, branches as follows_branches, levels, replicas}}
 use Rattle.sn_sound.proofs.Cells.{cell_answers}
 use Rattle.sn_sound.proofs.Evaluations.{box_answers}
-use Rattle.sn_sound.proofs.Emitted.{no_subset}
+use Rattle.sn_sound.proofs.Emitted.{no_fit}
 use Rattle.sn_sound.proofs.Filters.{filter_answers}
 use Rattle.sn_sound.proofs.Scores.{all_at}
 
 box_follows : (place fuel : ℕ) (b : Option BoxProgram) → IfSome b IsClosedBox → Follows (box_outline place b) (alone (answering (call_record b place fuel)))
 box_follows place fuel None closed =
-    component place [] finite.empty [] _ _ (record { records = λ q r v has matches. absurd (no_subset v has); faults = λ q fault. refl })
+    component place [] finite.empty [] _ _ (record { start = tt; records = λ q r v here takes matches. absurd (no_fit v takes.has); faults = λ q fault here. (here, refl) })
 box_follows place fuel (Some program) closed =
     component place (variant_of program.input ∷ []) (variant_of program.input) (map variant_of program.outputs) _ _ (box_answers program place fuel closed)
 
@@ -50,7 +50,7 @@ module _ (s : Setting) where
 
   missing : (nets : List ((net : Net) × Keeps net)) (i : ℕ) → slice_get (map (tree s) (map (λ e. e.0) nets)) i ≡ None
       → (v : Labels) → Safe (branch_of (map (outline s.boxes) (map (λ e. e.0) nets)) i) v → ⊥
-  missing [] i none v safe = no_subset v safe
+  missing [] i none v safe = no_fit v safe.has
   missing (net ∷ nets) zero none v safe = none-some (tree s net.0) (sym none)
   missing (net ∷ nets) (suc i) none v safe = missing nets i none v safe
 
@@ -63,7 +63,7 @@ module _ (s : Setting) where
       (elim y as (λ z. Keeps (roll-Net (map-Net _ _ (λ e. e.0) z))) [
         | Net-F.Box place number ↦ λ formed. rolled (Net-F.Box place number) (box_follows place s.fuel (slice_get s.boxes number) (box_closed number (slice_get s.boxes number) refl formed.closed))
         | Net-F.Filter filter ↦ λ formed. rolled (Net-F.Filter filter)
-            (component filter.place (filter.pattern ∷ []) filter.pattern (map template_variant filter.templates) _ _ (filter_answers filter _ (level_sound s.boxes (Net-F.Filter filter) formed)))
+            (component filter.place (filter.pattern ∷ []) filter.pattern (map template_variant filter.templates) _ _ (filter_answers filter (level_sound s.boxes (Net-F.Filter filter) formed)))
         | Net-F.Sync place patterns ↦ λ formed. rolled (Net-F.Sync place patterns)
             (component place patterns finite.empty (finite.empty ∷ []) (cell place patterns) (new_cell patterns) (cell_answers place patterns))
         | Net-F.Serial left right ↦ λ formed.

@@ -8,13 +8,13 @@ use Rattle.std.proofs.lemmas.List.{get_or-take, length-take}
 use Rattle.std.proofs.lemmas.Option.{none-some, slice_get_within, get_or_from_slice_get}
 use Rattle.sn_record.specs.LabelSet.{Labels, union}
 use Rattle.sn_record.specs.Record.{Entries, Matches, is_match, greater, score}
+use Rattle.sn_record.proofs.Fitting.{fits_through}
 use Rattle.sn_record.proofs.Scores.{is_match-Matches}
 use Rattle.sn_net.specs.Best.{IsBest}
 use Rattle.sn_net.specs.Route.{best_branch}
 use Rattle.sn_net.proofs.BestBranches.{best_branch-Some, best_branch-None}
-use Rattle.sn_typing.specs.Typed.{labels_of}
-use Rattle.sn_typing.proofs.Subsets.{labels_matched, matched_labels, union_within}
-use Rattle.sn_typing.specs.Flow.{HasFace, IsFaceVariant, IsUnbeaten}
+use Rattle.sn_typing.proofs.Subsets.{both_alike, union_fit}
+use Rattle.sn_typing.specs.Flow.{HasFace, IsFaceVariant, MayTake}
 
 -- what stands in a list stands at its head or behind
 pub contains_cases : {X : Type 0} (y : X) (ys : List X) (x : X) → Contains (y ∷ ys) x → (y ≡ x) ⊎ Contains ys x
@@ -120,19 +120,20 @@ module _ (faces : List (List Labels)) (r : Entries) (i : ℕ) (best : IsBest fac
 
 -- a record that matches v goes to a branch with a variant w that it matches too, and that nothing beats within both
 abbrev pub Chosen : List (List Labels) → Entries → Labels → ℕ → Type 0
-Chosen faces r v i = (w : Labels) × IsUnbeaten faces i w (union v w) × Matches r (union v w)
+Chosen faces r v i = (w : Labels) × MayTake faces i w v × Matches r (union v w)
 
-pub best_is_unbeaten : (faces : List (List Labels)) (r : Entries) (v : Labels) (i : ℕ) → Matches r v → best_branch faces r ≡ Some i → Chosen faces r v i
-best_is_unbeaten faces r v i matches is =
+pub best_is_taken : (faces : List (List Labels)) (r : Entries) (v : Labels) (i : ℕ) → Matches r v → best_branch faces r ≡ Some i → Chosen faces r v i
+best_is_taken faces r v i matches is =
     let best : IsBest faces r i = best_branch-Some faces r i is in
     let reached = score_reached best.face r best.size best.scored in
     let w : Labels = reached.0 in
-    let whole : Matches r (union v w) = union_matched r v w matches reached.2 in (
+    let whole : Matches r (union v w) = union_fit (map.contains_key r) v w matches reached.2 in (
       w,
       record {
         own = record { face = best.face; here = best.here; listed = reached.1 };
+        alike = both_alike (map.contains_key r) w v reached.2 matches;
         best = λ beaten.
-            let there : Matches r beaten.variant = λ l at. whole l (beaten.within l at) in
+            let there : Matches r beaten.variant = fits_through (map.contains_key r) beaten.variant (union v w) beaten.fits whole in
             contradicts beaten.branch beaten.variant best.size (map.len w) i reached.3
             (not_larger faces r i best beaten.branch beaten.variant beaten.other there)
             (smaller_before faces r i best beaten.branch beaten.variant beaten.other there)
@@ -141,9 +142,6 @@ best_is_unbeaten faces r v i matches is =
       whole,
     )
   where
-    union_matched : (r : Entries) (s t : Labels) → Matches r s → Matches r t → Matches r (union s t)
-    union_matched r s t first second = labels_matched r (union s t) (union_within s t (labels_of r) (matched_labels r s first) (matched_labels r t second))
-
     contradicts : (j : ℕ) (x : Labels) (size len i : ℕ) → len ≡ size → map.len x ≤ size → (j < i → map.len x < size)
         → (len < map.len x) ⊎ ((map.len x ≡ len) × (j < i)) → ⊥
     contradicts j x size len i same most before (inl larger) = absurd (omega (arith, same, most, larger))
@@ -152,6 +150,6 @@ best_is_unbeaten faces r v i matches is =
 -- a record that matches a face variant has a branch
 pub some_branch : (faces : List (List Labels)) (r : Entries) (v : Labels) → Matches r v → HasFace faces v → best_branch faces r ≡ None → ⊥
 some_branch faces r v matches has is =
-    let found = score_bound has.own.face r has.variant has.own.listed (λ l at. matches l (has.within l at)) in
+    let found = score_bound has.own.face r has.variant has.own.listed (fits_through (map.contains_key r) has.variant v has.fits matches) in
     let none : score has.own.face r ≡ None = all_at (λ face. score face r ≡ None) faces has.branch has.own.face (best_branch-None faces r is) has.own.here in
     none-some found.0 (sym none ∙ found.1)

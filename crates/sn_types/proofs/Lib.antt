@@ -1,3 +1,4 @@
 pub mod Subtypes
 pub mod Witness
 pub mod Fewest
+pub mod Unbound

@@ -1,1 +1,2 @@
 pub mod RecordType
+pub mod Subsets

@@ -1,7 +1,7 @@
 ghost use Rattle.std.specs.Prelude.{◌≡◌, ◌++◌, ◌↔◌, IfOk, IsTrue};
 ghost use Rattle.sn_types.specs.RecordType.{IsMinimal, IsSubtype, minimal};
 
-use crate::variants::{all_have_subsets, copy_minimal, push_copies};
+use crate::variants::{all_have_fits, copy_minimal, push_copies};
 use sn_list::Memory;
 use sn_record::LabelSet;
 use std::alloc::Global;
@@ -42,12 +42,11 @@ impl RecordType {
         self.variants.as_slice()
     }
 
-    /// Whether each variant has a subset among those of `y`, so that each record of the type is of `y` too. Takes no
-    /// memory.
+    /// Whether for each variant some variant of `y` fits it, so that each record of the type is of `y` too. Takes no memory.
     pub fn is_subtype(&self, y: &RecordType) -> bool
         ensures { IsTrue result ↔ IsSubtype self.now y.now }
     {
-        all_have_subsets(self.as_slice(), y.as_slice())
+        all_have_fits(self.as_slice(), y.as_slice())
     }
 
     /// The variants of both, those of `self` first.
@@ -61,10 +60,10 @@ impl RecordType {
         Ok(RecordType { variants: copies })
     }
 
-    /// The variants without those that repeat an earlier one or have a proper subset among the others, in their order.
+    /// The variants without those that repeat an earlier one or that a different one fits, in their order.
     ///
-    /// Each variant is compared with each other one, as no order of variants tells which are subsets of one another: the
-    /// cost is the square of their number.
+    /// Each variant is compared with each other one, as no order of variants tells which fit one another: the cost is the
+    /// square of their number.
     pub fn minimal(&self) -> Result<RecordType, Memory>
         ensures exact { IfOk result (λ fewest. fewest ≡ minimal self.now) }
         ensures narrower { IfOk result (λ fewest. IsSubtype fewest self.now) }

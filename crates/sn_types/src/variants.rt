@@ -1,7 +1,8 @@
 //! Variants, compared with the variants of lists.
 ghost use Rattle.std.specs.Prelude.{◌≡◌, ◌++◌, IfOk, OnOk};
 ghost use Rattle.std.specs.List.{list_all, list_any};
-ghost use Rattle.sn_types.specs.RecordType.{has_subset, is_needless, is_proper_subset, is_same, is_subset, minimal};
+ghost use Rattle.sn_record.specs.Fits.{fits};
+ghost use Rattle.sn_types.specs.RecordType.{fits_properly, has_fit, is_needless, is_same, minimal};
 
 use sn_list::Memory;
 use sn_record::LabelSet;
@@ -17,39 +18,39 @@ pub(crate) fn push_copies(variants: &mut Vec<LabelSet>, more: &[LabelSet]) -> Re
     Ok(())
 }
 
-/// Whether each label of `small` is one of `large`.
-fn is_subset(small: &LabelSet, large: &LabelSet) -> bool
-    ensures { result ≡ is_subset small.now large.now }
+/// Whether each label of `small` is one of `large`, and each binding tag of `large` one of `small`.
+fn fits(small: &LabelSet, large: &LabelSet) -> bool
+    ensures { result ≡ fits small.now large.now }
 {
-    small.is_subset(large)
+    small.fits(large)
 }
 
 /// Whether the two have the same labels.
 fn is_same(left: &LabelSet, right: &LabelSet) -> bool
     ensures { result ≡ is_same left.now right.now }
 {
-    is_subset(left, right) && is_subset(right, left)
+    fits(left, right) && fits(right, left)
 }
 
-/// Whether `small` is a subset of `large` and has not all its labels.
-fn is_proper_subset(small: &LabelSet, large: &LabelSet) -> bool
-    ensures { result ≡ is_proper_subset small.now large.now }
+/// Whether `small` fits `large` and has not all its labels.
+fn fits_properly(small: &LabelSet, large: &LabelSet) -> bool
+    ensures { result ≡ fits_properly small.now large.now }
 {
-    is_subset(small, large) && !is_subset(large, small)
+    fits(small, large) && !fits(large, small)
 }
 
-/// Whether one of the variants is a subset of `variant`.
-fn has_subset(variants: &[LabelSet], variant: &LabelSet) -> bool
-    ensures { result ≡ has_subset variants.now variant.now }
+/// Whether one of the variants fits `variant`.
+fn has_fit(variants: &[LabelSet], variant: &LabelSet) -> bool
+    ensures { result ≡ has_fit variants.now variant.now }
 {
-    variants.iter().any(|other| is_subset(other, variant))
+    variants.iter().any(|other| fits(other, variant))
 }
 
-/// Whether each of `variants` has a subset among the `others`.
-pub(crate) fn all_have_subsets(variants: &[LabelSet], others: &[LabelSet]) -> bool
-    ensures { result ≡ list_all (has_subset others.now) variants.now }
+/// Whether each of `variants` has a fit among the `others`.
+pub(crate) fn all_have_fits(variants: &[LabelSet], others: &[LabelSet]) -> bool
+    ensures { result ≡ list_all (has_fit others.now) variants.now }
 {
-    variants.iter().all(|variant| has_subset(others, variant))
+    variants.iter().all(|variant| has_fit(others, variant))
 }
 
 /// Whether one of the variants has the labels of `variant`.
@@ -59,20 +60,18 @@ fn is_among(variants: &[LabelSet], variant: &LabelSet) -> bool
     variants.iter().any(|other| is_same(other, variant))
 }
 
-/// Whether one of the variants is a proper subset of `variant`.
-fn has_proper_subset(variants: &[LabelSet], variant: &LabelSet) -> bool
-    ensures { result ≡ list_any (λ other. is_proper_subset other variant.now) variants.now }
+/// Whether one of the variants that have not all its labels fits `variant`.
+fn has_proper_fit(variants: &[LabelSet], variant: &LabelSet) -> bool
+    ensures { result ≡ list_any (λ other. fits_properly other variant.now) variants.now }
 {
-    variants
-        .iter()
-        .any(|other| is_proper_subset(other, variant))
+    variants.iter().any(|other| fits_properly(other, variant))
 }
 
-/// Whether `variant` repeats one of the `earlier` ones, or has a proper subset in the `whole` list.
+/// Whether `variant` repeats one of the `earlier` ones, or a different one of the `whole` list fits it.
 fn is_needless(whole: &[LabelSet], earlier: &[LabelSet], variant: &LabelSet) -> bool
     ensures { result ≡ is_needless whole.now earlier.now variant.now }
 {
-    is_among(earlier, variant) || has_proper_subset(whole, variant)
+    is_among(earlier, variant) || has_proper_fit(whole, variant)
 }
 
 /// A copy of each variant that is not needless, in their order. Each is compared with each other one.

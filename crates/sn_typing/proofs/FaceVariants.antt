@@ -8,7 +8,7 @@ use Rattle.sn_record.specs.LabelSet.{Labels}
 use Rattle.sn_typing.specs.Flow.{IsFaceVariant, IsBeaten, HasFace}
 use Rattle.sn_typing.proofs.Listed.{Among, Listed, among_contained, contained_among, dec_both, dec_either, dec_some}
 use Rattle.sn_typing.proofs.Listed.{listed_among, listed_as, listed_both, listed_either, listed_none, listed_one, listed_through}
-use Rattle.sn_typing.proofs.SubsetLists.{dec_subset}
+use Rattle.sn_typing.proofs.SubsetLists.{dec_fits}
 
 -- the variant at a branch
 abbrev pub placed : ℕ → Labels → ℕ × Labels
@@ -47,15 +47,15 @@ face_variants (face ∷ faces) =
 
 pub dec_has_face : (faces : List (List Labels)) (v : Labels) → Dec (HasFace faces v)
 dec_has_face faces v = map_dec
-    (λ (p, (own, within)). record { branch = p.0; variant = p.1; own = own; within = within })
-    (λ has. (placed has.branch has.variant, (has.own, has.within)))
-    (dec_some (listed_both (face_variants faces) (λ p. dec_subset p.1 v)))
+    (λ (p, (own, fit)). record { branch = p.0; variant = p.1; own = own; fits = fit })
+    (λ has. (placed has.branch has.variant, (has.own, has.fits)))
+    (dec_some (listed_both (face_variants faces) (λ p. dec_fits p.1 v)))
 
 pub dec_beaten : (faces : List (List Labels)) (i : ℕ) (w s : Labels) → Dec (IsBeaten faces i w s)
 dec_beaten faces i w s = map_dec
-    (λ (p, (other, (within, before))). record { branch = p.0; variant = p.1; other = other; within = within; before = before })
-    (λ beaten. (placed beaten.branch beaten.variant, (beaten.other, (beaten.within, beaten.before))))
-    (dec_some (listed_both (face_variants faces) (λ p. dec_both (dec_subset p.1 s) (before p))))
+    (λ (p, (other, (fit, before))). record { branch = p.0; variant = p.1; other = other; fits = fit; before = before })
+    (λ beaten. (placed beaten.branch beaten.variant, (beaten.other, (beaten.fits, beaten.before))))
+    (dec_some (listed_both (face_variants faces) (λ p. dec_both (dec_fits p.1 s) (before p))))
   where
     before : (p : ℕ × Labels) → Dec ((map.len w < map.len p.1) ⊎ ((map.len p.1 ≡ map.len w) × (p.0 < i)))
     before p = dec_either (dec_lt (map.len w) (map.len p.1)) (dec_both (ℕ_discrete (map.len p.1) (map.len w)) (dec_lt p.0 i))

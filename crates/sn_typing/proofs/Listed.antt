@@ -123,6 +123,16 @@ dec_either (yes a) b = yes (inl a)
 dec_either (no a) (yes b) = yes (inr b)
 dec_either (no a) (no b) = no (elim [ inl x ↦ a x | inr x ↦ b x ])
 
+pub dec_each : {A : Type 0} {P Q : A → Type 0} → Listed P → ((x : A) → Dec (Q x)) → Dec ((x : A) → P x → Q x)
+dec_each {A = A} {Q = Q} p dec = map_dec (λ all x has. all x (p.complete x has)) (λ all x among. all x (p.sound x among)) (each p.answers)
+  where
+    each : (xs : List A) → Dec ((x : A) → Among xs x → Q x)
+    each [] = yes (λ x never. absurd never)
+    each (y ∷ ys) = map_dec
+        (λ (first, later) x. elim [ inl same ↦ subst Q same first | inr among ↦ later x among ])
+        (λ all. (all y (inl refl), λ x among. all x (inr among)))
+        (dec_both (dec y) (each ys))
+
 pub dec_not : {A : Type 0} → Dec A → Dec (A → ⊥)
 dec_not (yes a) = no (λ never. never a)
 dec_not (no a) = yes a

@@ -9,7 +9,7 @@ use Rattle.sn_typing.specs.Flow.{Comes, Comes.{first, next}, Flows, IsClosedSet,
 use Rattle.sn_typing.proofs.Listed.{Listed, among_contained, contained_among, dec_both, dec_listed, dec_not}
 use Rattle.sn_typing.proofs.Listed.{listed_among, listed_as, listed_both, listed_one, listed_through, listed_where}
 use Rattle.sn_typing.proofs.Ways.{IsReached, listed_reached, reached_next, way_along}
-use Rattle.sn_typing.proofs.SubsetLists.{dec_has_subset, dec_same, dec_subset, dec_true, subset_among, subsets_of}
+use Rattle.sn_typing.proofs.SubsetLists.{dec_alike, dec_fits, dec_same, dec_takes, dec_true, subset_among, subsets_of}
 use Rattle.sn_typing.proofs.FaceVariants.{placed, face_variants, dec_has_face, dec_beaten}
 use Rattle.sn_typing.proofs.Mentioned.{mentions, flows_mentioned, comes_mentioned}
 
@@ -19,9 +19,9 @@ dec_false false = yes refl
 
 dec_leaves : (exit : Labels) (guarded : Bool) (v : Labels) → Dec (SurelyLeaves exit guarded v)
 dec_leaves exit guarded v = map_dec
-    (λ (unguarded, within). record { unguarded = unguarded; within = within })
-    (λ leaves. (leaves.unguarded, leaves.within))
-    (dec_both (dec_false guarded) (dec_subset exit v))
+    (λ (unguarded, fit). record { unguarded = unguarded; fits = fit })
+    (λ leaves. (leaves.unguarded, leaves.fits))
+    (dec_both (dec_false guarded) (dec_fits exit v))
 
 comes_chain : (exit : Labels) (guarded : Bool) (body : Labels → Labels → Type 0) (u t : Labels) → Comes exit guarded body u t
     → (w : Labels) → Comes exit guarded body t w → Comes exit guarded body u w
@@ -59,21 +59,22 @@ module _ (exit : Labels) (guarded : Bool) (body : Outline) (each : (u : Labels) 
 pub listing : (net : Outline) (v : Labels) → Listed (Flows net v)
 listing (Component place takes named outputs) v =
     let given = listed_through (λ o u. union o (minus v named) ≡ u) (listed_among outputs) (λ o. listed_one (union o (minus v named))) in
-    listed_where (dec_has_subset takes v) (listed_as
+    listed_where (dec_takes takes v) (listed_as
     (λ u (o, among, same). (o, among_contained outputs o among, sym same))
     (λ u (o, listed, is). (o, contained_among outputs o listed, sym is))
     given)
 listing (Series left right) v = listed_through (Flows right) (listing left v) (λ w. listing right w)
 listing (Choice place faces branch) v =
-    let unbeaten = listed_both (face_variants faces) (λ p. dec_not (dec_beaten faces p.0 p.1 (union v p.1))) in
+    let unbeaten = listed_both (face_variants faces) (λ p. dec_both (dec_alike p.1 v) (dec_not (dec_beaten faces p.0 p.1 (union v p.1)))) in
     let given = listed_through (λ p u. Flows (branch p.0) (union v p.1) u) unbeaten (λ p. listing (branch p.0) (union v p.1)) in
     listed_where (dec_has_face faces v) (listed_as
-    (λ u (p, (own, best), flow). (p.0, p.1, record { own = own; best = best }, flow))
-    (λ u (i, w, taken, flow). (placed i w, (taken.own, taken.best), flow))
+    (λ u (p, (own, (alike, best)), flow). (p.0, p.1, record { own = own; alike = alike; best = best }, flow))
+    (λ u (i, w, taken, flow). (placed i w, (taken.own, (taken.alike, taken.best)), flow))
     given)
 listing (Star exit guarded body) v =
-    let given = listed_through (λ w u. union w exit ≡ u) (listed_comes exit guarded body (λ u. listing body u) v) (λ w. listed_one (union w exit)) in
-    listed_as (λ u (w, come, same). (w, come, sym same)) (λ u (w, come, is). (w, come, sym is)) given
+    let leaving = listed_both (listed_comes exit guarded body (λ u. listing body u) v) (λ w. dec_alike w exit) in
+    let given = listed_through (λ w u. union w exit ≡ u) leaving (λ w. listed_one (union w exit)) in
+    listed_as (λ u (w, (come, alike), same). (w, come, alike, sym same)) (λ u (w, come, alike, is). (w, (come, alike), sym is)) given
 listing (Split place id body) v = listed_where (dec_true (contains v (tag id))) (listing body v)
 
 -- all that comes to a safe star is a closed set

@@ -53,7 +53,7 @@ flows_mentioned (Choice place faces branch) v u (has, (i, w, unbeaten, flow)) =
     let of_branch = in_right own v all (within_within own (union w own) all (IsSubset-union_right w own) there) in
     let before = union_within v w (union v all) (IsSubset-union_left v all) of_face in
     by_parts u (union v w) own (union v all) (flows_mentioned (branch i) (union v w) u flow) before of_branch
-flows_mentioned (Star exit guarded body) v u (w, come, is) =
+flows_mentioned (Star exit guarded body) v u (w, come, alike, is) =
     let both = union exit (mentions body) in
     let coming = comes_mentioned exit guarded (Flows body) v (mentions body) (λ s t flow. flows_mentioned body s t flow) w come in
     let of_body = in_right (mentions body) v both (IsSubset-union_right exit (mentions body)) in

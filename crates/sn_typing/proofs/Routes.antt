@@ -18,8 +18,8 @@ pub reached_routed : (net : Outline) (v : Labels) (way : List Turn) (part : Outl
 reached_routed net v way part u safe (here net' v') = routed_itself net v safe
 reached_routed net v way part u safe (left a b v' way' part' u' reached) = reached_routed a v way' part u safe.0 reached
 reached_routed net v way part u safe (right a b v' w way' part' u' flow reached) = reached_routed b w way' part u (safe.1 w flow) reached
-reached_routed net v way part u safe (branch place faces branches v' i w way' part' u' has unbeaten reached) =
-    reached_routed (branches i) (union v w) way' part u (safe.1 i w unbeaten) reached
+reached_routed net v way part u safe (branch place faces branches v' i w way' part' u' has taken reached) =
+    reached_routed (branches i) (union v w) way' part u (safe.1 i w taken) reached
 reached_routed net v way part u safe (inside exit guarded body v' w way' part' u' come stays reached) = reached_routed body w way' part u (safe w come stays) reached
 reached_routed net v way part u safe (replica place id body v' way' part' u' there reached) = reached_routed body v way' part u safe.1 reached
 
@@ -32,8 +32,8 @@ routed_safe (Series a b) v routed = (
 routed_safe (Choice place faces branches) v routed =
     let has = routed [] (Choice place faces branches) v (here (Choice place faces branches) v) in (
       has,
-      λ i w unbeaten. routed_safe (branches i) (union v w)
-          (λ way part u reached. routed (Branch i ∷ way) part u (branch place faces branches v i w way part u has unbeaten reached)),
+      λ i w taken. routed_safe (branches i) (union v w)
+          (λ way part u reached. routed (Branch i ∷ way) part u (branch place faces branches v i w way part u has taken reached)),
     )
 routed_safe (Star exit guarded body) v routed = λ w come stays.
     routed_safe body w (λ way part u reached. routed (Body ∷ way) part u (inside exit guarded body v w way part u come stays reached))

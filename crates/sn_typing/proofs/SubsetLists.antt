@@ -12,10 +12,13 @@ use Rattle.sn_record.specs.Label.{label_cmp}
 use Rattle.sn_record.specs.LabelSet.{Labels, contains, IsSubset, union, minus}
 use Rattle.sn_record.proofs.Maps.{same_label}
 use Rattle.sn_record.proofs.Sets.{same_labels, contains-insert, contains-minus, IsSubset-union_left, IsSubset-union_right}
-use Rattle.sn_types.specs.RecordType.{HasSubset, is_subset, has_subset}
-use Rattle.sn_types.proofs.Subtypes.{is_subset-IsSubset, has_subset-HasSubset}
+use Rattle.sn_record.specs.Fits.{BindAlike, bind_alike, Fits, fits}
+use Rattle.sn_record.proofs.Fitting.{fits-Fits, fits_itself, bind_alike-BindAlike}
+use Rattle.sn_types.specs.RecordType.{HasFit, has_fit}
+use Rattle.sn_types.proofs.Subtypes.{has_fit-HasFit}
 use Rattle.sn_typing.proofs.Subsets.{or_false, within_within}
-use Rattle.sn_typing.proofs.Listed.{Among, among_each, among_left, among_right, dec_both}
+use Rattle.sn_typing.specs.Flow.{Takes}
+use Rattle.sn_typing.proofs.Listed.{Among, among_contained, among_each, among_left, among_right, contained_among, dec_both, dec_each, listed_among}
 
 -- ---- what can be decided
 
@@ -23,20 +26,29 @@ pub dec_true : (b : Bool) → Dec (IsTrue b)
 dec_true true = yes refl
 dec_true false = no (λ e. cc)
 
-pub dec_subset : (s t : Labels) → Dec (IsSubset s t)
-dec_subset s t = map_dec (is_subset-IsSubset s t).0 (is_subset-IsSubset s t).1 (dec_true (is_subset s t))
+pub dec_fits : (s t : Labels) → Dec (Fits s t)
+dec_fits s t = map_dec (fits-Fits s t).0 (fits-Fits s t).1 (dec_true (fits s t))
 
-pub dec_has_subset : (variants : List Labels) (v : Labels) → Dec (HasSubset variants v)
-dec_has_subset variants v = map_dec (has_subset-HasSubset variants v).0 (has_subset-HasSubset variants v).1 (dec_true (has_subset variants v))
+pub dec_alike : (s t : Labels) → Dec (BindAlike s t)
+dec_alike s t = map_dec (bind_alike-BindAlike s t).0 (bind_alike-BindAlike s t).1 (dec_true (bind_alike s t))
 
-same_both : (s t : Labels) → IsSubset s t × IsSubset t s → s ≡ t
-same_both s t both = same_labels s t (λ l. both_ways (contains s l) (contains t l) (both.0 l) (both.1 l))
+dec_has_fit : (variants : List Labels) (v : Labels) → Dec (HasFit variants v)
+dec_has_fit variants v = map_dec (has_fit-HasFit variants v).0 (has_fit-HasFit variants v).1 (dec_true (has_fit variants v))
+
+pub dec_takes : (takes : List Labels) (v : Labels) → Dec (Takes takes v)
+dec_takes takes v = map_dec
+    (λ (has, alike). record { has = has; alike = λ s t one other. alike s (contained_among takes s one) t (contained_among takes t other) })
+    (λ all. (all.has, λ s one t other. all.alike s t (among_contained takes s one) (among_contained takes t other)))
+    (dec_both (dec_has_fit takes v) (dec_each (listed_among takes) (λ s. dec_each (listed_among takes) (λ t. dec_alike s t))))
+
+same_both : (s t : Labels) → Fits s t × Fits t s → s ≡ t
+same_both s t both = same_labels s t (λ l. both_ways (contains s l) (contains t l) (both.0.within l) (both.1.within l))
 
 pub dec_same : (s t : Labels) → Dec (s ≡ t)
 dec_same s t = map_dec
     (same_both s t)
-    (λ same. (subst (IsSubset s) same (λ l there. there), subst (λ u. IsSubset u s) same (λ l there. there)))
-    (dec_both (dec_subset s t) (dec_subset t s))
+    (λ same. (subst (Fits s) same (fits_itself s), subst (λ u. Fits u s) same (fits_itself s)))
+    (dec_both (dec_fits s t) (dec_fits t s))
 
 -- ---- unions
 

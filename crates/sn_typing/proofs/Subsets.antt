@@ -7,7 +7,9 @@ use Rattle.sn_record.specs.declared.label.Label.{Label}
 use Rattle.sn_record.specs.Label.{label_cmp}
 use Rattle.sn_record.specs.LabelSet.{Labels, contains, IsSubset, union, minus}
 use Rattle.sn_record.specs.Record.{Entries, Matches}
-use Rattle.sn_record.proofs.Sets.{contains-insert, contains-union, contains-minus}
+use Rattle.sn_record.specs.Fits.{BindAlike, Fits, FitsAmong}
+use Rattle.sn_record.proofs.Sets.{contains-insert, contains-union, contains-minus, IsSubset-union_left}
+use Rattle.sn_record.proofs.Fitting.{fits_same}
 use Rattle.sn_net.specs.Face.{variant_of}
 use Rattle.sn_typing.specs.Typed.{labels_of}
 
@@ -15,7 +17,7 @@ pub or_false : (b : Bool) → (b || false) ≡ b
 or_false true = refl
 or_false false = refl
 
-or_turned : (a b c : Bool) → ((a || b) || c) ≡ (b || (a || c))
+pub or_turned : (a b c : Bool) → ((a || b) || c) ≡ (b || (a || c))
 or_turned true true c = refl
 or_turned true false c = refl
 or_turned false b c = refl
@@ -45,20 +47,17 @@ either_case : (a b c : Bool) → (IsTrue a → IsTrue c) → (IsTrue b → IsTru
 either_case true b c f g h = f refl
 either_case false b c f g h = g h
 
-pub within_itself : (s : Labels) → IsSubset s s
-within_itself s l there = there
-
 pub within_within : (s t u : Labels) → IsSubset s t → IsSubset t u → IsSubset s u
 within_within s t u first second l there = second l (first l there)
+
+pub union_within : (s t u : Labels) → IsSubset s u → IsSubset t u → IsSubset (union s t) u
+union_within s t u first second l there =
+    either_case (contains s l) (contains t l) (contains u l) (first l) (second l) (sym (contains-union s t l) ∙ there)
 
 -- each part may become larger
 pub union_more : (s s' t t' : Labels) → IsSubset s s' → IsSubset t t' → IsSubset (union s t) (union s' t')
 union_more s s' t t' first second l there =
     contains-union s' t' l ∙ either_more (contains s l) (contains s' l) (contains t l) (contains t' l) (first l) (second l) (sym (contains-union s t l) ∙ there)
-
-pub union_within : (s t u : Labels) → IsSubset s u → IsSubset t u → IsSubset (union s t) u
-union_within s t u first second l there =
-    either_case (contains s l) (contains t l) (contains u l) (first l) (second l) (sym (contains-union s t l) ∙ there)
 
 pub minus_more : (s s' t : Labels) → IsSubset s s' → IsSubset (minus s t) (minus s' t)
 minus_more s s' t more l there =
@@ -82,8 +81,41 @@ contains-variant_of labels l =
 pub contains-labels_of : (r : Entries) (l : Label) → contains (labels_of r) l ≡ map.contains_key r l
 contains-labels_of r l = contains-variant_of (map.keys r) l ∙ sym (map.contains_key-keys r l)
 
-pub matched_labels : (r : Entries) (v : Labels) → Matches r v → IsSubset v (labels_of r)
-matched_labels r v matches l there = contains-labels_of r l ∙ matches l there
+pub matched_labels : (r : Entries) (v : Labels) → Matches r v → Fits v (labels_of r)
+matched_labels r v matches = fits_same (map.contains_key r) (contains (labels_of r)) v (λ l. sym (contains-labels_of r l)) matches
 
-pub labels_matched : (r : Entries) (v : Labels) → IsSubset v (labels_of r) → Matches r v
-labels_matched r v within l there = sym (contains-labels_of r l) ∙ within l there
+pub labels_matched : (r : Entries) (v : Labels) → Fits v (labels_of r) → Matches r v
+labels_matched r v fit = fits_same (contains (labels_of r)) (map.contains_key r) v (contains-labels_of r) fit
+
+-- ---- what fits goes on fitting
+
+pub union_fits : (s s' t t' : Labels) → Fits s s' → Fits t t' → Fits (union s t) (union s' t')
+union_fits s s' t t' first second = record {
+  within = union_more s s' t t' first.within second.within;
+  bound = λ l binds there.
+      contains-union s t l
+      ∙ either_more (contains s' l) (contains s l) (contains t' l) (contains t l) (first.bound l binds) (second.bound l binds) (sym (contains-union s' t' l) ∙ there);
+}
+
+pub minus_fits : (s s' t : Labels) → Fits s s' → Fits (minus s t) (minus s' t)
+minus_fits s s' t fit = record {
+  within = minus_more s s' t fit.within;
+  bound = λ l binds there. contains-minus s t l ∙ both_more (contains s' l) (contains s l) (not (contains t l)) (fit.bound l binds) (sym (contains-minus s' t l) ∙ there);
+}
+
+-- ---- two sets that fit the same labels
+
+pub union_fit : (has : Label → Bool) (s t : Labels) → FitsAmong has s → FitsAmong has t → FitsAmong has (union s t)
+union_fit has s t first second = record {
+  within = λ l there. either_case (contains s l) (contains t l) (has l) (first.within l) (second.within l) (sym (contains-union s t l) ∙ there);
+  bound = λ l binds there. IsSubset-union_left s t l (first.bound l binds there);
+}
+
+pub both_alike : (has : Label → Bool) (s t : Labels) → FitsAmong has s → FitsAmong has t → BindAlike s t
+both_alike has s t first second l binds =
+    as_one (contains s l) (contains t l) (λ there. second.bound l binds (first.within l there)) (λ there. first.bound l binds (second.within l there))
+  where
+    as_one : (a b : Bool) → (IsTrue a → IsTrue b) → (IsTrue b → IsTrue a) → a ≡ b
+    as_one true b f g = sym (f refl)
+    as_one false true f g = g refl
+    as_one false false f g = refl

@@ -5,7 +5,7 @@ use Rattle.sn_record.specs.LabelSet.{Labels}
 use Rattle.sn_net.specs.declared.expr.BoxProgram.{BoxProgram}
 use Rattle.sn_net.specs.declared.net.Claim.{Claim}
 use Rattle.sn_typing.specs.Outline.{Outline, Component, Series, Choice, Star, Split, outline}
-use Rattle.sn_types.specs.RecordType.{HasSubset}
+use Rattle.sn_types.specs.RecordType.{HasFit}
 use Rattle.sn_typing.specs.Flow.{Flows, Safe, Comes}
 use Rattle.sn_typing.specs.Reached.{Turn, Reached}
 
@@ -39,9 +39,9 @@ pub record IsBounded (net : Outline) (input : List Labels) : Type 0 where
   pub flows : (way : List Turn) (part : Outline) (u : Labels) → IsReached net input way part u → AreFew (Flows part u)
   pub stars : (way : List Turn) (part : Outline) (u : Labels) → IsReached net input way part u → AreFew (ComesTo part u)
 
--- what comes out for some variant of the input has a subset in the output
+-- a variant of the output fits what comes out for some variant of the input
 abbrev pub IsDeclared : Outline → List Labels → List Labels → Type 0
-IsDeclared net input output = (v u : Labels) → Contains input v → Flows net v u → HasSubset output u
+IsDeclared net input output = (v u : Labels) → Contains input v → Flows net v u → HasFit output u
 
 -- the claim is accepted
 pub record IsAccepted (boxes : List BoxProgram) (claim : Claim) : Type 0 where

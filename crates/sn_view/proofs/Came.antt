@@ -69,7 +69,7 @@ first-own (c ∷ cs) (child, there, own) =
     ap (λ (b : Bool). cond b (Some 0) (position_from (has_key key.Own) 1 cs)) is_own
 
 takes_once : (boxes : List BoxProgram) (number : ℕ) (r : Entries) → IsProp (TakesRecord boxes number r)
-takes_once boxes number r = ×_prop le_prop (Π_prop (λ program. Π_prop (λ is. Π_prop (λ l. Π_prop (λ there. Bool-set _ _)))))
+takes_once boxes number r = ×_prop le_prop (Π_prop (λ program. Π_prop (λ is. hlevel (Bool-set))))
 
 module _ (run : Run) (g : View) (came : ∥ Comes run g ∥₁) where
   -- NUMBERS
