@@ -11,7 +11,7 @@ use sn_flow::Table;
 use sn_list::{Memory, Seq};
 use sn_names::Names;
 use sn_net::{Merge, Net};
-use sn_output::{name_at_number, push_label};
+use sn_output::push_label;
 use sn_place::Places;
 use sn_record::{Kind, Text};
 use sn_stack::append;
@@ -285,10 +285,10 @@ impl Drawing<'_> {
         ensures { OnOk result (count_nodes self.new.statements ≡ count_nodes self.old.statements + (2 + drawn body.now)) }
     {
         let mut text = Seq::from_slice(self.alloc, operator(merge, b"split !! ", b"split ! "))?;
-        push_label(&mut text, Kind::Tag, name_at_number(self.names, tag))?;
+        push_label(&mut text, Kind::Tag, self.names.name_or_none(tag))?;
         let label = placed(self.places, text, b" at ", place)?;
         let mut fork = Seq::from_slice(self.alloc, b"by ")?;
-        push_label(&mut fork, Kind::Tag, name_at_number(self.names, tag))?;
+        push_label(&mut fork, Kind::Tag, self.names.name_or_none(tag))?;
         let ends = self.open_fork(label, fork.as_slice(), merge)?;
         let part = part_of(table, 0);
         let inner = self.draw(body, part)?;

@@ -1,14 +1,14 @@
 //! Variants as they are printed, and which labels they lack.
 use sn_list::{Memory, Seq};
 use sn_names::Names;
-use sn_output::{name_at_number, push_label};
+use sn_output::push_label;
 use sn_record::{Label, Text};
 use std::alloc::Global;
 
 /// A label as it is printed.
 fn label_text(alloc: Global, names: &Names, label: Label) -> Result<Text, Memory> {
     let mut text = Seq::new(alloc);
-    push_label(&mut text, label.kind, name_at_number(names, label.id))?;
+    push_label(&mut text, label.kind, names.name_or_none(label.id))?;
     Ok(text)
 }
 

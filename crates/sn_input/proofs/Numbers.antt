@@ -6,7 +6,7 @@ use Rattle.std.proofs.lemmas.List.Elements.{All-same, All-map, All-take}
 use Rattle.sn_record.specs.declared.label.Label.{Label}
 use Rattle.sn_record.specs.declared.value.Value.{Value}
 use Rattle.sn_record.specs.Record.{FitsLabel}
-use Rattle.sn_names.specs.Names.{entered, all_entered, number_in}
+use Rattle.sn_names.specs.Names.{entered, all_entered, label_number, numbered}
 use Rattle.sn_names.proofs.NamesLaws.{is_held-entered, number_in-all_entered, length-all_entered, all_entered-append}
 use Rattle.sn_record_parser.specs.declared.entry.Entry.{Entry}
 use Rattle.sn_input.specs.declared.input.InputFault.{InputFault}
@@ -39,10 +39,10 @@ module _ (start : List (List ℕ)) (entries before after : List Entry) (entry : 
     from_here = split_names ∙ ap (λ ns. all_entered (entered ns (name_of entry)) (map name_of after)) (sym was)
 
     -- the number of a name stays
-    pub number_stays : (new : List (List ℕ)) (id : ℕ) → new ≡ entered names (name_of entry) → id ≡ number_in new (name_of entry) → id ≡ number_in final (name_of entry)
+    pub number_stays : (new : List (List ℕ)) (id : ℕ) → new ≡ entered names (name_of entry) → id ≡ label_number new (name_of entry) → id ≡ label_number final (name_of entry)
     number_stays new id is number =
-        number ∙ ap (λ ns. number_in ns (name_of entry)) is
-        ∙ sym (ap (λ ns. number_in ns (name_of entry)) from_here ∙ number_in-all_entered (entered names (name_of entry)) (map name_of after) (name_of entry) (is_held-entered names (name_of entry)))
+        number ∙ ap (λ ns. label_number ns (name_of entry)) is
+        ∙ sym (ap (λ ns. label_number ns (name_of entry)) from_here ∙ ap (numbered (name_of entry)) (number_in-all_entered (entered names (name_of entry)) (map name_of after) (name_of entry) (is_held-entered names (name_of entry))))
 
     -- where one name does not go in, all do not
     pub lacks_names : (fault : InputFault) → LacksNames (entered names (name_of entry)) fault → LacksNames final fault
@@ -55,7 +55,7 @@ module _ (start : List (List ℕ)) (entries before after : List Entry) (entry : 
         ]
 
   -- the numbered entries grow by the entry
-  pub made_more : (made more : List (Label × Value)) (id : ℕ) → made ≡ map (entry_in final) before → id ≡ number_in final (name_of entry)
+  pub made_more : (made more : List (Label × Value)) (id : ℕ) → made ≡ map (entry_in final) before → id ≡ label_number final (name_of entry)
       → more ≡ made ++ (record { kind = entry.label.kind; id = id }, entry.value) ∷ [] → more ≡ map (entry_in final) (before ++ entry ∷ [])
   made_more made more id was number is =
       is ∙ (λ i. was i ++ (record { kind = entry.label.kind; id = number i }, entry.value) ∷ []) ∙ sym (map_push (entry_in final) before entry)
@@ -68,4 +68,4 @@ front_all P xs ys entries is all = All-same P xs (take (length xs) (xs ++ ys)) (
 pub numbered_fit : (names : List (List ℕ)) (entries : List Entry) (made : List (Label × Value)) → made ≡ map (entry_in names) entries → All Fits entries → All (λ e. FitsLabel e.0 e.1) made
 numbered_fit names entries made is fit =
     All-same (λ (e : Label × Value). FitsLabel e.0 e.1) made (map (entry_in names) entries) is
-    (All-map (λ (e : Label × Value). FitsLabel e.0 e.1) (entry_in names) entries (λ k d within. fit k d within (number_in names (name_of (get_or entries k d)))))
+    (All-map (λ (e : Label × Value). FitsLabel e.0 e.1) (entry_in names) entries (λ k d within. fit k d within (label_number names (name_of (get_or entries k d)))))

@@ -8,7 +8,7 @@ use Rattle.sn_record.specs.declared.label.Kind.TheVariants.{Field, Tag}
 use Rattle.sn_record.specs.declared.label.Label.{Label}
 use Rattle.sn_record.specs.declared.value.Value.{Value}
 use Rattle.sn_record.specs.Record.{Entries}
-use Rattle.sn_names.specs.Names.{all_entered, number_in}
+use Rattle.sn_names.specs.Names.{all_entered, label_number}
 use Rattle.sn_record_parser.specs.declared.entry.WrittenLabel.{WrittenLabel}
 use Rattle.sn_record_parser.specs.declared.entry.Entry.{Entry}
 
@@ -17,7 +17,7 @@ abbrev pub with_entries : List (List ℕ) → List Entry → List (List ℕ)
 with_entries names entries = all_entered names (map (λ e. e.label.name) entries)
 
 abbrev pub label_in : List (List ℕ) → WrittenLabel → Label
-label_in names label = record { kind = label.kind; id = number_in names label.name }
+label_in names label = record { kind = label.kind; id = label_number names label.name }
 
 abbrev pub entry_in : List (List ℕ) → Entry → Label × Value
 entry_in names entry = (label_in names entry.label, entry.value)

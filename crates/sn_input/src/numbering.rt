@@ -3,7 +3,7 @@ ghost use Rattle.std.specs.Prelude.{◌≡◌, ◌++◌, ◌∷◌, [], ◌<◌,
 ghost use Rattle.std.specs.List.{All};
 ghost use Rattle.std.specs.FinMap as map;
 ghost use Rattle.sn_record.specs.Record.{FitsLabel};
-ghost use Rattle.sn_names.specs.Names.{entered, number_in};
+ghost use Rattle.sn_names.specs.Names.{entered, label_number};
 ghost use Rattle.sn_input.specs.Numbered.{with_entries, record_of as numbered};
 ghost use Rattle.sn_input.specs.Reading.{most_names};
 ghost use Rattle.sn_input.specs.Steps.{Fits, LacksNames};
@@ -21,7 +21,7 @@ const MOST_NAMES: u32 = 4096;
 /// The number of a name, which goes to the end where it is new.
 fn number_of(names: &mut Names, name: &[u8]) -> Result<u32, InputFault>
     ensures entered { OnOk result (names.new ≡ entered names.old name.now) }
-    ensures number { IfOk result (λ i. i ≡ number_in names.new name.now) }
+    ensures number { IfOk result (λ i. i ≡ label_number names.new name.now) }
     ensures few { OnOk result (length names.new ≤ most_names) }
     ensures refused { IfErr result (LacksNames (entered names.old name.now)) }
 {

@@ -26,8 +26,8 @@ use Rattle.sn_record.specs.Value.{IsSound, nesting, weight}
 use Rattle.sn_record.specs.Record.{Entries, FitsLabel, IsInt}
 use Rattle.sn_record.proofs.Maps.{get-slice_get, same_label, ties_itself}
 use Rattle.sn_record.proofs.Records.{same_record}
-use Rattle.sn_names.specs.Names.{are_distinct, name_at, number_in}
-use Rattle.sn_names.proofs.NamesLaws.{number_in-name_at}
+use Rattle.sn_names.specs.Names.{are_distinct, label_name, label_number}
+use Rattle.sn_names.proofs.Labels.{label_number-label_name}
 use Rattle.sn_lexer.specs.Spelling.{is_name}
 use Rattle.sn_record_tokens.specs.Tokens.{SpellsName}
 use Rattle.sn_record_parser.specs.declared.entry.Entry.{Entry}
@@ -83,7 +83,7 @@ unfolding unicode_ident
 bracket_no_name rest = refl
 
 abbrev written_label : List (List ℕ) → Label → WrittenLabel
-written_label names l = record { kind = l.kind; name = name_at names l.id }
+written_label names l = record { kind = l.kind; name = label_name names l.id }
 
 abbrev made : Kind → List ℕ → WrittenLabel
 made kind name = record { kind = kind; name = name }
@@ -106,9 +106,9 @@ tag_key word name s =
     ∙ ap tag_of (inside_is key name refl)
     ∙ ap (λ b. cond b (Some (made Tag name)) None) (named word name s)
 
-key_at : (names : List (List ℕ)) (kind : Kind) (id : ℕ) → HasName names (record { kind = kind; id = id }) → label_of (printed_label kind (name_at names id)) ≡ Some (made kind (name_at names id))
-key_at names Field id has = field_key has.word (name_at names id) has.spelled
-key_at names Tag id has = tag_key has.word (name_at names id) has.spelled
+key_at : (names : List (List ℕ)) (kind : Kind) (id : ℕ) → HasName names (record { kind = kind; id = id }) → label_of (printed_label kind (label_name names id)) ≡ Some (made kind (label_name names id))
+key_at names Field id has = field_key has.word (label_name names id) has.spelled
+key_at names Tag id has = tag_key has.word (label_name names id) has.spelled
 
 -- the key of a label is read as it
 label_back : (names : List (List ℕ)) (l : Label) → HasName names l → label_of (label_text names l) ≡ Some (written_label names l)
@@ -128,7 +128,7 @@ unfolding kind_in name_in
 same_key names differ l m l_has m_has e =
     let found : Some (written_label names l) ≡ Some (written_label names m) = sym (label_back names l l_has) ∙ ap label_of e ∙ label_back names m m_has in
     let kinds : l.kind ≡ m.kind = ap kind_in found in
-    let ids : l.id ≡ m.id = sym (number_in-name_at names l.id differ l_has.below) ∙ ap (λ x. number_in names (name_in x)) found ∙ number_in-name_at names m.id differ m_has.below in
+    let ids : l.id ≡ m.id = sym (label_number-label_name names l.id differ l_has.held) ∙ ap (λ x. label_number names (name_in x)) found ∙ label_number-label_name names m.id differ m_has.held in
     λ i. record { kind = kinds i; id = ids i }
 
 -- ---- entries

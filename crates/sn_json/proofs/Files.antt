@@ -6,7 +6,7 @@ use Rattle.std.proofs.lemmas.List.{length-append}
 use Rattle.std.proofs.lemmas.List.Elements.{All-nil, All-head, All-tail, All-cons, All-push}
 use Rattle.sn_record.specs.declared.label.Label.{Label}
 use Rattle.sn_record.specs.Record.{Entries}
-use Rattle.sn_names.specs.Names.{is_held, name_at}
+use Rattle.sn_names.specs.Names.{IsHeld, is_held, name_at, numbered, place_of}
 use Rattle.sn_names.proofs.NamesLaws.{all_added, all_entered_is, is_held-each, same_as_itself}
 use Rattle.sn_record_tokens.specs.Tokens.{SpellsName}
 use Rattle.sn_record_parser.specs.declared.entry.Entry.{Entry}
@@ -23,11 +23,17 @@ kept_name [] rest i within = absurd (omega arith)
 kept_name (n ∷ names) rest zero within = refl
 kept_name (n ∷ names) rest (suc i) within = kept_name names rest i (omega arith)
 
+held_stays : (names rest : List (List ℕ)) (id : ℕ) → IsHeld names id → IsHeld (names ++ rest) id
+held_stays names rest id held = record {
+  within = omega (arith, held.within, length-append names rest);
+  number = subst (λ n. numbered n (place_of id) ≡ id) (sym (kept_name names rest (place_of id) held.within)) held.number;
+}
+
 name_stays : (names rest : List (List ℕ)) (l : Label) → HasName names l → HasName (names ++ rest) l
 name_stays names rest l named = record {
-  below = omega (arith, named.below, length-append names rest);
+  held = held_stays names rest l.id named.held;
   word = named.word;
-  spelled = subst (SpellsName named.word) (sym (kept_name names rest l.id named.below)) named.spelled;
+  spelled = subst (SpellsName named.word) (sym (kept_name names rest (place_of l.id) named.held.within)) named.spelled;
 }
 
 stays : (names rest : List (List ℕ)) (r : Entries) → IsWritable names r → IsWritable (names ++ rest) r

@@ -18,7 +18,7 @@ use Rattle.sn_record.specs.Value.{every, is_printable_text, is_printable as is_p
 use Rattle.sn_record.proofs.Maps.{get-slice_get}
 use Rattle.sn_record.proofs.Values.{is_printable-List, is_printable-Text}
 use Rattle.sn_lexer.specs.Spelling.{is_printable}
-use Rattle.sn_names.specs.Names.{name_at}
+use Rattle.sn_names.specs.Names.{label_name}
 use Rattle.sn_output.specs.Line.{printed_label}
 use Rattle.sn_output.specs.Types.{label_text}
 use Rattle.sn_record_roundtrip.specs.Writable.{HasName, IsWritable}
@@ -56,9 +56,9 @@ reads_utf8 : {bytes : List ℕ} → Reads bytes → IsUtf8 bytes
 reads_utf8 r = (r.piece, (inline_scalars r.piece r.inline, r.encoded))
 
 -- so is the key of a label that has a name
-key_utf8 : (names : List (List ℕ)) (kind : Kind) (id : ℕ) → HasName names (record { kind = kind; id = id }) → IsUtf8 (printed_label kind (name_at names id))
-key_utf8 names Field id named = reads_utf8 (name_reads named.word (name_at names id) named.spelled)
-key_utf8 names Tag id named = reads_utf8 (tag_reads named.word (name_at names id) named.spelled)
+key_utf8 : (names : List (List ℕ)) (kind : Kind) (id : ℕ) → HasName names (record { kind = kind; id = id }) → IsUtf8 (printed_label kind (label_name names id))
+key_utf8 names Field id named = reads_utf8 (name_reads named.word (label_name names id) named.spelled)
+key_utf8 names Tag id named = reads_utf8 (tag_reads named.word (label_name names id) named.spelled)
 
 pub label_utf8 : (names : List (List ℕ)) (l : Label) → HasName names l → IsUtf8 (label_text names l)
 label_utf8 names l named = key_utf8 names l.kind l.id named

@@ -10,7 +10,7 @@ ghost use Rattle.sn_json.specs.Writing.{data_of, json_of};
 use serde_json::{Map, Number, Value as Json, push, put};
 use sn_list::{Memory, Seq};
 use sn_names::Names;
-use sn_output::{name_at_number, push_label};
+use sn_output::push_label;
 use sn_record::{Label, Record, Text, Value};
 use std::alloc::Global;
 
@@ -63,7 +63,7 @@ fn key_of(alloc: Global, names: &Names, label: Label) -> Result<Text, Memory>
     ensures { IfOk result (λ key. key ≡ label_text names.now label) }
 {
     let mut key = Seq::new(alloc);
-    push_label(&mut key, label.kind, name_at_number(names, label.id))?;
+    push_label(&mut key, label.kind, names.name_or_none(label.id))?;
     Ok(key)
 }
 

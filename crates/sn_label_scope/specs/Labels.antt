@@ -8,7 +8,7 @@ use Rattle.sn_record.specs.declared.label.Kind.{Kind}
 use Rattle.sn_record.specs.declared.label.Kind.TheVariants.{Field, Tag}
 use Rattle.sn_record.specs.declared.label.Label.{Label}
 use Rattle.sn_record.specs.LabelSet.{Labels, contains}
-use Rattle.sn_names.specs.Names.{number_in}
+use Rattle.sn_names.specs.Names.{label_number}
 use Rattle.sn_label_scope.specs.Refusals.{required}
 use Rattle.sn_label_scope.specs.declared.refusal.Reason.TheVariants.{Twice}
 use Rattle.sn_label_scope.specs.declared.refusal.Refusal.{Refusal}
@@ -19,7 +19,7 @@ kind_of false = Field
 
 -- a label has the number of its name among the names
 abbrev pub label_at : List (List ℕ) → LabelAt → Label
-label_at names label = record { kind = kind_of label.tag; id = number_in names label.name.text }
+label_at names label = record { kind = kind_of label.tag; id = label_number names label.name.text }
 
 -- the set of the labels
 abbrev pub labels_at : List (List ℕ) → List LabelAt → Labels

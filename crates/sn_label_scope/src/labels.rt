@@ -22,7 +22,7 @@ pub fn label_at(names: &NameTable, label: &LabelAt) -> Label
 {
     Label {
         kind: kind_of(label.tag),
-        id: names.number(label.name.text.as_slice()),
+        id: names.label_number(label.name.text.as_slice()),
     }
 }
 

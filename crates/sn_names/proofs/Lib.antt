@@ -1,2 +1,3 @@
 pub mod NamesLaws
 pub mod Places
+pub mod Labels

@@ -1,7 +1,8 @@
 -- Names of labels, numbered from 0 in the order in which they were entered.
-use Rattle.std.specs.Prelude.{◌≡◌, ◌<◌, ◌≤◌, ◌^◌, ℕ, suc, Bool, true, false, IsTrue, not, ◌&&◌, List, [], ◌∷◌, ◌++◌, length, get_or, if◌then◌else◌}
+use Rattle.std.specs.Prelude.{◌≡◌, ◌<◌, ◌≤◌, ◌^◌, ◌+◌, ◌-◌, ◌==◌, nat_le, ℕ, suc, Bool, true, false, IsTrue, not, ◌&&◌, ◌||◌, List, [], ◌∷◌, ◌++◌, length, get_or, if◌then◌else◌}
 use Rattle.std.specs.List.{list_any}
 use Rattle.std.specs.Str.{bytes_eq}
+use Rattle.sn_record.specs.Label.{first_binding}
 
 -- whether a name is among the names
 abbrev pub is_held : List (List ℕ) → List ℕ → Bool
@@ -30,9 +31,9 @@ abbrev pub are_distinct : List (List ℕ) → Bool
 are_distinct [] = true
 are_distinct (m ∷ names) = not (is_held names m) && are_distinct names
 
--- different names, so few that a `u32` counts them
+-- different names, so few that no place is the number of a binding tag
 pub record AreNumbered (names : List (List ℕ)) : Type 0 where
-  pub countable : length names < 2 ^ 32
+  pub countable : length names < 2 ^ 31
   pub distinct : IsTrue (are_distinct names)
 
 -- at most 4,096 different names
@@ -44,3 +45,29 @@ pub record AreNames (names : List (List ℕ)) : Type 0 where
 pub record IsFull (names : List (List ℕ)) (n : List ℕ) : Type 0 where
   pub fresh : is_held names n ≡ false
   pub most : length names ≡ 4096
+
+-- whether a name begins with '#', as those of binding tags do
+abbrev pub is_marked : List ℕ → Bool
+is_marked [] = false
+is_marked (c ∷ cs) = c == 35
+
+-- the number of a label, by its name and the place of that among the names; behind 2^31 names, which nobody has, all go on from there
+abbrev pub numbered : List ℕ → ℕ → ℕ
+numbered n place = if is_marked n || nat_le first_binding place then first_binding + place else place
+
+-- the place of a number
+abbrev pub place_of : ℕ → ℕ
+place_of id = if nat_le first_binding id then id - first_binding else id
+
+-- the number of a label's name
+abbrev pub label_number : List (List ℕ) → List ℕ → ℕ
+label_number names n = numbered n (number_in names n)
+
+-- the name of a label's number
+abbrev pub label_name : List (List ℕ) → ℕ → List ℕ
+label_name names id = name_at names (place_of id)
+
+-- the number is that of a held name
+pub record IsHeld (names : List (List ℕ)) (id : ℕ) : Type 0 where
+  pub within : place_of id < length names
+  pub number : numbered (label_name names id) (place_of id) ≡ id

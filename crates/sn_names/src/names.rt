@@ -1,15 +1,28 @@
 ghost use Rattle.std.specs.Prelude.{◌≡◌, ◌<◌, ◌≤◌, ◌↔◌, [], length, false, if◌then◌else◌, OnOk, OnErr, IfOk, IfErr, IfSome, IsOk};
-ghost use Rattle.sn_names.specs.Names.{is_held, entered, number_in, name_at, IsFull};
+ghost use Rattle.sn_names.specs.Names.{is_held, entered, label_name, label_number, place_of, IsFull, IsHeld};
 
 use crate::fault::NamesFault;
-use crate::table::NameTable;
+use crate::table::{NameTable, numbered};
 use sn_list::Memory;
+use sn_record::FIRST_BINDING;
 use std::alloc::Global;
 use std::marker::Model;
 
 const MOST_NAMES: u32 = 4096;
 
-/// At most 4,096 different names, numbered from 0 in the order in which they were entered, and seen as the list of them.
+/// The place of a number.
+fn place_of(id: u32) -> u32
+    ensures { result ≡ place_of id }
+{
+    if id >= FIRST_BINDING {
+        id - FIRST_BINDING
+    } else {
+        id
+    }
+}
+
+/// At most 4,096 different names of labels, seen as the list of them in the order in which they were entered. The number of a name is
+/// its place in the list, and for one that begins with `#` as much from the least number of a binding tag on.
 #[derive(Drop)]
 pub struct Names {
     table: NameTable,
@@ -59,26 +72,41 @@ impl Names {
 
     /// The number of a name, or nothing where it is not held. Takes no memory.
     pub fn find(&self, name: &[u8]) -> Option<u32>
-        ensures number { result ≡ (if is_held self.now name.now then Some (number_in self.now name.now) else None) }
-        ensures within { IfSome result (λ i. i < length self.now) }
+        ensures number { result ≡ (if is_held self.now name.now then Some (label_number self.now name.now) else None) }
+        ensures held { IfSome result (IsHeld self.now) }
     {
-        self.table.find(name)
+        match self.table.find(name) {
+            Some(place) => Some(numbered(name, place)),
+            None => None,
+        }
     }
 
     /// The name of a number.
     pub fn name_of(&self, id: u32) -> &[u8]
-        requires { id < length self.now }
-        ensures name { result.now ≡ name_at self.now id }
-        ensures number { number_in self.now result.now ≡ id }
+        requires { IsHeld self.now id }
+        ensures name { result.now ≡ label_name self.now id }
+        ensures number { label_number self.now result.now ≡ id }
     {
-        self.table.name_of(id)
+        self.table.name_of(place_of(id))
+    }
+
+    /// The name at the place of a number, which is empty where there is none.
+    pub fn name_or_none(&self, id: u32) -> &[u8]
+        ensures { result.now ≡ label_name self.now id }
+    {
+        let place = place_of(id);
+        if place < self.count() {
+            self.table.name_of(place)
+        } else {
+            &[]
+        }
     }
 
     /// The number of a name, which goes to the end where it is new. On an `Err` the names are unchanged.
     pub fn number_of(&mut self, name: &[u8]) -> Result<u32, NamesFault>
         ensures ok { OnOk result (self.new ≡ entered self.old name.now) }
-        ensures number { IfOk result (λ i. i ≡ number_in self.new name.now) }
-        ensures within { IfOk result (λ i. i < length self.new) }
+        ensures number { IfOk result (λ id. id ≡ label_number self.new name.now) }
+        ensures held { IfOk result (IsHeld self.new) }
         ensures most { OnOk result (length self.new ≤ 4096) }
         ensures too_many { (result ≡ Err NamesFault.TooMany) ↔ IsFull self.old name.now }
         ensures err { OnErr result (self.new ≡ self.old) }
@@ -91,6 +119,7 @@ impl Names {
         if self.count() == MOST_NAMES {
             return Err(NamesFault::TooMany);
         }
-        Ok(self.table.enter(name)?)
+        let place = self.table.enter(name)?;
+        Ok(numbered(name, place))
     }
 }

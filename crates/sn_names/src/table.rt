@@ -1,10 +1,34 @@
-ghost use Rattle.std.specs.Prelude.{◌≡◌, ◌<◌, [], length, false, if◌then◌else◌, OnOk, OnErr, IfOk, IfSome};
-ghost use Rattle.sn_names.specs.Names.{is_held, entered, number_in, name_at};
+ghost use Rattle.std.specs.Prelude.{◌≡◌, ◌<◌, ◌^◌, [], length, false, if◌then◌else◌, OnOk, OnErr, IfOk, IfSome};
+ghost use Rattle.sn_names.specs.Names.{is_held, is_marked, entered, label_number, number_in, name_at, numbered};
 
 use indexmap::IndexSet;
 use sn_list::Memory;
+use sn_record::FIRST_BINDING;
 use std::alloc::Global;
 use std::marker::Model;
+
+/// Whether a name begins with `#`, as those of binding tags do.
+fn is_marked(name: &[u8]) -> bool
+    ensures { result ≡ is_marked name.now }
+{
+    match name.first() {
+        Some(c) => *c == b'#',
+        None => false,
+    }
+}
+
+/// The number of a label, by its name and the place of that among the names.
+#[tactic(auto, using(crate::proofs::Labels::numbered_marked, crate::proofs::Labels::numbered_plain))]
+pub(crate) fn numbered(name: &[u8], place: u32) -> u32
+    requires { place < 2 ^ 31 }
+    ensures { result ≡ numbered name.now place }
+{
+    if is_marked(name) {
+        FIRST_BINDING + place
+    } else {
+        place
+    }
+}
 
 /// Different names, numbered from 0 in the order in which they were entered, and seen as the list of them.
 #[derive(Drop)]
@@ -37,6 +61,7 @@ impl NameTable {
     /// How many names are held.
     pub fn count(&self) -> u32
         ensures number { result ≡ length self.now }
+        ensures few { result < 2 ^ 31 }
     {
         self.names.len() as u32
     }
@@ -54,6 +79,7 @@ impl NameTable {
     pub fn find(&self, name: &[u8]) -> Option<u32>
         ensures number { result ≡ (if is_held self.now name.now then Some (number_in self.now name.now) else None) }
         ensures within { IfSome result (λ i. i < length self.now) }
+        ensures few { IfSome result (λ i. i < 2 ^ 31) }
     {
         match self.names.get_index_of(name) {
             Some(place) => Some(place as u32),
@@ -63,7 +89,8 @@ impl NameTable {
 
     /// The number that a name has, or would get. It is the count where the name is not held. Takes no memory.
     pub fn number(&self, name: &[u8]) -> u32
-        ensures { result ≡ number_in self.now name.now }
+        ensures number { result ≡ number_in self.now name.now }
+        ensures few { result < 2 ^ 31 }
     {
         match self.find(name) {
             Some(number) => number,
@@ -71,8 +98,16 @@ impl NameTable {
         }
     }
 
+    /// The number that a label of this name has, or would get: that of a binding tag is as much from the least such number on.
+    /// Takes no memory.
+    pub fn label_number(&self, name: &[u8]) -> u32
+        ensures { result ≡ label_number self.now name.now }
+    {
+        numbered(name, self.number(name))
+    }
+
     /// The number of a name, which goes to the end where it is new. On an `Err` the names are unchanged.
-    /// A table of 2^32 - 1 names is full, and answers a new one with `Memory` too.
+    /// A table of 2^31 - 1 names is full, and answers a new one with `Memory` too.
     pub fn enter(&mut self, name: &[u8]) -> Result<u32, Memory>
         ensures ok { OnOk result (self.new ≡ entered self.old name.now) }
         ensures number { IfOk result (λ i. i ≡ number_in self.new name.now) }
@@ -84,8 +119,8 @@ impl NameTable {
         if let Some(number) = self.find(name) {
             return Ok(number);
         }
-        // A `u32` cannot count one more.
-        if self.count() == u32::MAX {
+        // One more would get the number of a binding tag.
+        if self.count() == FIRST_BINDING - 1 {
             return Err(Memory);
         }
         let copy = Vec::from_slice(*self.names.allocator(), name)?;

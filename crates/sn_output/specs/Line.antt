@@ -14,7 +14,7 @@ use Rattle.sn_record.specs.declared.value.Value.{Value, fold-Value}
 use Rattle.sn_record.specs.declared.value.Value.TheOpen.{Value-F}
 use Rattle.sn_record.specs.Label.{kind_rank}
 use Rattle.sn_record.specs.Record.{Entries}
-use Rattle.sn_names.specs.Names.{name_at}
+use Rattle.sn_names.specs.Names.{label_name}
 
 -- texts with a separator between any two
 abbrev pub joined : List ℕ → List (List ℕ) → List ℕ
@@ -49,14 +49,14 @@ printed_label Field name = name
 printed_label Tag name = codes "<" ++ (name ++ codes ">")
 
 abbrev pub entry_text : List (List ℕ) → Label × Value → List ℕ
-entry_text names entry = printed_label entry.0.kind (name_at names entry.0.id) ++ (codes "=" ++ value_text entry.1)
+entry_text names entry = printed_label entry.0.kind (label_name names entry.0.id) ++ (codes "=" ++ value_text entry.1)
 
 -- fields before tags, and then by name; labels whose names tie, by number
 abbrev pub by_name : List (List ℕ) → Label → Label → Ordering
-by_name names = then_cmp (on (λ l. kind_rank l.kind) nat_cmp) (then_cmp (on (λ l. name_at names l.id) (slice_cmp nat_cmp)) (on (λ l. l.id) nat_cmp))
+by_name names = then_cmp (on (λ l. kind_rank l.kind) nat_cmp) (then_cmp (on (λ l. label_name names l.id) (slice_cmp nat_cmp)) (on (λ l. l.id) nat_cmp))
 
 pub by_name_total : (names : List (List ℕ)) → IsTotalOrder (by_name names)
-by_name_total names = then_total (on_total (λ l. kind_rank l.kind) nat_cmp_total) (then_total (on_total (λ l. name_at names l.id) nat_list_cmp_total) (on_total (λ l. l.id) nat_cmp_total))
+by_name_total names = then_total (on_total (λ l. kind_rank l.kind) nat_cmp_total) (then_total (on_total (λ l. label_name names l.id) nat_list_cmp_total) (on_total (λ l. l.id) nat_cmp_total))
 
 -- the entries of a record in the order in which they are printed
 abbrev pub in_order : List (List ℕ) → Entries → List (Label × Value)

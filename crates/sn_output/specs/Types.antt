@@ -6,11 +6,11 @@ use Rattle.std.specs.FinMap as finite
 use Rattle.std.specs.List.Sorted.{IsPermutation, IsSorted}
 use Rattle.sn_record.specs.LabelSet.{Labels}
 use Rattle.sn_record.specs.declared.label.Label.{Label}
-use Rattle.sn_names.specs.Names.{name_at}
+use Rattle.sn_names.specs.Names.{label_name}
 use Rattle.sn_output.specs.Line.{by_name, joined, printed_label}
 
 abbrev pub label_text : List (List ℕ) → Label → List ℕ
-label_text names label = printed_label label.kind (name_at names label.id)
+label_text names label = printed_label label.kind (label_name names label.id)
 
 -- the entries of a map with nothing at each of the labels
 abbrev pub beside_nothing : List Label → List (Label × Unit {0})

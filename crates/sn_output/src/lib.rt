@@ -6,6 +6,6 @@ mod line;
 mod line_sink;
 mod types;
 
-pub use line::{line_of, name_at_number, push_label, push_line};
+pub use line::{line_of, push_label, push_line};
 pub use line_sink::{LineFault, LineSink};
 pub use types::{push_type, push_variant};

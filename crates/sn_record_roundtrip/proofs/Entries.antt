@@ -7,7 +7,7 @@ use Rattle.sn_record.specs.declared.label.Kind.TheVariants.{Field, Tag}
 use Rattle.sn_record.specs.declared.label.Label.{Label}
 use Rattle.sn_record.specs.declared.value.Value.{Value}
 use Rattle.sn_record.specs.Record.{FitsLabel}
-use Rattle.sn_names.specs.Names.{name_at}
+use Rattle.sn_names.specs.Names.{label_name}
 use Rattle.sn_record_tokens.specs.declared.token.Mark.TheVariants.{OpenRecord, CloseRecord, Equals}
 use Rattle.sn_record_tokens.specs.declared.token.Token.{Token}
 use Rattle.sn_record_parser.specs.declared.entry.Entry.{Entry}
@@ -23,7 +23,7 @@ use Rattle.sn_record_roundtrip.proofs.Words.{name_reads, tag_reads, number_reads
 
 -- an entry with the name of its label
 abbrev pub written : List (List ℕ) → Label × Value → Entry
-written names e = record { label = record { kind = e.0.kind; name = name_at names e.0.id }; value = e.1 }
+written names e = record { label = record { kind = e.0.kind; name = label_name names e.0.id }; value = e.1 }
 
 -- What there is to know of an entry.
 pub record IsGood (names : List (List ℕ)) (e : Label × Value) : Type 0 where
@@ -44,16 +44,16 @@ module _ (names : List (List ℕ)) where
   entry_at Field id v good =
       let value = value_reads v good.fits.sound.printable good.bounded in
       record {
-        reads = before (name_reads good.named.word (name_at names id) good.named.spelled) (opened Equals value.reads);
+        reads = before (name_reads good.named.word (label_name names id) good.named.spelled) (opened Equals value.reads);
         entry = λ us. field_at (value.value us) good.fits.sound refl;
       }
   entry_at Tag id v good =
       let number = int_is v (good.fits.tag refl) good.bounded in
       let shown = value_text-Int number.number in
-      let same = ap (λ t. (codes "<" ++ (name_at names id ++ codes ">")) ++ (codes "=" ++ t)) (sym (ap value_text number.is ∙ shown)) in
+      let same = ap (λ t. (codes "<" ++ (label_name names id ++ codes ">")) ++ (codes "=" ++ t)) (sym (ap value_text number.is ∙ shown)) in
       record {
-        reads = same_text same (before (tag_reads good.named.word (name_at names id) good.named.spelled) (opened Equals (number_reads number.number number.fits)));
-        entry = λ us. tag_at (ap (λ w. let e : Entry = record { label = tag (name_at names id); value = w } in e) number.is);
+        reads = same_text same (before (tag_reads good.named.word (label_name names id) good.named.spelled) (opened Equals (number_reads number.number number.fits)));
+        entry = λ us. tag_at (ap (λ w. let e : Entry = record { label = tag (label_name names id); value = w } in e) number.is);
       }
 
   entry_reads : (e : Label × Value) → IsGood names e → EntryReads e

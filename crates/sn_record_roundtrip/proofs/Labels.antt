@@ -15,7 +15,8 @@ use Rattle.sn_record.specs.declared.label.Kind.{Kind}
 use Rattle.sn_record.specs.declared.label.Kind.TheVariants.{Field, Tag}
 use Rattle.sn_record.specs.declared.label.Label.{Label}
 use Rattle.sn_record.specs.declared.value.Value.{Value}
-use Rattle.sn_names.specs.Names.{are_distinct, number_in, name_at}
+use Rattle.sn_names.specs.Names.{are_distinct, label_name, label_number, place_of}
+use Rattle.sn_names.proofs.Labels.{label_number-label_name}
 use Rattle.sn_names.proofs.NamesLaws.{same_text, entered_held, number_in-name_at}
 use Rattle.sn_record_parser.specs.declared.entry.WrittenLabel.{WrittenLabel}
 use Rattle.sn_record_parser.specs.declared.entry.Entry.{Entry}
@@ -39,15 +40,15 @@ not_tied Greater h e = cc
 module _ (names : List (List ℕ)) (differ : IsTrue (are_distinct names)) where
   -- how a label is written
   abbrev written_label : Label → WrittenLabel
-  written_label l = record { kind = l.kind; name = name_at names l.id }
+  written_label l = record { kind = l.kind; name = label_name names l.id }
 
   -- labels that are written alike are one
   written_alike : (l m : Label) → HasName names l → HasName names m → same_label (written_label m) (written_label l) ≡ true → m ≡ l
   written_alike l m l_named m_named same =
-      let parts = and_parts (same_kind m.kind l.kind) (bytes_eq (name_at names m.id) (name_at names l.id)) same in
+      let parts = and_parts (same_kind m.kind l.kind) (bytes_eq (label_name names m.id) (label_name names l.id)) same in
       let kinds = same_kinds m.kind l.kind parts.0 in
-      let texts = same_text (name_at names m.id) (name_at names l.id) parts.1 in
-      let ids : m.id ≡ l.id = sym (number_in-name_at names m.id differ m_named.below) ∙ ap (number_in names) texts ∙ number_in-name_at names l.id differ l_named.below in
+      let texts = same_text (label_name names m.id) (label_name names l.id) parts.1 in
+      let ids : m.id ≡ l.id = sym (label_number-label_name names m.id differ m_named.held) ∙ ap (label_number names) texts ∙ label_number-label_name names l.id differ l_named.held in
       λ i. record { kind = kinds i; id = ids i }
 
   -- so a label that stands before another is written otherwise
@@ -88,6 +89,6 @@ module _ (names : List (List ℕ)) (differ : IsTrue (are_distinct names)) where
   none_new [] good = refl
   none_new (e ∷ es) good =
       let named = (All-head (IsGood names) e es good).named in
-      let below = subst (λ k. k < length names) (sym (number_in-name_at names e.0.id differ named.below)) named.below in
-      ap (λ known. with_entries known (map (written names) es)) (entered_held names (name_at names e.0.id) below)
+      let below = subst (λ k. k < length names) (sym (number_in-name_at names (place_of e.0.id) differ named.held.within)) named.held.within in
+      ap (λ known. with_entries known (map (written names) es)) (entered_held names (label_name names e.0.id) below)
       ∙ none_new es (All-tail (IsGood names) e es good)

@@ -22,7 +22,7 @@ use Rattle.sn_record.specs.Record.{Entries, FitsLabel}
 use Rattle.sn_record.proofs.Maps.{ties_itself, same_label, get-slice_get}
 use Rattle.sn_record.proofs.Records.{same_record}
 use Rattle.sn_names.specs.Names.{are_distinct as names_differ}
-use Rattle.sn_names.proofs.NamesLaws.{number_in-name_at}
+use Rattle.sn_names.proofs.Labels.{label_number-label_name}
 use Rattle.sn_input.specs.Numbered.{entry_in}
 use Rattle.sn_output.specs.Line.{by_name, by_name_total, in_order}
 use Rattle.sn_record_roundtrip.specs.Writable.{AreBounded, HasName, IsWritable}
@@ -121,7 +121,7 @@ module _ (names : List (List ℕ)) where
   -- a written entry has the number of its name
   entry_back : names_differ names ≡ true → (e : Label × Value) → HasName names e.0 → entry_in names (written names e) ≡ e
   entry_back differ e named =
-      λ i. (record { kind = e.0.kind; id = number_in-name_at names e.0.id differ named.below i }, e.1)
+      λ i. (record { kind = e.0.kind; id = label_number-label_name names e.0.id differ named.held i }, e.1)
 
   pub entries_back : names_differ names ≡ true → (es : List (Label × Value)) → All (IsGood names) es → map (entry_in names) (map (written names) es) ≡ es
   entries_back differ [] good = refl

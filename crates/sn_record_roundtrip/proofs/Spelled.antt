@@ -18,7 +18,7 @@ use Rattle.sn_record.specs.Record.{FitsLabel}
 use Rattle.sn_record.proofs.Maps.{same_label}
 use Rattle.sn_record.proofs.Values.{FitsLabel-Int, FitsLabel-Field}
 use Rattle.sn_names.specs.Names.{is_held}
-use Rattle.sn_names.proofs.NamesLaws.{number_in-held, name_at-number_in}
+use Rattle.sn_names.proofs.Labels.{label_name-label_number, number_is_held}
 use Rattle.sn_record_tokens.specs.declared.token.Token.{Token}
 use Rattle.sn_record_tokens.specs.Tokens.{Spells, SpellsName, Tokens}
 use Rattle.sn_record_tokens.specs.Tokens.Tokens.{end, blank, token}
@@ -124,9 +124,9 @@ module _ (names : List (List ℕ)) where
     fits = said.fits;
     bounded = said.bounded;
     named = record {
-      below = number_in-held names e.label.name held;
+      held = number_is_held names e.label.name held;
       word = said.word;
-      spelled = subst (SpellsName said.word) (sym (name_at-number_in names e.label.name held)) said.spelled;
+      spelled = subst (SpellsName said.word) (sym (label_name-label_number names e.label.name held)) said.spelled;
     };
   }
 

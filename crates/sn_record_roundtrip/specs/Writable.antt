@@ -1,5 +1,5 @@
 -- Records that a line of a record file can spell: each label has a name, and each number is one of 64 bits.
-use Rattle.std.specs.Prelude.{ℕ, ◌<◌, IsTrue, IfSome, List, length, FitsSigned}
+use Rattle.std.specs.Prelude.{ℕ, IsTrue, IfSome, List, FitsSigned}
 use Rattle.std.specs.Int.{w64}
 use Rattle.std.specs.FinMap.{get, contains_key}
 use Rattle.sn_record.specs.declared.label.Label.{Label}
@@ -7,7 +7,7 @@ use Rattle.sn_record.specs.declared.value.Value.{Value}
 use Rattle.sn_record.specs.declared.value.Value.TheOpen.{Value-F}
 use Rattle.sn_record.specs.declared.value.Value.TheFolds.{every-Value}
 use Rattle.sn_record.specs.Record.{Entries, IsRecord}
-use Rattle.sn_names.specs.Names.{name_at}
+use Rattle.sn_names.specs.Names.{IsHeld, label_name}
 use Rattle.sn_record_tokens.specs.Tokens.{SpellsName}
 
 -- one level: a number is one of 64 bits
@@ -22,9 +22,9 @@ AreBounded v = every-Value IsBounded v
 
 -- the label's number is one of the names, which may be written
 pub record HasName (names : List (List ℕ)) (l : Label) : Type 0 where
-  pub below : l.id < length names
+  pub held : IsHeld names l.id
   pub word : List ℕ
-  pub spelled : SpellsName word (name_at names l.id)
+  pub spelled : SpellsName word (label_name names l.id)
 
 pub record IsWritable (names : List (List ℕ)) (r : Entries) : Type 0 where
   pub sound : IsRecord r

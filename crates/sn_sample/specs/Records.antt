@@ -8,7 +8,7 @@ use Rattle.sn_record.specs.declared.label.Kind.TheVariants.{Field, Tag}
 use Rattle.sn_record.specs.declared.label.Label.{Label}
 use Rattle.sn_record.specs.declared.value.Value.TheVariants.{Int}
 use Rattle.sn_record.specs.Record.{Entries}
-use Rattle.sn_names.specs.Names.{is_held, number_in}
+use Rattle.sn_names.specs.Names.{is_held, label_number}
 use Rattle.sn_sample.specs.Numbers.{number_at}
 
 -- the names of the three labels are held
@@ -18,7 +18,7 @@ pub record HasLabels (names : List (List ℕ)) : Type 0 where
   pub n : IsTrue (is_held names (codes "n"))
 
 abbrev pub label : List (List ℕ) → Kind → List ℕ → Label
-label names kind name = record { kind = kind; id = number_in names name }
+label names kind name = record { kind = kind; id = label_number names name }
 
 -- the record of a number: the field v, and the tags k and n
 abbrev pub sample_record : List (List ℕ) → ℕ → Entries

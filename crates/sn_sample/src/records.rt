@@ -1,5 +1,5 @@
 ghost use Rattle.std.specs.Prelude.{◌≡◌, codes, IfOk, IsTrue};
-ghost use Rattle.sn_names.specs.Names.{is_held, number_in};
+ghost use Rattle.sn_names.specs.Names.{is_held, label_number};
 ghost use Rattle.sn_sample.specs.Records.{HasLabels, sample_items, sample_record};
 
 use crate::numbers::next_number;
@@ -13,7 +13,7 @@ use std::alloc::Global;
 fn label_of(names: &Names, kind: Kind, name: &[u8]) -> Label
     requires { IsTrue (is_held names.now name.now) }
     ensures kind { result.kind ≡ kind }
-    ensures id { result.id ≡ number_in names.now name.now }
+    ensures id { result.id ≡ label_number names.now name.now }
 {
     match names.find(name) {
         Some(id) => Label { kind, id },

@@ -16,7 +16,7 @@ use Rattle.sn_label_scope.specs.Refusals.{Check, required}
 use Rattle.sn_label_scope.specs.declared.refusal.Reason.{Reason}
 use Rattle.sn_label_scope.specs.declared.refusal.Reason.TheVariants.{Unknown, Twice}
 use Rattle.sn_label_scope.specs.declared.refusal.Refusal.{Refusal}
-use Rattle.sn_names.specs.Names.{number_in}
+use Rattle.sn_names.specs.Names.{label_number}
 use Rattle.sn_net.specs.Filter.{tag, target}
 use Rattle.sn_record.specs.declared.label.Label.{Label}
 use Rattle.sn_record.specs.LabelSet.{Labels, contains}
@@ -56,10 +56,10 @@ module _ (names : List (List ℕ)) where
     pub number_passes : (reason : Reason) (at : ℕ) (n : _) → TagsPass reason (record { at = at; form = tag_form.Number n })
     number_passes reason at n least = ap (λ check. check least) (tag_folds.fold_number (tags_step names pattern reason) (λ e. e.form) at n)
 
-    pub tag_passes : (reason : Reason) (at : ℕ) (name : Ident) → has among (tag (number_in names name.text)) ≡ true → TagsPass reason (record { at = at; form = tag_form.Tag name })
+    pub tag_passes : (reason : Reason) (at : ℕ) (name : Ident) → has among (tag (label_number names name.text)) ≡ true → TagsPass reason (record { at = at; form = tag_form.Tag name })
     tag_passes reason at name here least =
         ap (λ check. check least) (tag_folds.fold_tag (tags_step names pattern reason) (λ e. e.form) at name)
-        ∙ required_passes (contains pattern (tag (number_in names name.text))) reason name.at (holds (tag (number_in names name.text)) ∙ here) least
+        ∙ required_passes (contains pattern (tag (label_number names name.text))) reason name.at (holds (tag (label_number names name.text)) ∙ here) least
 
     pub op_passes : (reason : Reason) (at : ℕ) (o : Operator) (e f : TExpr) → TagsPass reason e → TagsPass reason f → TagsPass reason (record { at = at; form = tag_form.Op o e f })
     op_passes reason at o e f first second least =

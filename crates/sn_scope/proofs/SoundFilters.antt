@@ -11,7 +11,7 @@ use Rattle.sn_ast.specs.declared.network.ItemAt.{ItemAt}
 use Rattle.sn_ast.specs.declared.network.ItemSource.{ItemSource}
 use Rattle.sn_ast.specs.declared.network.ItemSource.TheVariants.{Same, Field, Expr}
 use Rattle.sn_ast.specs.declared.network.TemplateAt.{TemplateAt}
-use Rattle.sn_names.specs.Names.{number_in}
+use Rattle.sn_names.specs.Names.{label_number}
 use Rattle.sn_net.specs.Filter.{field, is_from, target, IsClosed, IsClosedTemplate}
 use Rattle.sn_net.specs.declared.filter.Part.{Part}
 use Rattle.sn_net.specs.declared.filter.Template.{Template}
@@ -41,7 +41,7 @@ module _ (names : List (List ℕ)) (pattern : Labels) where
   -- an item that is not refused takes from the pattern
   source_tells : (label : LabelAt) (source : ItemSource) → Tells (from_required names pattern label source) (IsTrue (is_from pattern (part_of names label source)))
   source_tells label Same = required_tells (contains pattern (label_at names label)) Unknown label.name.at
-  source_tells label (Field name) = required_tells (contains pattern (field (number_in names name.text))) Unknown name.at
+  source_tells label (Field name) = required_tells (contains pattern (field (label_number names name.text))) Unknown name.at
   source_tells label (Expr e) = tags_tell names pattern Unknown e
 
   abbrev parts_at : List ItemAt → List Part

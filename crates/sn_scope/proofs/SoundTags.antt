@@ -6,7 +6,7 @@ use Rattle.sn_ast.specs.declared.tag_expr.TForm.{TForm, fold-TForm}
 use Rattle.sn_ast.specs.declared.tag_expr.TForm.TheFolds.{fold-roll-TForm, ind-TExpr, map-TForm}
 use Rattle.sn_ast.specs.declared.tag_expr.TForm.TheOpen.{TForm-F}
 use Rattle.sn_ast.specs.declared.tag_expr.TForm.TheViews.{roll-TForm, roll-TExpr}
-use Rattle.sn_names.specs.Names.{number_in}
+use Rattle.sn_names.specs.Names.{label_number}
 use Rattle.sn_net.specs.Filter.{is_over, tag}
 use Rattle.sn_tagexpr.specs.Evaluation.{every_tag_step}
 use Rattle.sn_record.specs.LabelSet.{Labels, contains}
@@ -81,8 +81,8 @@ module _ (names : List (List ℕ)) (pattern : Labels) (reason : Reason) where
       (tags_step names pattern reason (map-TForm TForm TExpr Check Check form_check check_of (map-TForm _ _ TForm TExpr (λ e. e.0) (λ e. e.0) z)))
       (Over (tag_step names (map-TForm TForm TExpr TagExpr TagExpr form_expr expr_of (map-TForm _ _ TForm TExpr (λ e. e.0) (λ e. e.0) z))))) [
         | TForm-F.Number n ↦ λ least none. (none, ap (is_over pattern) (sym (made.rolls-Number n)) ∙ fold-roll-TagExpr _ over_step (TagExpr-F.Number n))
-        | TForm-F.Tag name ↦ tells_weaker _ _ _ (required_tells (contains pattern (tag (number_in names name.text))) reason name.at)
-            (λ there. ap (is_over pattern) (sym (made.rolls-Tag (number_in names name.text))) ∙ fold-roll-TagExpr _ over_step (TagExpr-F.Tag (number_in names name.text)) ∙ there)
+        | TForm-F.Tag name ↦ tells_weaker _ _ _ (required_tells (contains pattern (tag (label_number names name.text))) reason name.at)
+            (λ there. ap (is_over pattern) (sym (made.rolls-Tag (label_number names name.text))) ∙ fold-roll-TagExpr _ over_step (TagExpr-F.Tag (label_number names name.text)) ∙ there)
         | TForm-F.Neg e ↦ tells_weaker (check_of e.0) (Over (expr_of e.0)) _ e.1 (over_neg (expr_of e.0))
         | TForm-F.Not e ↦ tells_weaker (check_of e.0) (Over (expr_of e.0)) _ e.1 (over_not (expr_of e.0))
         | TForm-F.Op o e f ↦ tells_weaker _ _ _ (two e.0 f.0 e.1 f.1) (over_op (bin_op o) (expr_of e.0) (expr_of f.0))

@@ -9,7 +9,7 @@ use Rattle.sn_ast.specs.declared.network.TemplateAt.{TemplateAt}
 use Rattle.sn_ast.specs.declared.label.LabelAt.{LabelAt}
 use Rattle.sn_ast.specs.declared.label.Variant.{Variant}
 use Rattle.sn_record.specs.LabelSet.{Labels, contains}
-use Rattle.sn_names.specs.Names.{number_in}
+use Rattle.sn_names.specs.Names.{label_number}
 use Rattle.sn_net.specs.Filter.{field, target}
 use Rattle.sn_net.specs.declared.filter.Filter.{Filter}
 use Rattle.sn_net.specs.declared.filter.Part.{Part}
@@ -28,8 +28,8 @@ is_between least most count = nat_le least count && nat_le count most
 -- an item copies its label, renames a field to it, or computes it
 abbrev pub part_of : List (List ℕ) → LabelAt → ItemSource → Part
 part_of names label Same = Copy (label_at names label)
-part_of names label (Field name) = Rename (number_in names label.name.text) (number_in names name.text)
-part_of names label (Expr e) = Compute (number_in names label.name.text) (tag_expr names e)
+part_of names label (Field name) = Rename (label_number names label.name.text) (label_number names name.text)
+part_of names label (Expr e) = Compute (label_number names label.name.text) (tag_expr names e)
 
 abbrev pub part_at : List (List ℕ) → ItemAt → Part
 part_at names item = part_of names item.target item.source
@@ -47,7 +47,7 @@ identity_at place = record { place = place; pattern = map.empty; templates = rec
 -- the label that an item copies, and what it renames or computes from, is in the pattern
 abbrev pub from_required : List (List ℕ) → Labels → LabelAt → ItemSource → Check
 from_required names pattern label Same least = required (contains pattern (label_at names label)) Unknown label.name.at least
-from_required names pattern label (Field name) least = required (contains pattern (field (number_in names name.text))) Unknown name.at least
+from_required names pattern label (Field name) least = required (contains pattern (field (label_number names name.text))) Unknown name.at least
 from_required names pattern label (Expr e) least = tags_required names pattern Unknown e least
 
 abbrev pub source_required : List (List ℕ) → Labels → ItemAt → Check

@@ -7,7 +7,7 @@ use Rattle.sn_ast.specs.declared.network.NetForm.TheOpen.{NetForm-F}
 use Rattle.sn_ast.specs.declared.tag_expr.TExpr.{TExpr}
 use Rattle.sn_record.specs.LabelSet.{Labels}
 use Rattle.sn_tagexpr.specs.declared.expr.TagExpr.{TagExpr}
-use Rattle.sn_names.specs.Names.{number_in}
+use Rattle.sn_names.specs.Names.{label_number}
 use Rattle.sn_net.specs.declared.net.Merge.{Merge}
 use Rattle.sn_net.specs.declared.net.Merge.TheVariants.{Free, Det}
 use Rattle.sn_scope.specs.Filters.{filter_at, filter_required, identity_at, is_between}
@@ -56,7 +56,7 @@ network_step names scopes (NetForm-F.Sync patterns) place = Made (Sync place (ea
 network_step names scopes (NetForm-F.Serial parts) place = Made (Serial parts)
 network_step names scopes (NetForm-F.Choice det branches) place = Made (Choice place (merge_of det) branches)
 network_step names scopes (NetForm-F.Star det body exit guard) place = Made (Star place (merge_of det) body (variant_at names exit) (guard_at names guard))
-network_step names scopes (NetForm-F.Split det body tag) place = Made (Split place (merge_of det) body (number_in names tag.text))
+network_step names scopes (NetForm-F.Split det body tag) place = Made (Split place (merge_of det) body (label_number names tag.text))
 
 -- the network with each net and each box by its number, and each label by the number of its name
 abbrev pub network_at : List (List ℕ) → Scopes → NetExpr → Network

@@ -27,10 +27,10 @@ pub fn is_between(least: usize, most: usize, count: usize) -> bool
 fn part_at(alloc: Global, names: &NameTable, item: &ItemAt) -> Result<Part, Memory>
     ensures { IfOk result (λ part. part ≡ part_at names.now item.now) }
 {
-    let target = names.number(item.target.name.text.as_slice());
+    let target = names.label_number(item.target.name.text.as_slice());
     match &item.source {
         ItemSource::Same => Ok(Part::Copy(label_at(names, &item.target))),
-        ItemSource::Field(name) => Ok(Part::Rename(target, names.number(name.text.as_slice()))),
+        ItemSource::Field(name) => Ok(Part::Rename(target, names.label_number(name.text.as_slice()))),
         ItemSource::Expr(e) => Ok(Part::Compute(target, tag_expr(alloc, names, e)?)),
     }
 }
@@ -51,7 +51,7 @@ fn require_source(names: &NameTable, refusals: &mut Refusals, pattern: &LabelSet
         ItemSource::Field(name) => {
             let label = Label {
                 kind: Kind::Field,
-                id: names.number(name.text.as_slice()),
+                id: names.label_number(name.text.as_slice()),
             };
             refusals.require(pattern.contains(label), Reason::Unknown, name.at);
         }

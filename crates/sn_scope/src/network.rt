@@ -242,7 +242,7 @@ pub fn network_at(
         }
         NetForm::Split { det, body, tag } => {
             let body = network_at(alloc, names, scopes, refusals, body.get())?;
-            let tag = names.number(tag.text.as_slice());
+            let tag = names.label_number(tag.text.as_slice());
             made(
                 alloc,
                 Component::Split {

@@ -64,7 +64,7 @@ pub fn tag_expr(alloc: Global, names: &NameTable, e: &TExpr) -> Result<TagExpr, 
 {
     match &e.form {
         TForm::Number(n) => Ok(TagExpr::Number(*n)),
-        TForm::Tag(tag) => Ok(TagExpr::Tag(names.number(tag.text.as_slice()))),
+        TForm::Tag(tag) => Ok(TagExpr::Tag(names.label_number(tag.text.as_slice()))),
         TForm::Neg(part) => Ok(TagExpr::Neg(boxed_expr(alloc, names, part.get())?)),
         TForm::Not(part) => Ok(TagExpr::Not(boxed_expr(alloc, names, part.get())?)),
         TForm::Op(operator, left, right) => {
@@ -103,7 +103,7 @@ pub fn require_tags(
         TForm::Tag(tag) => {
             let label = Label {
                 kind: Kind::Tag,
-                id: names.number(tag.text.as_slice()),
+                id: names.label_number(tag.text.as_slice()),
             };
             refusals.require(pattern.contains(label), reason, tag.at);
         }

@@ -18,7 +18,7 @@ use Rattle.sn_label_scope.specs.Refusals.{Check, required}
 use Rattle.sn_label_scope.specs.declared.refusal.Reason.{Reason}
 use Rattle.sn_label_scope.specs.declared.refusal.Reason.TheVariants.{Unknown, Twice, Arity}
 use Rattle.sn_label_scope.specs.declared.refusal.Refusal.{Refusal}
-use Rattle.sn_names.specs.Names.{number_in}
+use Rattle.sn_names.specs.Names.{label_number}
 use Rattle.sn_net.specs.Filter.{tag, target}
 use Rattle.sn_record.specs.LabelSet.{Labels, contains}
 use Rattle.sn_scope.specs.Filters.{filter_required, from_required, is_between, items_required, part_at, source_required, template_required}
@@ -52,7 +52,7 @@ among_either P xs ys r one = side (in_either one.0 xs ys one.1)
 
 module _ (names : List (List ℕ)) (pattern : Labels) (reason : Reason) where
   abbrev Missing : Ident → Refusal → Type 0
-  Missing name r = Fails (contains pattern (tag (number_in names name.text))) reason name.at r
+  Missing name r = Fails (contains pattern (tag (label_number names name.text))) reason name.at r
 
   -- the check and the tags of a form
   abbrev form_check : TForm → Check
@@ -78,9 +78,9 @@ module _ (names : List (List ℕ)) (pattern : Labels) (reason : Reason) where
   two one other xs ys first second = finds_same (λ least. other (one least)) (λ r. Among Missing xs r ⊎ Among Missing ys r) (Among Missing (xs ++ ys))
       (finds_both one other (Among Missing xs) (Among Missing ys) first second) (among_append Missing xs ys) (among_either Missing xs ys)
 
-  one_tag : (name : Ident) → Finds (required (contains pattern (tag (number_in names name.text))) reason name.at) (Among Missing (name ∷ []))
-  one_tag name = finds_same (required (contains pattern (tag (number_in names name.text))) reason name.at) (Missing name) (Among Missing (name ∷ []))
-      (finds_required (contains pattern (tag (number_in names name.text))) reason name.at) (λ r missing. among_cons Missing name [] r (inl missing)) (λ r one. alone r (among_cases Missing name [] r one))
+  one_tag : (name : Ident) → Finds (required (contains pattern (tag (label_number names name.text))) reason name.at) (Among Missing (name ∷ []))
+  one_tag name = finds_same (required (contains pattern (tag (label_number names name.text))) reason name.at) (Missing name) (Among Missing (name ∷ []))
+      (finds_required (contains pattern (tag (label_number names name.text))) reason name.at) (λ r missing. among_cons Missing name [] r (inl missing)) (λ r one. alone r (among_cases Missing name [] r one))
     where
       alone : (r : Refusal) → Missing name r ⊎ Among Missing [] r → Missing name r
       alone r (inl missing) = missing
@@ -117,7 +117,7 @@ module _ (names : List (List ℕ)) (labels : List LabelAt) where
   other_to : (reason : Reason) (e : TExpr) → HeldTags names e → (r : Refusal) → Among (Missing names pattern reason) (tags_in e) r → OtherTag reason e r
   other_to reason e held r one = (one.0, no_such_tag one.1 (sym (contains_label names labels true one.0.text (held one.0 one.1)) ∙ one.2.0), one.2.1)
 
-  other_missing : (e : TExpr) → HeldTags names e → (name : Ident) → NamesOther labels e name → StandsIn name (tags_in e) × (contains pattern (tag (number_in names name.text)) ≡ false)
+  other_missing : (e : TExpr) → HeldTags names e → (name : Ident) → NamesOther labels e name → StandsIn name (tags_in e) × (contains pattern (tag (label_number names name.text)) ≡ false)
   other_missing e held name (no_such_tag at missing) = (at, contains_label names labels true name.text (held name at) ∙ missing)
 
   other_from : (reason : Reason) (e : TExpr) → HeldTags names e → (r : Refusal) → OtherTag reason e r → Among (Missing names pattern reason) (tags_in e) r

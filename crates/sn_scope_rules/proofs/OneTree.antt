@@ -10,7 +10,7 @@ use Rattle.sn_ast.specs.declared.network.NetExpr.{NetExpr}
 use Rattle.sn_ast.specs.declared.network.NetForm.{NetForm}
 use Rattle.sn_ast.specs.declared.network.NetForm.TheOpen.{NetForm-F}
 use Rattle.sn_label_scope.specs.Labels.{variant_at}
-use Rattle.sn_names.specs.Names.{number_in}
+use Rattle.sn_names.specs.Names.{label_number}
 use Rattle.sn_net.specs.Face.{face}
 use Rattle.sn_net.specs.declared.expr.BoxProgram.{BoxProgram}
 use Rattle.sn_net.specs.declared.net.Net.{Net}
@@ -57,7 +57,7 @@ module _ (names : List (List ℕ)) (boxes : List BoxProgram) where
         ap (λ m. net.Star (place_of network) (merge_of det) m (variant_at names exit) (guard_at names guard)) (tree_once _ _ _ one found.0 found.1) ∙ sym found.2
     tree_once around network t (split det body tag is one) u other =
         let found = by_form around network (NetForm-F.Split det body tag) u is other in
-        ap (λ m. net.Split (place_of network) (merge_of det) m (number_in names tag.text)) (tree_once _ _ _ one found.0 found.1) ∙ sym found.2
+        ap (λ m. net.Split (place_of network) (merge_of det) m (label_number names tag.text)) (tree_once _ _ _ one found.0 found.1) ∙ sym found.2
 
     series_once : (around : Around) (parts : List NetExpr) (t : Net) → SeriesOf names boxes around parts t → (u : Net) → SeriesOf names boxes around parts u → t ≡ u
     series_once around parts t (two {first} {second} one more) u other =

@@ -10,8 +10,9 @@ use Rattle.sn_ast.specs.declared.network.ItemSource.{ItemSource}
 use Rattle.sn_ast.specs.declared.network.ItemSource.TheVariants.{Same, Field, Expr}
 use Rattle.sn_box_scope.specs.Variables.{same_kind}
 use Rattle.sn_label_scope.specs.Labels.{kind_of, label_at, labels_at}
-use Rattle.sn_names.specs.Names.{is_held, number_in, name_at}
-use Rattle.sn_names.proofs.NamesLaws.{held_from_number, name_at-number_in, number_in-held, same_as_itself, same_text}
+use Rattle.sn_names.specs.Names.{is_held, label_number}
+use Rattle.sn_names.proofs.Labels.{same_number}
+use Rattle.sn_names.proofs.NamesLaws.{same_as_itself, same_text}
 use Rattle.sn_net.specs.Filter.{target}
 use Rattle.sn_record.specs.Label.{label_cmp}
 use Rattle.sn_record.specs.LabelSet.{Labels, contains}
@@ -26,7 +27,7 @@ use Rattle.sn_scope_rules.specs.Labels.{has_label, is_label}
 
 -- the label of the kind and the name
 abbrev pub numbered : List (List ℕ) → Bool → List ℕ → Label
-numbered names tag name = record { kind = kind_of tag; id = number_in names name }
+numbered names tag name = record { kind = kind_of tag; id = label_number names name }
 
 -- two tests of one fact give the same
 decides_same : (a b : Bool) (P : Type 0) → Decides a P → Decides b P → a ≡ b
@@ -34,13 +35,6 @@ decides_same true true P one other = refl
 decides_same false false P one other = refl
 decides_same true false P one other = sym (other.1 (one.0 refl))
 decides_same false true P one other = one.1 (other.0 refl)
-
--- names with one number are one, where one of them is held
-same_name : (names : List (List ℕ)) (a b : List ℕ) → is_held names a ≡ true → number_in names b ≡ number_in names a → b ≡ a
-same_name names a b held same =
-    let below = number_in-held names a held in
-    let other : is_held names b ≡ true = held_from_number names b (subst (λ n. n < length names) (sym same) below) in
-    sym (name_at-number_in names b other) ∙ ap (name_at names) same ∙ name_at-number_in names a held
 
 -- the kinds are one
 kind_back : Kind → Bool
@@ -74,12 +68,12 @@ by_name names tag name other text held = (to, from)
         let parts = and_parts (same_kind other tag) (bytes_eq text name) both in
         let kinds = same_tags other tag parts.0 in
         let texts = same_text text name parts.1 in
-        λ i. record { kind = kind_of (sym kinds i); id = number_in names (sym texts i) }
+        λ i. record { kind = kind_of (sym kinds i); id = label_number names (sym texts i) }
 
     from : numbered names tag name ≡ numbered names other text → (same_kind other tag && bytes_eq text name) ≡ true
     from same =
         let kinds : tag ≡ other = sym (kind_of_back tag) ∙ ap (λ (l : Label). kind_back l.kind) same ∙ kind_of_back other in
-        let texts : text ≡ name = same_name names name text held (sym (ap (λ (l : Label). l.id) same)) in
+        let texts : text ≡ name = same_number names name text held (sym (ap (λ (l : Label). l.id) same)) in
         and_from (same_kind other tag) (bytes_eq text name) (tags_alike other tag (sym kinds)) (subst (λ t. bytes_eq t name ≡ true) (sym texts) (same_as_itself name))
 
 tie_is : (names : List (List ℕ)) (tag : Bool) (name : List ℕ) (other : Bool) (text : List ℕ) → is_held names name ≡ true

@@ -16,7 +16,7 @@ use Rattle.sn_ast.specs.declared.network.TemplateAt.{TemplateAt}
 use Rattle.sn_ast.specs.declared.tag_expr.TExpr.{TExpr}
 use Rattle.sn_label_scope.specs.Labels.{variant_at}
 use Rattle.sn_label_scope.specs.declared.refusal.Refusal.{Refusal}
-use Rattle.sn_names.specs.Names.{number_in}
+use Rattle.sn_names.specs.Names.{label_number}
 use Rattle.sn_net.specs.Face.{face}
 use Rattle.sn_net.specs.declared.expr.BoxProgram.{BoxProgram}
 use Rattle.sn_net.specs.declared.net.Net.{Net}
@@ -71,7 +71,7 @@ module _ (names : List (List ℕ)) (boxes : List BoxProgram) where
       (face boxes) ts))
   FormTree around place (NetForm-F.Star det body exit guard) t = (m : Net) × TreeOf names boxes around body m × (t ≡ net.Star place (merge_of det) m (variant_at names exit)
       (guard_at names guard))
-  FormTree around place (NetForm-F.Split det body tag) t = (m : Net) × TreeOf names boxes around body m × (t ≡ net.Split place (merge_of det) m (number_in names tag.text))
+  FormTree around place (NetForm-F.Split det body tag) t = (m : Net) × TreeOf names boxes around body m × (t ≡ net.Split place (merge_of det) m (label_number names tag.text))
 
   pub trees_to : (around : Around) (es : List NetExpr) (ts : List Net) → Beside (TreeOf names boxes around) es ts → TreesOf names boxes around es ts
   trees_to around [] [] all = no_branch
@@ -336,13 +336,13 @@ module _ (names : List (List ℕ)) (boxes : List BoxProgram) where
         (λ m. parts-Star place (merge_of det) m (variant_at names exit) (guard_at names guard)) (body.1 (fine.1 body.0 here) n)))
 
     split_ties : (det : Bool) (body : Found) (tag : Ident) (place : ℕ) → UnbrokenForm around place (NetForm-F.Split det body.0 tag)
-        → TiedTo (Made (component.Split place (merge_of det) (at_of body.0) (number_in names tag.text))) (FormTree around place (NetForm-F.Split det body.0 tag))
-    split_ties det body tag place fine = made_level (component.Split place (merge_of det) (at_of body.0) (number_in names tag.text)) (FormTree around place
+        → TiedTo (Made (component.Split place (merge_of det) (at_of body.0) (label_number names tag.text))) (FormTree around place (NetForm-F.Split det body.0 tag))
+    split_ties det body tag place fine = made_level (component.Split place (merge_of det) (at_of body.0) (label_number names tag.text)) (FormTree around place
         (NetForm-F.Split det body.0 tag))
         (λ n. subst (λ o. Level boxes n o (FormTree around place (NetForm-F.Split det body.0 tag))) (sym (node-Split boxes (trees_of n) (series_of n) place (merge_of det)
-        (at_of body.0) (number_in names tag.text)))
-        (one_level boxes n (part_of boxes n nets (at_of body.0)) (TreeOf names boxes around body.0) (λ m. net.Split place (merge_of det) m (number_in names tag.text))
-        (λ m. parts-Split place (merge_of det) m (number_in names tag.text)) (body.1 (fine.1 body.0 here) n)))
+        (at_of body.0) (label_number names tag.text)))
+        (one_level boxes n (part_of boxes n nets (at_of body.0)) (TreeOf names boxes around body.0) (λ m. net.Split place (merge_of det) m (label_number names tag.text))
+        (λ m. parts-Split place (merge_of det) m (label_number names tag.text)) (body.1 (fine.1 body.0 here) n)))
 
     -- a network in which nothing is refused
     pub network_ties : (network : NetExpr) → NetworkTies network

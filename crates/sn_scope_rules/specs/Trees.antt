@@ -12,7 +12,7 @@ use Rattle.sn_ast.specs.declared.network.NetForm.TheOpen.{NetForm-F}
 use Rattle.sn_ast.specs.declared.network.TemplateAt.{TemplateAt}
 use Rattle.sn_ast.specs.declared.tag_expr.TExpr.{TExpr}
 use Rattle.sn_label_scope.specs.Labels.{variant_at}
-use Rattle.sn_names.specs.Names.{number_in}
+use Rattle.sn_names.specs.Names.{label_number}
 use Rattle.sn_net.specs.Face.{face}
 use Rattle.sn_net.specs.declared.expr.BoxProgram.{BoxProgram}
 use Rattle.sn_net.specs.declared.net.Net.{Net}
@@ -49,7 +49,7 @@ mutual
         TreeOf names boxes around network (tree.Star (place_of network) (merge_of det) made (variant_at names exit) (guard_at names guard))
     split : {around : Around} {network : NetExpr} {made : Net} (det : Bool) (body : NetExpr) (tag : Ident) →
         form_of network ≡ NetForm-F.Split det body tag → TreeOf names boxes around body made →
-        TreeOf names boxes around network (tree.Split (place_of network) (merge_of det) made (number_in names tag.text))
+        TreeOf names boxes around network (tree.Split (place_of network) (merge_of det) made (label_number names tag.text))
 
   -- two parts in series, or the first of several in series with the rest
   pub data SeriesOf (names : List (List ℕ)) (boxes : List BoxProgram) : Around → List NetExpr → Net → Type 0 where

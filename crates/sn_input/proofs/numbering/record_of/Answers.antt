@@ -1,7 +1,7 @@
 use Rattle.std.proofs.Common.{◌≡◌, ◌∙◌, ◌∷◌, [], ◌++◌, append_assoc, refl, arith}
 use Rattle.std.specs.Vec.Iter.{into_iter_items}
 use Rattle.std.proofs.lemmas.Result.{err_from_is_err_and}
-use Rattle.sn_names.specs.Names.{entered, number_in}
+use Rattle.sn_names.specs.Names.{entered, label_number}
 use Rattle.sn_input.specs.Numbered.{with_entries}
 use Rattle.sn_input.specs.Steps.{Fits}
 use Rattle.sn_input.proofs.Numbers.{names_more, number_stays, lacks_names, made_more, front_all, numbered_fit}
@@ -33,7 +33,7 @@ loop-entry-preserved c =
     let steps : into_iter_items at.entry-iterator ≡ c.in-Some.entry ∷ into_iter_items c.next.new.self = c.in-Some.ensures.steps.0 in
     let all : at.yielded ++ c.in-Some.entry ∷ into_iter_items c.next.new.self ≡ entries = rw (← steps) at.invariant.all in
     let grown : c.number_of.new.names ≡ entered at.names c.in-Some.entry.label.name = rw c.as_slice.ensures at c.in_ok-id.ensures.entered in
-    let number : c.in_ok-id.id ≡ number_in c.number_of.new.names c.in-Some.entry.label.name = rw c.as_slice.ensures at c.in_ok-id.ensures.number in
+    let number : c.in_ok-id.id ≡ label_number c.number_of.new.names c.in-Some.entry.label.name = rw c.as_slice.ensures at c.in_ok-id.ensures.number in
     record {
       all = append_assoc at.yielded (c.in-Some.entry ∷ []) _ ∙ all;
       names = names_more start entries at.yielded _ c.in-Some.entry all at.names at.invariant.names _ grown;

@@ -3,7 +3,7 @@ use Rattle.std.proofs.lemmas.List.{length-map}
 use Rattle.std.proofs.lemmas.Result.{IfOk-weaker}
 use Rattle.sn_ast.specs.declared.network.NetForm.TheOpen.{NetForm-F}
 use Rattle.sn_ast.specs.declared.network.NetForm.TheVariants as form
-use Rattle.sn_names.specs.Names.{number_in}
+use Rattle.sn_names.specs.Names.{label_number}
 use Rattle.sn_label_scope.specs.Labels.{variant_at, variant_required}
 use Rattle.sn_label_scope.specs.Refusals.{required}
 use Rattle.sn_label_scope.specs.declared.refusal.Reason.TheVariants as reason
@@ -107,16 +107,16 @@ network_at-returns-in_ok-body-in-Split t c =
     let scopes = c.args.scopes.now in
     let place = c.args.network.now.at in
     let det = c.in-Split.det in
-    let tag = number_in names c.in-Split.tag.text in
+    let tag = label_number names c.in-Split.tag.text in
     let least = c.args.refusals.now in
     let made_body = c.in_ok-body-in-Split.ensures in
     let body : c.in_ok-body-in-Split.body ≡ network_at names scopes c.in-Split.body = made_body.0 ∙ ap (network_at names scopes) c.get-in-Split.ensures in
     let checked : c.network_at-in-Split.new.refusals ≡ network_required names scopes c.in-Split.body least = made_body.1 ∙ ap (λ n. network_required names scopes n least) c.get-in-Split.ensures in
-    let numbered : c.number-tag.result ≡ tag = c.number-tag.ensures ∙ ap (number_in names) c.as_slice-in-Split.ensures in
+    let numbered : c.label_number-tag.result ≡ tag = c.label_number-tag.ensures ∙ ap (label_number names) c.as_slice-in-Split.ensures in
     network_here names scopes c.args.network.now (NetForm-F.Split det c.in-Split.body c.in-Split.tag) _ c.in-Split.is (form.rolls-Split det c.in-Split.body c.in-Split.tag) c.made-in-Split.result least c.network_at-in-Split.new.refusals
     (IfOk-weaker c.made-in-Split.result _ _ (λ made is. (
-      is ∙ ap (λ m. Made (component.Split place m c.in_ok-body-in-Split.body c.number-tag.result)) c.merge_of-in-Split.ensures
-          ∙ ap (λ b. Made (component.Split place (merge_of det) b c.number-tag.result)) body ∙ ap (λ n. Made (component.Split place (merge_of det) (network_at names scopes c.in-Split.body) n)) numbered,
+      is ∙ ap (λ m. Made (component.Split place m c.in_ok-body-in-Split.body c.label_number-tag.result)) c.merge_of-in-Split.ensures
+          ∙ ap (λ b. Made (component.Split place (merge_of det) b c.label_number-tag.result)) body ∙ ap (λ n. Made (component.Split place (merge_of det) (network_at names scopes c.in-Split.body) n)) numbered,
       checked,
     )) c.made-in-Split.ensures)
 

@@ -2,7 +2,7 @@ use Rattle.std.proofs.Common.{◌≡◌, IfOk, sym, ap, ◌∙◌, subst}
 use Rattle.std.proofs.lemmas.Result.{IfOk-weaker}
 use Rattle.sn_ast.specs.declared.tag_expr.TForm.TheOpen.{TForm-F}
 use Rattle.sn_ast.specs.declared.tag_expr.TForm.TheVariants as form
-use Rattle.sn_names.specs.Names.{number_in}
+use Rattle.sn_names.specs.Names.{label_number}
 use Rattle.sn_label_scope.specs.Operators.{bin_op}
 use Rattle.sn_scope.specs.Tags.{tag_expr}
 use Rattle.sn_tagexpr.specs.declared.expr.TagExpr.TheVariants.{Tag, Neg, Not, Op, And, Or, Cond}
@@ -13,7 +13,7 @@ use Rattle.sn_scope.proofs.tags.+tag_expr.Goals as goal
 
 pub tag_expr-returns-in-Tag : goal.tag_expr-returns-in-Tag
 tag_expr-returns-in-Tag t c =
-    ap Tag (c.number.ensures ∙ ap (number_in c.args.names.now) c.as_slice.ensures)
+    ap Tag (c.label_number.ensures ∙ ap (label_number c.args.names.now) c.as_slice.ensures)
     ∙ sym (tag_level c.args.names.now c.args.e.now (TForm-F.Tag c.in-Tag.tag) _ c.in-Tag.is (form.rolls-Tag c.in-Tag.tag))
 
 pub tag_expr-returns-in_ok-boxed_expr-in-Neg : goal.tag_expr-returns-in_ok-boxed_expr-in-Neg
