@@ -30,7 +30,10 @@ fn part_at(alloc: Global, names: &NameTable, item: &ItemAt) -> Result<Part, Memo
     let target = names.label_number(item.target.name.text.as_slice());
     match &item.source {
         ItemSource::Same => Ok(Part::Copy(label_at(names, &item.target))),
-        ItemSource::Field(name) => Ok(Part::Rename(target, names.label_number(name.text.as_slice()))),
+        ItemSource::Field(name) => Ok(Part::Rename(
+            target,
+            names.label_number(name.text.as_slice()),
+        )),
         ItemSource::Expr(e) => Ok(Part::Compute(target, tag_expr(alloc, names, e)?)),
     }
 }
