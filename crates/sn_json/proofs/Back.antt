@@ -28,8 +28,8 @@ use Rattle.sn_record.proofs.Maps.{get-slice_get, same_label, ties_itself}
 use Rattle.sn_record.proofs.Records.{same_record}
 use Rattle.sn_names.specs.Names.{are_distinct, label_name, label_number}
 use Rattle.sn_names.proofs.Labels.{label_number-label_name}
-use Rattle.sn_lexer.specs.Spelling.{is_name}
-use Rattle.sn_record_tokens.specs.Tokens.{SpellsName}
+use Rattle.sn_lexer.specs.Spelling.{is_name, behind_mark}
+use Rattle.sn_record_tokens.specs.Tokens.{SpellsName, SpellsTagName}
 use Rattle.sn_record_parser.specs.declared.entry.Entry.{Entry}
 use Rattle.sn_record_parser.specs.declared.entry.WrittenLabel.{WrittenLabel}
 use Rattle.sn_input.specs.Numbered.{record_of, with_entries}
@@ -37,7 +37,7 @@ use Rattle.sn_output.specs.Line.{printed_label}
 use Rattle.sn_output.specs.Types.{label_text}
 use Rattle.sn_record_roundtrip.specs.Writable.{AreBounded, HasName, IsWritable}
 use Rattle.unicode_ident.proofs.Computing.{unicode_ident}
-use Rattle.sn_record_roundtrip.proofs.Characters.{inline_scalars, name_inline, printable_bytes}
+use Rattle.sn_record_roundtrip.proofs.Characters.{inline_scalars, name_inline, tag_inline, printable_bytes}
 use Rattle.sn_record_roundtrip.proofs.Entries.{IsGood, written}
 use Rattle.sn_record_roundtrip.proofs.Labels.{none_new}
 use Rattle.sn_record_roundtrip.proofs.Orders.{entries_back}
@@ -78,6 +78,9 @@ passed q k d ms apart =
 named : (word bytes : List ℕ) → SpellsName word bytes → is_name (chars bytes) ≡ true
 named word bytes s = ap is_name (ap chars s.bytes_are ∙ chars-encodes word (inline_scalars word (name_inline word s.name))) ∙ s.name
 
+tag_named : (word bytes : List ℕ) → SpellsTagName word bytes → behind_mark is_name (chars bytes) ≡ true
+tag_named word bytes s = ap (behind_mark is_name) (ap chars s.bytes_are ∙ chars-encodes word (inline_scalars word (tag_inline word s.named))) ∙ s.named
+
 bracket_no_name : (rest : List ℕ) → is_name (60 ∷ rest) ≡ false
 unfolding unicode_ident
 bracket_no_name rest = refl
@@ -97,14 +100,14 @@ bracket_utf8 = (60 ∷ [], (refl, printable_bytes (60 ∷ []) refl))
 bracket_char : chars (60 ∷ []) ≡ 60 ∷ []
 bracket_char = ap chars (sym (printable_bytes (60 ∷ []) refl)) ∙ chars-encodes (60 ∷ []) refl
 
-tag_key : (word name : List ℕ) → SpellsName word name → label_of (60 ∷ (name ++ 62 ∷ [])) ≡ Some (made Tag name)
+tag_key : (word name : List ℕ) → SpellsTagName word name → label_of (60 ∷ (name ++ 62 ∷ [])) ≡ Some (made Tag name)
 tag_key word name s =
     let rest = name ++ 62 ∷ [] in
     let key = 60 ∷ rest in
     let split : chars key ≡ 60 ∷ chars rest = chars-append (60 ∷ []) rest bracket_utf8 ∙ ap (λ t. t ++ chars rest) bracket_char in
     ap (λ b. cond b (Some (made Field key)) (tag_of (inside_of key))) (ap is_name split ∙ bracket_no_name (chars rest))
     ∙ ap tag_of (inside_is key name refl)
-    ∙ ap (λ b. cond b (Some (made Tag name)) None) (named word name s)
+    ∙ ap (λ b. cond b (Some (made Tag name)) None) (tag_named word name s)
 
 key_at : (names : List (List ℕ)) (kind : Kind) (id : ℕ) → HasName names (record { kind = kind; id = id }) → label_of (printed_label kind (label_name names id)) ≡ Some (made kind (label_name names id))
 key_at names Field id has = field_key has.word (label_name names id) has.spelled

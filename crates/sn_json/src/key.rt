@@ -2,10 +2,10 @@
 ghost use Rattle.std.specs.Prelude.{◌≡◌, ◌≢◌, ◌==◌, ◌++◌, ◌∷◌, [], ℕ, List, length, IfOk, MatchOption};
 ghost use Rattle.std.specs.Option.{option_copied};
 ghost use Rattle.std.specs.Str.{chars};
-ghost use Rattle.sn_lexer.specs.Spelling.{is_name};
+ghost use Rattle.sn_lexer.specs.Spelling.{behind_mark, is_name};
 ghost use Rattle.sn_json.specs.Keys.{inside_of, label_of};
 
-use sn_lexer::{read_name, split_first};
+use sn_lexer::{after_mark, read_name, split_first};
 use sn_list::{Memory, Seq};
 use sn_record::Kind;
 use sn_record_parser::WrittenLabel;
@@ -26,6 +26,13 @@ fn is_name(text: &str) -> bool
         Some((_, rest)) => is_at_end(rest),
         None => false,
     }
+}
+
+/// Whether the text is one name, with `#` in front or not, and no more.
+fn is_tag_name(text: &str) -> bool
+    ensures { result ≡ behind_mark is_name (chars text.now) }
+{
+    is_name(after_mark(text))
 }
 
 /// What follows an opening bracket in front.
@@ -56,7 +63,7 @@ fn label(alloc: Global, kind: Kind, name: &str) -> Result<WrittenLabel, Memory>
     Ok(WrittenLabel { kind, name })
 }
 
-/// The label whose key it is: a field by its name, a tag by its name in angle brackets.
+/// The label whose key it is: a field by its name, a tag by its name in angle brackets, with the `#` of a binding one.
 pub fn label_of(alloc: Global, key: &str) -> Result<Option<WrittenLabel>, Memory>
     ensures { IfOk result (λ found. found ≡ label_of key.now) }
 {
@@ -64,7 +71,7 @@ pub fn label_of(alloc: Global, key: &str) -> Result<Option<WrittenLabel>, Memory
         return Ok(Some(label(alloc, Kind::Field, key)?));
     }
     match inside(key) {
-        Some(name) if is_name(name) => Ok(Some(label(alloc, Kind::Tag, name)?)),
+        Some(name) if is_tag_name(name) => Ok(Some(label(alloc, Kind::Tag, name)?)),
         _ => Ok(None),
     }
 }

@@ -1,7 +1,7 @@
 -- Words and what follows them: what a printer needs to show that its text has given tokens.
-use Rattle.std.proofs.Common.{◌≡◌, ℕ, ◌≤◌, ◌==◌, true, false, not, List, [], ◌∷◌, ◌++◌, append_assoc, refl, sym, ap, ◌∙◌, arith}
+use Rattle.std.proofs.Common.{◌≡◌, ℕ, ◌≤◌, ◌==◌, true, false, not, List, [], ◌∷◌, ◌++◌, append_assoc, refl, sym, ap, ◌∙◌, inr, arith}
 use Rattle.std.specs.Char.{is_ascii_digit}
-use Rattle.std.proofs.lemmas.Bool.{false≢true, and_parts, not-true, eqb-true}
+use Rattle.std.proofs.lemmas.Bool.{false≢true, and_parts, not-true, eqb-true, ne_eqb}
 use Rattle.std.proofs.lemmas.Bool.Decides.{nat_tests}
 use Rattle.unicode_ident.specs.Ident.{is_xid_continue}
 use Rattle.unicode_ident.proofs.IdentLemmas.{is_xid_continue-ascii}
@@ -10,7 +10,7 @@ use Rattle.sn_lexer.specs.declared.token.TokenKind.TheVariants.{Ident, Keyword, 
 use Rattle.sn_lexer.specs.Spelling.{Spells, IsWithinLimit, starts_name, is_name, is_keyword, is_symbol, is_identifier}
 use Rattle.sn_lexer.specs.Gaps.{is_blank, opens_comment}
 use Rattle.sn_lexer.specs.Lexes.{IsToken}
-use Rattle.sn_lexer.specs.Fronts.{Stops, BeginsNoTag}
+use Rattle.sn_lexer.specs.Fronts.{Stops, BeginsNot, BeginsNoTag}
 use Rattle.sn_lexer.proofs.Heads.{keyword_name, starts_above, symbol_second, symbol_filled, symbol_short, pair_no_comment}
 use Rattle.sn_lexer.proofs.WordKinds.{digit_above, fails}
 use Rattle.sn_lexer.proofs.Longest.{pair_no_tag}
@@ -61,6 +61,10 @@ no_name : (rest : List ℕ) → IsApart rest → Stops starts_name rest
 no_name [] apart = tt
 no_name (c ∷ rest) apart = let low = blank_below c apart in fails (starts_name c) (λ h. let high = starts_above c h in omega arith)
 
+no_mark : (rest : List ℕ) → IsApart rest → BeginsNot 35 rest
+no_mark [] apart = tt
+no_mark (c ∷ rest) apart = let low = blank_below c apart in ne_eqb c 35 (λ e. omega arith)
+
 no_pair : (a : ℕ) (rest : List ℕ) → IsApart rest → NoPair a rest
 no_pair a [] apart b more is = cc
 no_pair a (c ∷ rest) apart b more is =
@@ -74,7 +78,7 @@ no_comment a (c ∷ rest) apart = let low = blank_below c apart in grind (arith,
 no_tag : (a : ℕ) (rest : List ℕ) → IsApart rest → BeginsNoTag (a ∷ rest)
 no_tag a rest apart =
     elim (a == 60) as (λ b. (a == 60) ≡ b → BeginsNoTag (a ∷ rest)) [
-      | true ↦ λ angle. no_tag_name (a ∷ rest) rest (ap (λ x. x ∷ rest) (eqb-true a 60 angle)) (no_name rest apart)
+      | true ↦ λ angle. no_tag_name (a ∷ rest) rest rest (ap (λ x. x ∷ rest) (eqb-true a 60 angle)) (inr (refl, no_mark rest apart)) (no_name rest apart)
       | false ↦ λ other. no_tag_open (a ∷ rest) other
     ] refl
 
@@ -89,7 +93,7 @@ pub apart_token : (kind : TokenKind) (word rest : List ℕ) → Spells kind word
 apart_token Ident word rest s within apart = identifier_token word rest s (blank_stops rest apart)
 apart_token Keyword word rest s within apart = keyword_token word rest s (blank_stops rest apart)
 apart_token Tag word rest s within apart =
-    tag_token s.name (word ++ rest) rest s.identifier (ap (λ xs. xs ++ rest) s.written ∙ ap (λ xs. 60 ∷ xs) (append_assoc s.name (62 ∷ []) rest))
+    tag_token s.name (word ++ rest) rest s.named (ap (λ xs. xs ++ rest) s.written ∙ ap (λ xs. 60 ∷ xs) (append_assoc s.name (62 ∷ []) rest))
 apart_token Number word rest s within apart = numeral_token word (word ++ rest) rest s within (no_digit rest apart) refl
 apart_token Text word rest s within apart = text_token (word ++ rest) rest (text_up_to word (word ++ rest) rest s refl)
 apart_token Symbol word rest s within apart = apart_symbol word rest s apart

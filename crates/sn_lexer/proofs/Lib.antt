@@ -15,6 +15,7 @@ pub mod Plain
 pub mod Runs
 pub mod Symbols
 pub mod Tables
+pub mod TagNames
 pub mod Tags
 pub mod Tokens
 pub mod Widths

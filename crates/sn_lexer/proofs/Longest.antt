@@ -1,16 +1,17 @@
 -- The words that are the longest in front of characters: what was read goes on as far as it may.
-use Rattle.std.proofs.Common.{◌≡◌, ℕ, ◌≤◌, true, false, List, [], ◌∷◌, ◌++◌, length, length-append, append_assoc, refl, sym, ap, ◌∙◌, subst, inl, inr, arith}
+use Rattle.std.proofs.Common.{◌≡◌, ℕ, ◌≤◌, ◌==◌, true, false, List, [], ◌∷◌, ◌++◌, length, length-append, append_assoc, refl, sym, ap, ◌∙◌, subst, inl, inr, arith}
 use Rattle.std.specs.Prelude.{◌⊎◌}
 use Rattle.std.specs.List.{list_all}
 use Rattle.std.specs.Char.{is_ascii_digit}
-use Rattle.std.proofs.lemmas.Bool.{false≢true, and_parts}
+use Rattle.std.proofs.lemmas.Bool.{false≢true, and_parts, eqb-true}
 use Rattle.unicode_ident.specs.Ident.{is_xid_continue}
 use Rattle.sn_lexer.specs.declared.token.TokenKind.{TokenKind}
-use Rattle.sn_lexer.specs.Spelling.{Spells, IsTag, starts_name, is_name, is_numeral, is_symbol, is_identifier, is_printable, quoted}
+use Rattle.sn_lexer.specs.Spelling.{Spells, IsTag, starts_name, is_name, is_numeral, is_symbol, is_identifier, is_tag_name, is_printable, quoted}
 use Rattle.sn_lexer.specs.Lexes.{IsLongest}
 use Rattle.sn_lexer.specs.Fronts.{Stops, BeginsNoTag}
 use Rattle.sn_lexer.proofs.Heads.{IsMark, symbol_head, symbol_second, symbol_filled, symbol_short, starts_name_ascii, angle_stops}
-use Rattle.sn_lexer.proofs.WordKinds.{name_at, numeral_at, text_at, mark_at, identifier_name, name_starts, name_filled}
+use Rattle.sn_lexer.proofs.WordKinds.{name_at, numeral_at, text_at, mark_at, name_starts, tag_name_filled, fails}
+use Rattle.sn_lexer.proofs.TagNames.{plain_of, plain_name, marks_alike, unmarked}
 use Rattle.sn_lexer.proofs.Runs.{run_longest}
 use Rattle.sn_lexer.proofs.Contents.{written, content_once}
 
@@ -63,19 +64,20 @@ angle_at : (kind : TokenKind) (cs : List ℕ) → Spells kind (60 ∷ cs) → Is
 angle_at kind cs s = mark_at kind 60 cs s angle_no_start refl (λ e. omega arith)
 
 -- a tag is longer than a symbol
-pub tag_longest : (name rest : List ℕ) → is_identifier name ≡ true → IsLongest (60 ∷ (name ++ 62 ∷ [])) (60 ∷ (name ++ 62 ∷ rest))
-tag_longest name rest identifier kind [] more s same = omega arith
-tag_longest name rest identifier kind (c ∷ other) more s same =
+pub tag_longest : (name rest : List ℕ) → is_tag_name name ≡ true → IsLongest (60 ∷ (name ++ 62 ∷ [])) (60 ∷ (name ++ 62 ∷ rest))
+tag_longest name rest named kind [] more s same = omega arith
+tag_longest name rest named kind (c ∷ other) more s same =
     let head : 60 ≡ c = cc in
     let tail : name ++ 62 ∷ rest ≡ other ++ more = cc in
-    let named = identifier_name name identifier in
-    let filled = name_filled name named in
+    let filled = tag_name_filled name named in
     let long = length-append name (62 ∷ []) in
     elim (angle_at kind other (subst (λ x. Spells kind (x ∷ other)) (sym head) s)) [
       | inl tag ↦
           let inner : other ≡ tag.name ++ 62 ∷ [] = let e = tag.written in cc in
           let both = tail ∙ ap (λ xs. xs ++ more) inner ∙ append_assoc tag.name (62 ∷ []) more in
-          let shorter = longest_name name (62 ∷ rest) tag.name (62 ∷ more) named (identifier_name tag.name tag.identifier) angle_stops both in
+          let alike = marks_alike is_identifier is_identifier name (62 ∷ rest) tag.name (62 ∷ more) named tag.named both in
+          let shorter = longest_name (plain_of name) (62 ∷ rest) (plain_of tag.name) (62 ∷ more) (plain_name name named) (plain_name tag.name tag.named) angle_stops alike.fronts in
+          let lengths = alike.lengths in
           let size = ap length inner ∙ length-append tag.name (62 ∷ []) in
           omega arith
       | inr symbol ↦ let short = symbol_short (60 ∷ other) symbol in omega arith
@@ -96,14 +98,23 @@ symbol_longest (c ∷ word) rest symbol longest no_tag kind (d ∷ other) more s
 pub cons_parts : (c d : ℕ) (xs ys : List ℕ) → c ∷ xs ≡ d ∷ ys → (c ≡ d) × (xs ≡ ys)
 cons_parts c d xs ys same = (cc, cc)
 
-tag_second : (d : ℕ) (rest name more : List ℕ) → starts_name d ≡ false → is_name name ≡ true → d ∷ rest ≡ (name ++ 62 ∷ []) ++ more → ⊥
-tag_second d rest [] more no_start named same = false≢true named
-tag_second d rest (e ∷ name) more no_start named same =
+tag_second : (d : ℕ) (rest name more : List ℕ) → starts_name d ≡ false → (d == 35) ≡ false → is_tag_name name ≡ true → d ∷ rest ≡ (name ++ 62 ∷ []) ++ more → ⊥
+tag_second d rest [] more no_start no_mark named same = false≢true named
+tag_second d rest (e ∷ name) more no_start no_mark named same =
     let head : d ≡ e = cc in
-    false≢true (sym no_start ∙ ap starts_name head ∙ name_starts e name named)
+    let plain = sym (unmarked is_identifier e name (ap (λ x. x == 35) (sym head) ∙ no_mark)) ∙ named in
+    false≢true (sym no_start ∙ ap starts_name head ∙ name_starts e name (and_parts (is_name (e ∷ name)) _ plain).0)
+
+no_angle_mark : is_symbol (60 ∷ 35 ∷ []) ≡ false
+unfolding is_symbol
+no_angle_mark = refl
+
+no_marked_pair : (c d : ℕ) → c ≡ 60 → is_symbol (c ∷ d ∷ []) ≡ true → (d == 35) ≡ false
+no_marked_pair c d angle symbol =
+    fails (d == 35) (λ h. false≢true (sym no_angle_mark ∙ (λ i. is_symbol (sym angle i ∷ sym (eqb-true d 35 h) i ∷ [])) ∙ symbol))
 
 -- no tag begins with a symbol of two characters
 pub pair_no_tag : (c d : ℕ) (rest : List ℕ) → is_symbol (c ∷ d ∷ []) ≡ true → BeginsNoTag (c ∷ d ∷ rest)
 pair_no_tag c d rest symbol word more tag same =
-    let tail = (cons_parts c 60 (d ∷ rest) ((tag.name ++ 62 ∷ []) ++ more) (same ∙ ap (λ xs. xs ++ more) tag.written)).1 in
-    tag_second d rest tag.name more ((symbol_second c d [] symbol).starts) (identifier_name tag.name tag.identifier) tail
+    let parts = cons_parts c 60 (d ∷ rest) ((tag.name ++ 62 ∷ []) ++ more) (same ∙ ap (λ xs. xs ++ more) tag.written) in
+    tag_second d rest tag.name more (symbol_second c d [] symbol).starts (no_marked_pair c d parts.0 symbol) tag.named parts.1

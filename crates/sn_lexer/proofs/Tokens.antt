@@ -10,7 +10,7 @@ use Rattle.std.proofs.lemmas.Bool.{false≢true, and_parts, not-true, ne_eqb, eq
 use Rattle.sn_lexer.specs.declared.token.TokenKind.{TokenKind}
 use Rattle.sn_lexer.specs.declared.token.TokenKind.TheVariants.{Ident, Keyword, Tag, Number, Text, Symbol}
 use Rattle.sn_lexer.specs.declared.token.LexFault.TheVariants.{BadChar, NumberTooWide}
-use Rattle.sn_lexer.specs.Spelling.{Spells, IsWithinLimit, starts_name, is_name, is_keyword, is_numeral, is_identifier, quoted}
+use Rattle.sn_lexer.specs.Spelling.{Spells, IsWithinLimit, starts_name, is_name, is_keyword, is_numeral, is_tag_name, quoted}
 use Rattle.sn_lexer.specs.Gaps.{is_blank, opens_comment}
 use Rattle.sn_lexer.specs.Lexes.{place, IsLongest, IsToken, IsTextUpTo, IsWrong}
 use Rattle.sn_lexer.specs.Lexes.IsWrong.{bad_char, too_wide}
@@ -55,13 +55,13 @@ name_token kind cs rest n =
     subst (λ k. IsToken k cs rest) (sym n.kind_is)
     (token_of (name_kind (is_keyword n.name)) n.name rest cs (name_spelled n.name (is_keyword n.name) refl n.named) n.front (name_longest n.name rest n.named n.stops) (name_within n.name (is_keyword n.name)) (name_opens n.name rest n.named))
 
-pub tag_token : (name cs rest : List ℕ) → is_identifier name ≡ true → cs ≡ 60 ∷ (name ++ 62 ∷ rest) → IsToken Tag cs rest
-tag_token name cs rest identifier is =
+pub tag_token : (name cs rest : List ℕ) → is_tag_name name ≡ true → cs ≡ 60 ∷ (name ++ 62 ∷ rest) → IsToken Tag cs rest
+tag_token name cs rest named is =
     let outer = ap (λ xs. 60 ∷ xs) (append_assoc name (62 ∷ []) rest) in
     token_of Tag (60 ∷ (name ++ 62 ∷ [])) rest cs
-    record { name = name; identifier = identifier; written = refl }
+    record { name = name; named = named; written = refl }
     (is ∙ sym outer)
-    (subst (IsLongest (60 ∷ (name ++ 62 ∷ []))) (sym outer) (tag_longest name rest identifier))
+    (subst (IsLongest (60 ∷ (name ++ 62 ∷ []))) (sym outer) (tag_longest name rest named))
     tt
     (not_slash 60 ((name ++ 62 ∷ []) ++ rest) (λ e. omega arith))
 

@@ -7,7 +7,7 @@ use Rattle.std.proofs.lemmas.Bool.{false≢true, and_parts, not-true, eq-eqb, ne
 use Rattle.std.proofs.lemmas.Bool.Decides.{nat_tests}
 use Rattle.sn_lexer.specs.declared.token.TokenKind.{TokenKind}
 use Rattle.sn_lexer.specs.declared.token.TokenKind.TheVariants.{Ident, Keyword, Tag, Number, Text, Symbol}
-use Rattle.sn_lexer.specs.Spelling.{Spells, IsTag, IsText, starts_name, is_name, is_keyword, is_numeral, is_symbol, is_identifier}
+use Rattle.sn_lexer.specs.Spelling.{Spells, IsTag, IsText, starts_name, is_name, is_keyword, is_numeral, is_symbol, is_identifier, is_tag_name}
 use Rattle.sn_lexer.proofs.Heads.{keyword_name, starts_above, symbol_head, symbol_filled, symbol_short}
 
 -- no kind has the empty word
@@ -44,11 +44,15 @@ tag_opens c cs s = let e = s.written in cc
 pub text_opens : (c : ℕ) (cs : List ℕ) → IsText (c ∷ cs) → c ≡ 34
 text_opens c cs s = let e = s.written in cc
 
+pub tag_name_filled : (word : List ℕ) → is_tag_name word ≡ true → 0 < length word
+tag_name_filled [] h = absurd (false≢true h)
+tag_name_filled (c ∷ cs) h = omega arith
+
 -- a tag is longer than any symbol
 pub tag_no_symbol : (word : List ℕ) → IsTag word → is_symbol word ≡ true → ⊥
 tag_no_symbol word s h =
     let short = symbol_short word h in
-    let named = name_filled s.name (identifier_name s.name s.identifier) in
+    let named = tag_name_filled s.name s.named in
     let long = ap length s.written ∙ ap suc (length-append s.name (62 ∷ [])) in
     omega arith
 

@@ -30,6 +30,10 @@ Stops test (c ∷ cs) = test c ≡ false
 abbrev pub BeginsNot : ℕ → List ℕ → Type 0
 BeginsNot c cs = Stops (λ first. first == c) cs
 
+-- what follows the `#` in front, if one is there
+abbrev pub SkipsMark : List ℕ → List ℕ → Type 0
+SkipsMark cs rest = (cs ≡ 35 ∷ rest) ⊎ ((cs ≡ rest) × BeginsNot 35 cs)
+
 -- a whole name in front: as far as characters continue it
 pub record IsNameUpTo (kind : TokenKind) (cs rest : List ℕ) : Type 0 where
   pub name : List ℕ

@@ -30,10 +30,19 @@ is_keyword word = is_among keywords word
 abbrev pub is_identifier : List ℕ → Bool
 is_identifier word = is_name word && not (is_keyword word)
 
--- an identifier in angle brackets
+-- what passes the test, with `#` in front or not
+abbrev pub behind_mark : (List ℕ → Bool) → List ℕ → Bool
+behind_mark test [] = false
+behind_mark test (c ∷ cs) = if c == 35 then test cs else test (c ∷ cs)
+
+-- an identifier, behind `#` where the tag is a binding one
+abbrev pub is_tag_name : List ℕ → Bool
+is_tag_name word = behind_mark is_identifier word
+
+-- a tag's name in angle brackets
 pub record IsTag (word : List ℕ) : Type 0 where
   pub name : List ℕ
-  pub identifier : IsTrue (is_identifier name)
+  pub named : IsTrue (is_tag_name name)
   pub written : word ≡ codes "<" ++ (name ++ codes ">")
 
 -- one digit or more

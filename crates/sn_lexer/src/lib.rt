@@ -19,7 +19,7 @@ mod text;
 mod token;
 
 pub use lexing::lex;
-pub use name::read_name;
+pub use name::{after_mark, read_name};
 pub use number::read_digits;
 pub use text::{after, split_first};
 pub use token::{LexFault, Token, TokenKind};

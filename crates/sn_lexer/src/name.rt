@@ -4,7 +4,7 @@ ghost use Rattle.std.specs.Str.{chars};
 ghost use Rattle.unicode_ident.specs.Ident.{is_xid_start, is_xid_continue};
 ghost use Rattle.sn_lexer.specs.Spelling.{starts_name, keywords, is_among};
 ghost use Rattle.sn_lexer.specs.Lexes.{IsToken};
-ghost use Rattle.sn_lexer.specs.Fronts.{past, Stops, BeginsNoTag, IsNameUpTo};
+ghost use Rattle.sn_lexer.specs.Fronts.{past, Stops, BeginsNoTag, IsNameUpTo, SkipsMark};
 
 use crate::text::{after, split_first};
 use crate::token::TokenKind;
@@ -59,13 +59,23 @@ pub fn read_name(text: &str) -> Option<(TokenKind, &str)>
     Some((kind, rest))
 }
 
+/// What follows the `#` in front, which marks the name of a binding tag, or the text itself where none is there.
+pub fn after_mark(text: &str) -> &str
+    ensures { SkipsMark (chars text.now) (chars result.now) }
+{
+    match after(text, '#') {
+        Some(name) => name,
+        None => text,
+    }
+}
+
 /// What follows the tag in front.
 pub fn read_tag(text: &str) -> Option<&str>
     ensures { MatchOption result (BeginsNoTag (chars text.now))
         (λ rest. IsToken TokenKind.Tag (chars text.now) (chars rest.now)) }
 {
     let inside = after(text, '<')?;
-    let (kind, rest) = read_name(inside)?;
+    let (kind, rest) = read_name(after_mark(inside))?;
     if kind != TokenKind::Ident {
         return None;
     }

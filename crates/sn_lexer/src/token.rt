@@ -4,7 +4,7 @@ use sn_list::Memory as WantedMemory;
 pub enum TokenKind {
     Ident,
     Keyword,
-    /// An identifier in angle brackets, with nothing between.
+    /// An identifier in angle brackets, behind `#` in a binding tag, with nothing between.
     Tag,
     Number,
     Text,

@@ -1,10 +1,10 @@
 -- The characters of a printed line.
-use Rattle.std.proofs.Common.{◌≡◌, ℕ, ◌&&◌, ◌||◌, ◌==◌, Bool, true, false, not, List, [], ◌∷◌, ◌++◌, refl, ◌∙◌, subst, arith}
-use Rattle.std.specs.Prelude.{encode_utf8_all}
+use Rattle.std.proofs.Common.{◌≡◌, ℕ, ◌&&◌, ◌||◌, ◌==◌, Bool, true, false, not, List, [], ◌∷◌, ◌++◌, refl, ap, ◌∙◌, subst, arith}
+use Rattle.std.specs.Prelude.{encode_utf8_all, if◌then◌else◌}
 use Rattle.std.specs.List.{list_all}
 use Rattle.std.specs.Str.{all_scalars}
 use Rattle.std.proofs.Math.Utf8.{scalar}
-use Rattle.std.proofs.lemmas.Bool.{false≢true, and_parts, and_from}
+use Rattle.std.proofs.lemmas.Bool.{false≢true, and_parts, and_from, eqb-true}
 use Rattle.std.proofs.lemmas.Bool.Decides.{nat_tests}
 use Rattle.std.proofs.lemmas.List.Folds.{list_all-append}
 use Rattle.ucd_table.specs.Rows.{Range, in_ranges}
@@ -15,7 +15,7 @@ use Rattle.ucd_derived.proofs.BinaryLemmas.{is_xid_continue_stepped}
 use Rattle.unicode_ident.specs.Ident.{is_xid_start, is_xid_continue}
 use Rattle.unicode_ident.proofs.Computing.{unicode_ident}
 use Rattle.unicode_ident.proofs.IdentLemmas.{is_xid_start-is_xid_continue}
-use Rattle.sn_lexer.specs.Spelling.{starts_name, is_name, is_printable}
+use Rattle.sn_lexer.specs.Spelling.{starts_name, is_name, behind_mark, is_printable}
 use Rattle.sn_lexer.proofs.Heads.{is_ascii}
 use Rattle.sn_lexer.proofs.Plain.{ascii_bytes}
 use Rattle.sn_record_roundtrip.specs.ReadsBack.{is_no_line_feed}
@@ -80,6 +80,15 @@ name_inline [] h = absurd (false≢true h)
 name_inline (c ∷ cs) h =
     let parts = and_parts (starts_name c) (list_all is_xid_continue cs) h in
     and_from _ _ (starts_inline c parts.0) (all_weaker is_xid_continue is_inline continues_inline cs parts.1)
+
+-- so is what a tag's name has
+pub tag_inline : (word : List ℕ) → behind_mark is_name word ≡ true → list_all is_inline word ≡ true
+tag_inline [] h = absurd (false≢true h)
+tag_inline (c ∷ cs) h =
+    elim (c == 35) as (λ b. (c == 35) ≡ b → (if b then is_name cs else is_name (c ∷ cs)) ≡ true → list_all is_inline (c ∷ cs) ≡ true) [
+      | true ↦ λ mark named. and_from _ _ (ap is_inline (eqb-true c 35 mark)) (name_inline cs named)
+      | false ↦ λ _ named. name_inline (c ∷ cs) named
+    ] refl h
 
 -- what is inline is characters, and no line feed
 pub inline_scalars : (cs : List ℕ) → list_all is_inline cs ≡ true → all_scalars cs ≡ true

@@ -20,7 +20,7 @@ use Rattle.sn_record.proofs.Values.{FitsLabel-Int, FitsLabel-Field}
 use Rattle.sn_names.specs.Names.{is_held}
 use Rattle.sn_names.proofs.Labels.{label_name-label_number, number_is_held}
 use Rattle.sn_record_tokens.specs.declared.token.Token.{Token}
-use Rattle.sn_record_tokens.specs.Tokens.{Spells, SpellsName, Tokens}
+use Rattle.sn_record_tokens.specs.Tokens.{Spells, SpellsName, SpellsTagName, Tokens}
 use Rattle.sn_record_tokens.specs.Tokens.Tokens.{end, blank, token}
 use Rattle.sn_record_parser.specs.declared.entry.Entry.{Entry}
 use Rattle.sn_record_parser.specs.Grammar.{IsValue, AreMore, IsEntry, AreFurther, IsLine, field, tag}
@@ -30,7 +30,7 @@ use Rattle.sn_record_parser.specs.Grammar.IsEntry.{field_at, tag_at}
 use Rattle.sn_record_parser.specs.Grammar.AreFurther.{end as none_further, next as next_entry}
 use Rattle.sn_record_parser.specs.Grammar.IsLine.{empty as empty_line, entries as filled_line}
 use Rattle.sn_input.specs.Numbered.{label_in, entry_in, record_of}
-use Rattle.sn_record_roundtrip.specs.Writable.{IsBounded, AreBounded, HasName, IsWritable}
+use Rattle.sn_record_roundtrip.specs.Writable.{IsBounded, AreBounded, SpellsLabel, HasName, IsWritable}
 use Rattle.sn_record_roundtrip.proofs.Entries.{IsGood}
 
 -- tokens that characters spell
@@ -89,12 +89,12 @@ module _ (names : List (List ℕ)) where
     fits : FitsLabel (label_in names e.label) e.value
     bounded : AreBounded e.value
     word : List ℕ
-    spelled : SpellsName word e.label.name
+    spelled : SpellsLabel e.label.kind word e.label.name
 
   field_said : (name : List ℕ) (v : Value) → ((word : List ℕ) × SpellsName word name) → FitsLabel (label_in names (field name)) v → AreBounded v → IsSaid record { label = field name; value = v }
   field_said name v s fits bounded = record { fits = fits; bounded = bounded; word = s.0; spelled = s.1 }
 
-  tag_said : (name : List ℕ) (n : ℤ) (inside : List ℕ) → SpellsName inside name → FitsSigned w64 n → IsSaid record { label = tag name; value = Int n }
+  tag_said : (name : List ℕ) (n : ℤ) (inside : List ℕ) → SpellsTagName inside name → FitsSigned w64 n → IsSaid record { label = tag name; value = Int n }
   tag_said name n inside s fits = record { fits = FitsLabel-Int (label_in names (tag name)) n; bounded = bounded_int n fits; word = inside; spelled = s }
 
   entry_said : {ts us : List Token} {e : Entry} → IsEntry ts e us → AreSpelled ts → IsSaid e × AreSpelled us
@@ -126,7 +126,7 @@ module _ (names : List (List ℕ)) where
     named = record {
       held = number_is_held names e.label.name held;
       word = said.word;
-      spelled = subst (SpellsName said.word) (sym (label_name-label_number names e.label.name held)) said.spelled;
+      spelled = subst (SpellsLabel e.label.kind said.word) (sym (label_name-label_number names e.label.name held)) said.spelled;
     };
   }
 

@@ -13,8 +13,8 @@ use Rattle.sn_record.specs.Value.{is_printable_text}
 use Rattle.sn_lexer.specs.Spelling.{is_printable, is_escapable, escaped, quoted}
 use Rattle.sn_record_tokens.specs.declared.token.Token.{Token}
 use Rattle.sn_record_tokens.specs.declared.token.Token.TheVariants.{Name, Tag, Number, Text}
-use Rattle.sn_record_tokens.specs.Tokens.{SpellsName, SpellsTag, SpellsNumber, Tokens}
-use Rattle.sn_record_roundtrip.proofs.Characters.{is_inline, all_append, printable_inline, printable_bytes, name_inline}
+use Rattle.sn_record_tokens.specs.Tokens.{SpellsName, SpellsTagName, SpellsTag, SpellsNumber, Tokens}
+use Rattle.sn_record_roundtrip.proofs.Characters.{is_inline, all_append, printable_inline, printable_bytes, name_inline, tag_inline}
 use Rattle.sn_record_roundtrip.proofs.Readings.{Closes, Reads, word_before, encoded_append}
 
 module _ (word bytes : List ℕ) (s : SpellsName word bytes) where
@@ -24,6 +24,7 @@ module _ (word bytes : List ℕ) (s : SpellsName word bytes) where
   abbrev pub name_reads : Reads bytes
   name_reads = record { piece = word; encoded = sym s.bytes_are; inline = name_inline word s.name; says = λ us. Name bytes ∷ us; tells = name_tells }
 
+module _ (word bytes : List ℕ) (s : SpellsTagName word bytes) where
   tag_is : SpellsTag (60 ∷ (word ++ 62 ∷ [])) bytes
   tag_is = record { inside = word; name = s; written = refl }
 
@@ -34,7 +35,7 @@ module _ (word bytes : List ℕ) (s : SpellsName word bytes) where
   tag_reads = record {
     piece = 60 ∷ (word ++ 62 ∷ []);
     encoded = encoded_append (60 ∷ []) (word ++ 62 ∷ []) (60 ∷ []) (bytes ++ 62 ∷ []) (printable_bytes (60 ∷ []) refl) (encoded_append word (62 ∷ []) bytes (62 ∷ []) (sym s.bytes_are) (printable_bytes (62 ∷ []) refl));
-    inline = all_append is_inline word (62 ∷ []) (name_inline word s.name) refl;
+    inline = all_append is_inline word (62 ∷ []) (tag_inline word s.named) refl;
     says = λ us. Tag bytes ∷ us;
     tells = tag_tells;
   }

@@ -5,7 +5,7 @@ use Rattle.std.specs.List.{list_all}
 use Rattle.std.specs.Char.{is_ascii_digit}
 use Rattle.std.specs.Str.Parse.{IsNumeral, without_leading_sign, signed_digits_value}
 use Rattle.unicode_ident.specs.Ident.{is_xid_continue}
-use Rattle.sn_lexer.specs.Spelling.{is_name, is_printable, quoted}
+use Rattle.sn_lexer.specs.Spelling.{is_name, behind_mark, is_printable, quoted}
 use Rattle.sn_lexer.specs.Fronts.{Stops}
 use Rattle.sn_record_tokens.specs.declared.token.Mark.{Mark as MarkKind}
 use Rattle.sn_record_tokens.specs.declared.token.Mark.TheVariants as mark
@@ -29,10 +29,15 @@ pub record SpellsName (word bytes : List ℕ) : Type 0 where
   pub name : IsTrue (is_name word)
   pub bytes_are : bytes ≡ encode_utf8_all word
 
--- a name in angle brackets, with nothing between
+-- a name, behind `#` where the tag is a binding one, and its bytes
+pub record SpellsTagName (word bytes : List ℕ) : Type 0 where
+  pub named : IsTrue (behind_mark is_name word)
+  pub bytes_are : bytes ≡ encode_utf8_all word
+
+-- a tag's name in angle brackets, with nothing between
 pub record SpellsTag (word bytes : List ℕ) : Type 0 where
   pub inside : List ℕ
-  pub name : SpellsName inside bytes
+  pub name : SpellsTagName inside bytes
   pub written : word ≡ 60 ∷ (inside ++ 62 ∷ [])
 
 -- an optional minus sign and one digit or more, leading zeros allowed, in the range of 64 bits

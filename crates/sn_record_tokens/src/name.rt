@@ -5,7 +5,7 @@ ghost use Rattle.sn_record_tokens.specs.declared.token.Token.{Token};
 ghost use Rattle.sn_record_tokens.specs.Tokens.{IsToken};
 ghost use Rattle.sn_record_tokens.specs.Reading.{BeginsNo};
 
-use sn_lexer::{after, read_name};
+use sn_lexer::{after, after_mark, read_name};
 use sn_list::{Memory, Seq};
 use std::alloc::Global;
 
@@ -21,7 +21,7 @@ pub fn copy_name(alloc: Global, text: &str) -> Result<Option<(Seq<u8>, &str)>, M
     Ok(Some((bytes, rest)))
 }
 
-/// The bytes of the name in the tag in front, and what follows the tag.
+/// The bytes of the name in the tag in front, with its `#`, and what follows the tag.
 pub fn copy_tag(alloc: Global, text: &str) -> Result<Option<(Seq<u8>, &str)>, Memory>
     ensures { IfOk result (λ found. MatchOption found (BeginsNo Token.Tag (chars text.now))
         (λ p. IsToken (Token.Tag p.0) (chars text.now) (chars p.1.now))) }
@@ -29,11 +29,12 @@ pub fn copy_tag(alloc: Global, text: &str) -> Result<Option<(Seq<u8>, &str)>, Me
     let Some(inside) = after(text, '<') else {
         return Ok(None);
     };
-    let Some((bytes, behind)) = copy_name(alloc, inside)? else {
+    let Some((_, behind)) = read_name(after_mark(inside)) else {
         return Ok(None);
     };
-    match after(behind, '>') {
-        Some(rest) => Ok(Some((bytes, rest))),
-        None => Ok(None),
-    }
+    let Some(rest) = after(behind, '>') else {
+        return Ok(None);
+    };
+    let bytes = Seq::from_slice(alloc, &inside.as_bytes()[..inside.len() - behind.len()])?;
+    Ok(Some((bytes, rest)))
 }

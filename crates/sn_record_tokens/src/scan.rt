@@ -95,8 +95,8 @@ fn read_next<'a>(
 /// Room is made for so many tokens before the first, and for more as they come.
 const FEW_TOKENS: usize = 32;
 
-/// The tokens of a line: the marks `{ } [ ] , =`, names as `word`, tags as `<word>`, numbers as `-12` and texts as
-/// `"said"`. Spaces, tabs and carriage returns may stand between them.
+/// The tokens of a line: the marks `{ } [ ] , =`, names as `word`, tags as `<word>` and `<#word>`, numbers as `-12`
+/// and texts as `"said"`. Spaces, tabs and carriage returns may stand between them.
 ///
 /// `Wrong` where the line has anything else: a number that 64 bits with a sign do not hold, a text that is not closed, a
 /// backslash in a text that escapes no quote and no backslash, or a character that begins no token.

@@ -17,7 +17,7 @@ pub enum Token {
     Mark(Mark),
     /// The bytes of a name. A keyword of the language is one too.
     Name(Seq<u8>),
-    /// The bytes of a name that stands in angle brackets.
+    /// The bytes of what stands in angle brackets: a name, behind `#` in a binding tag.
     Tag(Seq<u8>),
     Number(i64),
     /// What a text says, without its quotes and escapes: bytes 0x20 to 0x7E.

@@ -33,7 +33,7 @@ use Rattle.sn_roundtrip.proofs.Rows.{GoodRow, row_begins, row_goes_on, mild_head
 use Rattle.sn_roundtrip.proofs.Singles.{symbol_span, keyword_span, number_span, tag_span, name_span, literal_span, spaced_text, spaced, gap}
 use Rattle.sn_roundtrip.proofs.Spans.{HeadAt, head_at, Calm, Mild, Exactly, Free, Whole, Span}
 use Rattle.sn_roundtrip.proofs.Tags.{symbol_of, op_text, between, parens_span}
-use Rattle.sn_roundtrip.specs.Words.{IsIdentifier, IsWord, AreWords}
+use Rattle.sn_roundtrip.specs.Words.{IsIdentifier, IsTagName, IsWord, AreWords}
 use Rattle.sn_terminal.specs.Words.{keyword_word}
 
 -- a fold of an expression is one step over the folds of its parts
@@ -238,7 +238,7 @@ good_number n at w = record {
   };
 }
 
-good_tag : (name : Ident) → IsIdentifier name.text → GoodBox (measured.leaf (record { at = name.at; form = form.Tag name }))
+good_tag : (name : Ident) → IsTagName name.text → GoodBox (measured.leaf (record { at = name.at; form = form.Tag name }))
 good_tag name w = record {
   shown = alone (in_angles name.text);
   is = fold_tag box_step (λ e. e.form) name.at name;

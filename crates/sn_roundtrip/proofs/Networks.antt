@@ -37,7 +37,7 @@ use Rattle.sn_roundtrip.proofs.Rows.{GoodRow, row_begins, row_goes_on, calm_head
 use Rattle.sn_roundtrip.proofs.Singles.{symbol_span, tag_span, name_span, spaced_text, spaced}
 use Rattle.sn_roundtrip.proofs.Spans.{HeadAt, Calm, Free, Whole}
 use Rattle.sn_roundtrip.proofs.Tags.{GoodTag, good_tag_expr, tag_whole, parens_span}
-use Rattle.sn_roundtrip.specs.Words.{IsIdentifier, AreWords}
+use Rattle.sn_roundtrip.specs.Words.{IsIdentifier, IsTagName, AreWords}
 
 -- a fold of a network is one step over the folds of its parts
 module _ {A B : Type 0} (s : NetForm-F A B → A) (t : NetExpr-F A B → B) (at : ℕ) where
@@ -102,7 +102,7 @@ like_computed : (tag other : Ident) {e again : Measured TExpr} → unplaced_iden
     Like unplaced_item 0 (measured.each (computed_item tag) e) (measured.each (computed_item other) again)
 like_computed tag other is l = like_each unplaced_tag unplaced_item (λ a. computed_item (unplaced_ident tag) a) (computed_item tag) (computed_item other) (λ a. refl) (λ a. ap (λ n. computed_item n (unplaced_tag a)) is) l
 
-item_computed : (tag : Ident) (e : Measured TExpr) → IsIdentifier tag.text → GoodTag e → GoodItem (measured.each (computed_item tag) e)
+item_computed : (tag : Ident) (e : Measured TExpr) → IsTagName tag.text → GoodTag e → GoodItem (measured.each (computed_item tag) e)
 item_computed tag e w x = record {
   text = in_angles tag.text ++ (codes "=" ++ x.shown.text);
   is = ap (λ s. in_angles tag.text ++ (codes "=" ++ s.text)) x.is;
@@ -393,7 +393,7 @@ like_split det at other tag again is l = like_raise unplaced_net (like_each unpl
     (λ b. fold_split unplaced_net_form at_no_net_place at det b tag)
     (λ b. fold_split unplaced_net_form at_no_net_place other det b again ∙ ap (λ v. record { at = 0; form = form.Split det (unplaced_net b) v }) is) l)
 
-good_split : (det : Bool) (at : ℕ) {n : Measured NetExpr} (tag : Ident) → GoodNet n → IsIdentifier tag.text → GoodNet (with_split measured det at n tag)
+good_split : (det : Bool) (at : ℕ) {n : Measured NetExpr} (tag : Ident) → GoodNet n → IsTagName tag.text → GoodNet (with_split measured det at n tag)
 good_split det at {n} tag x w = record {
   shown = compound (operand x.shown ++ (spaced_text (split_symbol det) ++ in_angles tag.text));
   is = fold_split net_step (λ n. n.form) at det n.value tag ∙ (λ i. compound (operand (x.is i) ++ (split_text det i ++ in_angles tag.text)));

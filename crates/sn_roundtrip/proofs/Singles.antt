@@ -37,7 +37,7 @@ use Rattle.sn_terminal.specs.Words.{keyword_word, symbol_word, bracketed, Says, 
 use Rattle.sn_terminal.proofs.Bytes.{number_bytes, numeral_digits, text_bytes, tag_bytes, keyword_bytes, symbol_bytes}
 use Rattle.sn_roundtrip.proofs.Joins.{before}
 use Rattle.sn_roundtrip.proofs.Spans.{head_at, Calm, Exactly, End, Free, Whole, After, Begins, Follows, Stands, Told, Span, adjoin}
-use Rattle.sn_roundtrip.specs.Words.{IsIdentifier}
+use Rattle.sn_roundtrip.specs.Words.{IsIdentifier, IsTagName}
 use Rattle.sn_roundtrip.proofs.Joins.{scalars_append, width_append, pair_then}
 
 -- the place of what follows a front is the front's width
@@ -290,18 +290,18 @@ name_span {text} n = record {
   tells = name_tells n;
 }
 
-pub tag_scalar : {text : List ℕ} (n : IsIdentifier text) → all_scalars (bracketed n.word) ≡ true
+pub tag_scalar : {text : List ℕ} (n : IsTagName text) → all_scalars (bracketed n.word) ≡ true
 tag_scalar n = scalars_append n.word (62 ∷ []) n.scalar refl
 
-pub tag_encoded : {text : List ℕ} (n : IsIdentifier text) → encode_utf8_all (bracketed n.word) ≡ codes "<" ++ (text ++ codes ">")
-tag_encoded n = tag_bytes (bracketed n.word) record { name = n.word; identifier = n.identifier; written = refl } ∙ ap bracketed n.encoded
+pub tag_encoded : {text : List ℕ} (n : IsTagName text) → encode_utf8_all (bracketed n.word) ≡ codes "<" ++ (text ++ codes ">")
+tag_encoded n = tag_bytes (bracketed n.word) record { name = n.word; named = n.named; written = refl } ∙ ap bracketed n.encoded
 
-pub tag_tells : {text : List ℕ} (n : IsIdentifier text) (all : List ℕ) (p : ℕ) (rest : List ℕ) (us : List Terminal) → Stands all p (bracketed n.word ++ rest) → Follows Free rest → Told all rest us → Told all (bracketed n.word ++ rest) (terminal.Tag (record { text = text; at = p }) ∷ us)
+pub tag_tells : {text : List ℕ} (n : IsTagName text) (all : List ℕ) (p : ℕ) (rest : List ℕ) (us : List Terminal) → Stands all p (bracketed n.word ++ rest) → Follows Free rest → Told all rest us → Told all (bracketed n.word ++ rest) (terminal.Tag (record { text = text; at = p }) ∷ us)
 tag_tells {text} n all p rest us stands ends told =
-    let t = tag_token n.word (bracketed n.word ++ rest) rest n.identifier (ap (λ xs. 60 ∷ xs) (append_assoc n.word (62 ∷ []) rest)) in
+    let t = tag_token n.word (bracketed n.word ++ rest) rest n.named (ap (λ xs. 60 ∷ xs) (append_assoc n.word (62 ∷ []) rest)) in
     told_first all p kind.Tag (bracketed n.word) rest (terminal.Tag (record { text = text; at = p })) us stands t (tag (tag_encoded n)) told
 
-abbrev pub tag_span : {text : List ℕ} → IsIdentifier text → Span Calm Free (codes "<" ++ (text ++ codes ">"))
+abbrev pub tag_span : {text : List ℕ} → IsTagName text → Span Calm Free (codes "<" ++ (text ++ codes ">"))
 tag_span {text} n = record {
   piece = bracketed n.word;
   scalar = tag_scalar n;

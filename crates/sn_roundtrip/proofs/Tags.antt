@@ -25,7 +25,7 @@ use Rattle.sn_roundtrip.proofs.Joins.{before, calmly, mildly, mildly_exact, whol
 use Rattle.sn_roundtrip.proofs.Rereads.{Readable, reread, Like, like_leaf, like_inside, like_parens, like_loose, like_each, like_raise, like_join, like_three}
 use Rattle.sn_roundtrip.proofs.Singles.{symbol_span, number_span, tag_span, spaced_text, spaced}
 use Rattle.sn_roundtrip.proofs.Spans.{Calm, Mild, Whole, Span}
-use Rattle.sn_roundtrip.specs.Words.{IsIdentifier, IsWord, AreWords}
+use Rattle.sn_roundtrip.specs.Words.{IsTagName, IsWord, AreWords}
 
 -- a fold of an expression is one step over the folds of its parts
 module _ {A B : Type 0} (s : TForm-F A B → A) (t : TExpr-F A B → B) (at : ℕ) where
@@ -179,7 +179,7 @@ good_number n at w = record {
   };
 }
 
-good_name : (name : Ident) → IsIdentifier name.text → GoodTag (measured.leaf (record { at = name.at; form = form.Tag name }))
+good_name : (name : Ident) → IsTagName name.text → GoodTag (measured.leaf (record { at = name.at; form = form.Tag name }))
 good_name name w = record {
   shown = alone (in_angles name.text);
   is = fold_tag tag_step (λ e. e.form) name.at name;

@@ -47,7 +47,7 @@ word_is k word bytes at x spelled within scalar encoded (tag {name = text} is) =
     let outer = subst (λ w. all_scalars w ≡ true) spelled.written scalar in
     record {
       word = spelled.name;
-      identifier = spelled.identifier;
+      named = spelled.named;
       scalar = (scalars_parts spelled.name (62 ∷ []) outer).0;
       encoded = same_inside (encode_utf8_all spelled.name) text 60 62 (sym (tag_bytes word spelled) ∙ encoded ∙ is);
     }

@@ -22,10 +22,11 @@ use Rattle.sn_lexer.specs.declared.token.Token.{Token}
 use Rattle.sn_lexer.proofs.Heads.{is_ascii, starts_name_ascii}
 use Rattle.sn_lexer.specs.declared.token.TokenKind.TheVariants as kind
 use Rattle.sn_lexer.proofs.Plain.{ascii_bytes}
+use Rattle.sn_lexer.proofs.TagNames.{identifier_tag}
 use Rattle.sn_lexer.proofs.Tokens.{numeral_token}
 use Rattle.sn_terminal.specs.Words.{keyword_word, symbol_word, bracketed, Says, number, Say}
 use Rattle.sn_terminal.proofs.Bytes.{number_bytes, numeral_digits}
-use Rattle.sn_roundtrip.specs.Words.{IsIdentifier}
+use Rattle.sn_roundtrip.specs.Words.{IsIdentifier, IsTagName}
 use Rattle.sn_roundtrip.proofs.Spans.{Exactly, End, Free, Whole, After, Follows, adjoin, Stands, Told}
 use Rattle.sn_roundtrip.proofs.Joins.{follows, stands_behind, scalars_append}
 use Rattle.sn_roundtrip.proofs.Singles.{symbol_end, symbol_encoded, symbol_scalar, symbol_tells, keyword_encoded, keyword_scalar, keyword_tells, gap_encoded, gap_tells, name_tells, tag_encoded, tag_scalar, tag_tells, told_first}
@@ -149,6 +150,12 @@ identifier_of text h =
       encoded = ascii_bytes text plain.1;
     }
 
+tag_name_of : (text : List ℕ) → (is_plain text && not (is_keyword text)) ≡ true → IsTagName text
+unfolding identifier_of
+tag_name_of text h =
+    let n = identifier_of text h in
+    record { word = text; named = identifier_tag text n.identifier; scalar = n.scalar; encoded = n.encoded }
+
 follows_any : (e : End) (rest : List ℕ) → goes_on e rest ≡ true → Follows e rest
 follows_any Free rest h = tt
 follows_any Whole [] h = absurd (differ h)
@@ -164,18 +171,18 @@ follows_any (After a) (c ∷ cs) h = follows (After a) (Exactly c) (c ∷ []) cs
 
 -- a word's characters are scalars and their own bytes
 word_scalar : (w : Word) → is_word w ≡ true → all_scalars (word_text w) ≡ true
-unfolding identifier_of
+unfolding identifier_of tag_name_of
 word_scalar (Name text) h = (identifier_of text h).scalar
-word_scalar (Tag text) h = tag_scalar (identifier_of text h)
+word_scalar (Tag text) h = tag_scalar (tag_name_of text h)
 word_scalar (Number digits) h = ascii_scalars digits (digits_ascii digits (numeral_digits digits (and_parts _ _ h).0))
 word_scalar (Key k) h = keyword_scalar k
 word_scalar (Mark s) h = symbol_scalar s
 word_scalar Blank h = refl
 
 word_encoded : (w : Word) → is_word w ≡ true → encode_utf8_all (word_text w) ≡ word_text w
-unfolding identifier_of
+unfolding identifier_of tag_name_of
 word_encoded (Name text) h = (identifier_of text h).encoded
-word_encoded (Tag text) h = tag_encoded (identifier_of text h)
+word_encoded (Tag text) h = tag_encoded (tag_name_of text h)
 word_encoded (Number digits) h = number_bytes digits (and_parts _ _ h).0
 word_encoded (Key k) h = keyword_encoded k
 word_encoded (Mark s) h = symbol_encoded s
@@ -183,9 +190,9 @@ word_encoded Blank h = gap_encoded 32 refl
 
 word_told : (w : Word) → is_word w ≡ true → (all : List ℕ) (p : ℕ) (rest : List ℕ) (us : List Terminal) → Stands all p (word_text w ++ rest) → Follows (word_end w) rest →
     Told all rest us → Told all (word_text w ++ rest) (word_said w p us)
-unfolding identifier_of
+unfolding identifier_of tag_name_of
 word_told (Name text) h all p rest us stands ends told = name_tells (identifier_of text h) all p rest us stands ends told
-word_told (Tag text) h all p rest us stands ends told = tag_tells (identifier_of text h) all p rest us stands ends told
+word_told (Tag text) h all p rest us stands ends told = tag_tells (tag_name_of text h) all p rest us stands ends told
 word_told (Number digits) h all p rest us stands ends told =
     let parts = and_parts (is_numeral digits) (nat_le (digits_value 10 digits) 9223372036854775807) h in
     let token = numeral_token digits (digits ++ rest) rest parts.0 (leb-true (digits_value 10 digits) 9223372036854775807 parts.1) ends.1 refl in
