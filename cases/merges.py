@@ -7,9 +7,14 @@ streams that it may answer, each of which has as many segments.
 import itertools
 
 
+def label(name):
+    """The label of a word of Python: `__k` is `<#k>`, `_k` is `<k>`, and any other word a field."""
+    return f"<#{name[2:]}>" if name.startswith("__") else f"<{name[1:]}>" if name.startswith("_") else name
+
+
 def record(**values):
     """record(a=1, _k=2) is the record `{a=1, <k>=2}`."""
-    return frozenset((f"<{name[1:]}>" if name.startswith("_") else name, value) for name, value in values.items())
+    return frozenset((label(name), value) for name, value in values.items())
 
 
 def line(r):

@@ -182,6 +182,33 @@ NETWORKS = [
         star(free, is_done, split(in_turn, "<k>", serial(taking("a")(lambda a: [{"a": a + 1}]), counts_down()))),
         [record(a=1, _n=2, _k=0), record(a=2, _n=1, _k=1), record(a=3, _n=1, _k=0)],
     ),
+    # What has the binding tag goes to the branch that names it, though the other one names more labels.
+    Network(
+        "a free choice told by a binding tag",
+        "net main ({a,b,c} | {a,b,c,<#k>} -> {x} | {b,c,y}) connect [{a,<#k>} -> {y=a}] | [{a,b,c} -> {x=a}];",
+        choice(
+            free,
+            ({"<#k>"}, taking("a", "<#k>")(lambda a, _: [{"y": a}])),
+            ({"a"}, taking("a", "b", "c")(lambda a, *_: [{"x": a}])),
+        ),
+        [record(a=1, b=0, c=0), record(a=2, b=0, c=0, __k=7), record(a=3, b=0, c=0), record(a=4, b=0, c=0, __k=7)],
+    ),
+    Network(
+        "a free split by a binding tag",
+        "box f ((a,<#k>) -> (x,<#k>)) { out 1(a + 1, <#k>) } net main ({a,<#k>} -> {x,<#k>}) connect f ! <#k>;",
+        split(free, "<#k>", taking("a")(lambda a: [{"x": a + 1}])),
+        [record(a=1, __k=0), record(a=2, __k=1), record(a=3, __k=0), record(a=4, __k=1)],
+    ),
+    Network(
+        "a free star whose exit has a binding tag",
+        "net main ({a} | {b} -> {c,<#done>}) connect ([{a} -> {b=a}] || [{b} -> {c=b,<#done>=1}]) * {c,<#done>};",
+        star(
+            free,
+            lambda r: "<#done>" in dict(r),
+            choice(in_turn, ({"a"}, renames("a", "b")), ({"b"}, taking("b")(lambda b: [{"c": b, "<#done>": 1}]))),
+        ),
+        [record(a=1), record(b=2), record(a=3)],
+    ),
 ]
 
 

@@ -13,7 +13,7 @@ pub(crate) const BAD_UTF8: &[u8] =
     b"The source is not UTF-8 from this byte on. Save the file as UTF-8.";
 
 pub(crate) const BAD_CHAR: &[u8] =
-    b"No token begins with this character: a . or & that is not doubled, a backslash in a text before another character than \" or \\, or a character outside the language.";
+    b"No token begins with this character: a . or & that is not doubled, a # that is not part of a binding tag such as <#t>, a backslash in a text before another character than \" or \\, or a character outside the language.";
 
 pub(crate) const NUMBER_TOO_WIDE: &[u8] =
     b"The number is larger than 9223372036854775807, the largest integer of 64 bits.";

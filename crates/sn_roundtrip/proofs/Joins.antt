@@ -1,10 +1,10 @@
 -- Two texts that may stand side by side are one text, and what a text begins with may be said less exactly.
-use Rattle.std.proofs.Common.{◌≡◌, ℕ, ◌+◌, ◌<◌, ◌≤◌, ◌==◌, ◌||◌, ◌&&◌, Bool, true, false, not, nat_lt, List, [], ◌∷◌, ◌++◌, length, length-append, append_assoc, map, refl, sym, ap, ◌∙◌, subst, arith}
+use Rattle.std.proofs.Common.{◌≡◌, ℕ, ◌+◌, ◌<◌, ◌≤◌, ◌==◌, ◌||◌, ◌&&◌, Bool, true, false, not, nat_lt, List, [], ◌∷◌, ◌++◌, length, length-append, append_assoc, map, refl, sym, ap, ◌∙◌, subst, inr, arith}
 use Rattle.std.specs.Prelude.{encode_utf8_all}
 use Rattle.std.specs.Char.{is_ascii_digit, is_ascii_alphanumeric}
 use Rattle.std.specs.List.{list_any, list_all}
 use Rattle.std.specs.Str.{all_scalars}
-use Rattle.std.proofs.lemmas.Bool.{false≢true, and_parts, and_from, or_from, or_right, not-true, ltb-true, eqb-true}
+use Rattle.std.proofs.lemmas.Bool.{false≢true, and_parts, and_from, or_from, or_right, not-true, ltb-true, eqb-true, ne_eqb}
 use Rattle.std.proofs.lemmas.Bool.Decides.{nat_tests}
 use Rattle.std.proofs.lemmas.Str.{encodes-append}
 use Rattle.unicode_ident.proofs.IdentLemmas.{is_xid_continue-ascii}
@@ -123,8 +123,9 @@ blank_no_tag : (a c : ℕ) (rest : List ℕ) → is_blank c ≡ true → BeginsN
 blank_no_tag a c rest blank =
     let low = blank_below c blank in
     let no_start = fails (starts_name c) (λ h. let high = starts_above c h in omega arith) in
+    let no_mark = ne_eqb c 35 (λ e. omega arith) in
     elim (a == 60) as (λ b. (a == 60) ≡ b → BeginsNoTag (a ∷ c ∷ rest)) [
-      | true ↦ λ angle. no_tag_name (a ∷ c ∷ rest) (c ∷ rest) (ap (λ x. x ∷ c ∷ rest) (eqb-true a 60 angle)) no_start
+      | true ↦ λ angle. no_tag_name (a ∷ c ∷ rest) (c ∷ rest) (c ∷ rest) (ap (λ x. x ∷ c ∷ rest) (eqb-true a 60 angle)) (inr (refl, no_mark)) no_start
       | false ↦ λ other. no_tag_open (a ∷ c ∷ rest) other
     ] refl
 
