@@ -8,14 +8,13 @@ use Rattle.sn_record.specs.declared.label.Label.{Label}
 use Rattle.sn_record.specs.Record.{Entries}
 use Rattle.sn_names.specs.Names.{IsHeld, is_held, name_at, numbered, place_of}
 use Rattle.sn_names.proofs.NamesLaws.{all_added, all_entered_is, is_held-each, same_as_itself}
-use Rattle.sn_record_tokens.specs.Tokens.{SpellsName}
 use Rattle.sn_record_parser.specs.declared.entry.Entry.{Entry}
 use Rattle.sn_input.specs.declared.input.Input.{Input}
 use Rattle.sn_input.specs.declared.input.InputFault.{InputFault}
 use Rattle.sn_input.specs.Numbered.{record_of, with_entries}
 use Rattle.sn_input.specs.Reading.{IsTaken, Reads, ReadsFile, with_record}
 use Rattle.sn_input.specs.Reading.Reads.{end, blank, taken, refused}
-use Rattle.sn_record_roundtrip.specs.Writable.{HasName, IsWritable}
+use Rattle.sn_record_roundtrip.specs.Writable.{HasName, IsWritable, SpellsLabel}
 use Rattle.sn_record_roundtrip.proofs.Spelled.{line_writable}
 
 kept_name : (names rest : List (List ℕ)) (i : ℕ) → i < length names → name_at (names ++ rest) i ≡ name_at names i
@@ -33,7 +32,7 @@ name_stays : (names rest : List (List ℕ)) (l : Label) → HasName names l → 
 name_stays names rest l named = record {
   held = held_stays names rest l.id named.held;
   word = named.word;
-  spelled = subst (SpellsName named.word) (sym (kept_name names rest (place_of l.id) named.held.within)) named.spelled;
+  spelled = subst (SpellsLabel l.kind named.word) (sym (kept_name names rest (place_of l.id) named.held.within)) named.spelled;
 }
 
 stays : (names rest : List (List ℕ)) (r : Entries) → IsWritable names r → IsWritable (names ++ rest) r
