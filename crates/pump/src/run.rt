@@ -48,6 +48,7 @@ pub fn started(alloc: Global, count: u32) -> Result<Run, Refusal> {
     let filter = Filter {
         place: 0,
         pattern: LabelSet::new(alloc),
+        arms: Seq::new(alloc),
         templates: Seq::new(alloc),
     };
     if !filter.is_closed() {

@@ -1,12 +1,15 @@
 -- A map of parts carries the grammar of networks both ways.
 use Rattle.std.proofs.Common.{ℕ, Bool, List, [], ◌≡◌, Option, Some, None, refl, ◌∙◌, ap}
-use Rattle.sn_ast.proofs.Maps.{Map, each_of, row_of, pair_of, node_of, parens_of}
+use Rattle.sn_ast.proofs.Maps.{Map, each_of, join_of, row_of, pair_of, node_of, parens_of}
 use Rattle.sn_ast.proofs.TransferTags.{to_tag_expr, from_tag_expr}
 use Rattle.sn_ast.specs.Measures.{Measuring}
-use Rattle.sn_ast.specs.Networks.{computed_item, filter_at, serial_at, choice_at, star_at, split_at, with_star, with_guarded_star, with_split, serial_of, chained, choice_with, branched, GoesOn}
+use Rattle.sn_ast.specs.Networks.{computed_item, arm_of, filter_at, serial_at, choice_at, star_at, split_at, with_star, with_guarded_star, with_split, serial_of, chained, choice_with, branched, GoesOn}
 use Rattle.sn_ast.specs.Networks.{Item, same, renamed, computed, MoreItems, last_item, more_items, Items, no_items, items, Template, template, MoreTemplates, last_template, more_templates, Filter, filter}
+use Rattle.sn_ast.specs.Networks.{ArmTemplates, arm_ends, arm_goes_on, Arm, arm, MoreArms, last_arm, more_arms, Arms, no_arms, arms, LastTemplates, last_templates}
 use Rattle.sn_ast.specs.Networks.{Atom, name, identity, filtered, sync, parens, Post, post, Posts, bare, star, guarded_star, split, Serial, serial, MoreSerial, last, dots, Network, network, MoreBranches, final, branch}
 use Rattle.sn_ast.specs.Rows.{no_parts, with_part}
+use Rattle.sn_ast.specs.declared.label.Variant.{Variant}
+use Rattle.sn_ast.specs.declared.network.ArmAt.{ArmAt}
 use Rattle.sn_ast.specs.declared.network.ItemAt.{ItemAt}
 use Rattle.sn_ast.specs.declared.network.NetExpr.{NetExpr}
 use Rattle.sn_ast.specs.declared.network.TemplateAt.{TemplateAt}
@@ -34,8 +37,28 @@ module _ {F G : Type 0 → Type 0} (m : Measuring F) (n : Measuring G) (h : Map 
   to_more_templates last_template = last_template
   to_more_templates (more_templates a d) = more_templates (to_template a) (rw h.of_join at (to_more_templates d))
 
+  to_arm_templates : {so_far all : F (List TemplateAt)} {ts us : List Terminal} →
+      ArmTemplates m so_far ts all us → ArmTemplates n (h.map so_far) ts (h.map all) us
+  to_arm_templates arm_ends = arm_ends
+  to_arm_templates (arm_goes_on a d) = arm_goes_on (to_template a) (rw h.of_join at (to_arm_templates d))
+
+  to_arm : {a : F ArmAt} {ts us : List Terminal} → Arm m ts a us → Arm n ts (h.map a) us
+  to_arm (arm g a d) = rw h.of_join (arm (to_tag_expr m n h g) (to_template a) (rw (h.of_join, h.of_leaf) at (to_arm_templates d)))
+
+  to_more_arms : {so_far all : F (List ArmAt)} {ts us : List Terminal} → MoreArms m so_far ts all us → MoreArms n (h.map so_far) ts (h.map all) us
+  to_more_arms last_arm = last_arm
+  to_more_arms (more_arms a d) = more_arms (to_arm a) (rw h.of_join at (to_more_arms d))
+
+  to_arms : {all : F (List ArmAt)} {ts us : List Terminal} → Arms m ts all us → Arms n ts (h.map all) us
+  to_arms no_arms = rw h.of_leaf no_arms
+  to_arms (arms a d) = arms (to_arm a) (rw (h.of_join, h.of_leaf) at (to_more_arms d))
+
+  to_last_templates : {at : ℕ} {pattern : Variant} {before : F (List ArmAt)} {e : F NetExpr} {ts us : List Terminal} →
+      LastTemplates m at pattern before ts e us → LastTemplates n at pattern (h.map before) ts (h.map e) us
+  to_last_templates (last_templates a d) = rw h.of_join (last_templates (to_template a) (rw (h.of_join, h.of_leaf) at (to_more_templates d)))
+
   pub to_filter : {at : ℕ} {e : F NetExpr} {ts us : List Terminal} → Filter m at ts e us → Filter n at ts (h.map e) us
-  to_filter (filter v a d) = rw h.of_each (filter v (to_template a) (rw (h.of_join, h.of_leaf) at (to_more_templates d)))
+  to_filter (filter v a d) = filter v (to_arms a) (to_last_templates d)
 
   from_item : {y : G ItemAt} {ts us : List Terminal} → Item n ts y us → (i : F ItemAt) × Item m ts i us × (h.map i ≡ y)
   from_item (same i) = (m.leaf _, same i, h.of_leaf _)
@@ -72,11 +95,45 @@ module _ {F G : Type 0 → Type 0} (m : Measuring F) (n : Measuring G) (h : Map 
       let r = from_more_templates d (with_part m so_far p.0) (row_of m n h s p.2) in
       (r.0, more_templates p.1 r.1, r.2)
 
-  pub from_filter : {at : ℕ} {y : G NetExpr} {ts us : List Terminal} → Filter n at ts y us → (e : F NetExpr) × Filter m at ts e us × (h.map e ≡ y)
-  from_filter {at} (filter {pattern} v a d) =
+  from_arm_templates : {x y : G (List TemplateAt)} {ts us : List Terminal} → ArmTemplates n x ts y us →
+      (so_far : F (List TemplateAt)) → h.map so_far ≡ x → (all : F (List TemplateAt)) × ArmTemplates m so_far ts all us × (h.map all ≡ y)
+  from_arm_templates arm_ends so_far s = (so_far, arm_ends, s)
+  from_arm_templates (arm_goes_on a d) so_far s =
+      let p = from_template a in
+      let r = from_arm_templates d (with_part m so_far p.0) (row_of m n h s p.2) in
+      (r.0, arm_goes_on p.1 r.1, r.2)
+
+  from_arm : {y : G ArmAt} {ts us : List Terminal} → Arm n ts y us → (a : F ArmAt) × Arm m ts a us × (h.map a ≡ y)
+  from_arm (arm g a d) =
+      let q = from_tag_expr m n h g in
+      let p = from_template a in
+      let r = from_arm_templates d (with_part m (no_parts m) p.0) (row_of m n h (h.of_leaf []) p.2) in
+      (m.join arm_of q.0 r.0, arm q.1 p.1 r.1, join_of m n h arm_of q.2 r.2)
+
+  from_more_arms : {x y : G (List ArmAt)} {ts us : List Terminal} → MoreArms n x ts y us →
+      (so_far : F (List ArmAt)) → h.map so_far ≡ x → (all : F (List ArmAt)) × MoreArms m so_far ts all us × (h.map all ≡ y)
+  from_more_arms last_arm so_far s = (so_far, last_arm, s)
+  from_more_arms (more_arms a d) so_far s =
+      let p = from_arm a in
+      let r = from_more_arms d (with_part m so_far p.0) (row_of m n h s p.2) in
+      (r.0, more_arms p.1 r.1, r.2)
+
+  from_arms : {y : G (List ArmAt)} {ts us : List Terminal} → Arms n ts y us → (all : F (List ArmAt)) × Arms m ts all us × (h.map all ≡ y)
+  from_arms no_arms = (no_parts m, no_arms, h.of_leaf [])
+  from_arms (arms a d) =
+      let p = from_arm a in
+      let r = from_more_arms d (with_part m (no_parts m) p.0) (row_of m n h (h.of_leaf []) p.2) in
+      (r.0, arms p.1 r.1, r.2)
+
+  from_last_templates : {at : ℕ} {pattern : Variant} {x : G (List ArmAt)} {y : G NetExpr} {ts us : List Terminal} → LastTemplates n at pattern x ts y us →
+      (before : F (List ArmAt)) → h.map before ≡ x → (e : F NetExpr) × LastTemplates m at pattern before ts e us × (h.map e ≡ y)
+  from_last_templates {at} {pattern} (last_templates a d) before s =
       let p = from_template a in
       let r = from_more_templates d (with_part m (no_parts m) p.0) (row_of m n h (h.of_leaf []) p.2) in
-      (m.each (filter_at at pattern) r.0, filter v p.1 r.1, each_of m n h (filter_at at pattern) r.2)
+      (m.join (filter_at at pattern) before r.0, last_templates p.1 r.1, join_of m n h (filter_at at pattern) s r.2)
+
+  pub from_filter : {at : ℕ} {y : G NetExpr} {ts us : List Terminal} → Filter n at ts y us → (e : F NetExpr) × Filter m at ts e us × (h.map e ≡ y)
+  from_filter (filter v a d) = let p = from_arms a in let r = from_last_templates d p.0 p.2 in (r.0, filter v p.1 r.1, r.2)
 
   -- the parts of a serial list so far
   abbrev chain_map : Option (ℕ × F (List NetExpr)) → Option (ℕ × G (List NetExpr))

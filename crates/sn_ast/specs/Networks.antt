@@ -8,13 +8,14 @@ use Rattle.sn_ast.specs.Terminals.{label_of, link_of}
 use Rattle.sn_ast.specs.declared.label.Ident.{Ident}
 use Rattle.sn_ast.specs.declared.label.LabelAt.{LabelAt}
 use Rattle.sn_ast.specs.declared.label.Variant.{Variant}
+use Rattle.sn_ast.specs.declared.network.ArmAt.{ArmAt}
 use Rattle.sn_ast.specs.declared.network.ItemAt.{ItemAt}
 use Rattle.sn_ast.specs.declared.network.ItemSource.TheVariants.{Same, Field, Expr}
 use Rattle.sn_ast.specs.declared.network.NetExpr.{NetExpr}
 use Rattle.sn_ast.specs.declared.network.NetForm.TheVariants as net_form
 use Rattle.sn_ast.specs.declared.network.TemplateAt.{TemplateAt}
 use Rattle.sn_ast.specs.declared.tag_expr.TExpr.{TExpr}
-use Rattle.sn_ast.specs.declared.terminal.Keyword.TheVariants.{If}
+use Rattle.sn_ast.specs.declared.terminal.Keyword.TheVariants.{If, Else}
 use Rattle.sn_ast.specs.declared.terminal.Link.TheVariants.{Branch as BranchLink, Star as StarLink, Split as SplitLink}
 use Rattle.sn_ast.specs.declared.terminal.Symbol.{Symbol as SomeSymbol}
 use Rattle.sn_ast.specs.declared.terminal.Symbol.TheVariants.{OpenParen, CloseParen, OpenBrace, CloseBrace, OpenBracket, CloseBracket, OpenSync, CloseSync, Comma, Semicolon, Assign, Arrow, Dots}
@@ -31,9 +32,13 @@ renamed_item new old = record { target = record { tag = false; name = new }; sou
 abbrev pub computed_item : Ident → TExpr → ItemAt
 computed_item tag e = record { target = record { tag = true; name = tag }; source = Expr e }
 
+-- an arm of a filter
+abbrev pub arm_of : TExpr → List TemplateAt → ArmAt
+arm_of guard templates = record { guard = guard; templates = templates }
+
 -- the nodes of a network
-abbrev pub filter_at : ℕ → Variant → List TemplateAt → NetExpr
-filter_at at pattern templates = record { at = at; form = net_form.Filter pattern templates }
+abbrev pub filter_at : ℕ → Variant → List ArmAt → List TemplateAt → NetExpr
+filter_at at pattern arms templates = record { at = at; form = net_form.Filter pattern arms templates }
 
 abbrev pub sync_at : ℕ → List Variant → NetExpr
 sync_at at patterns = record { at = at; form = net_form.Sync patterns }
@@ -114,11 +119,39 @@ pub data MoreTemplates {F : Type 0 → Type 0} (m : Measuring F) : F (List Templ
   more_templates : {at : ℕ} {t : F TemplateAt} {so_far all : F (List TemplateAt)} {ts us vs : List Terminal} →
       Template m ts t us → MoreTemplates m (with_part m so_far t) us all vs → MoreTemplates m so_far (Symbol Semicolon at ∷ ts) all vs
 
--- variant "->" template { ";" template } "]", after the filter's opening bracket
+-- { ";" template }, after the templates so far of an arm
+pub data ArmTemplates {F : Type 0 → Type 0} (m : Measuring F) : F (List TemplateAt) → List Terminal → F (List TemplateAt) → List Terminal → Type 0 where
+  arm_ends : {all : F (List TemplateAt)} {us : List Terminal} → ArmTemplates m all us all us
+  arm_goes_on : {at : ℕ} {t : F TemplateAt} {so_far all : F (List TemplateAt)} {ts us vs : List Terminal} →
+      Template m ts t us → ArmTemplates m (with_part m so_far t) us all vs → ArmTemplates m so_far (Symbol Semicolon at ∷ ts) all vs
+
+-- arm = "if" "(" texpr ")" "->" template { ";" template }, whose parentheses are not counted
+pub data Arm {F : Type 0 → Type 0} (m : Measuring F) : List Terminal → F ArmAt → List Terminal → Type 0 where
+  arm : {at opening close arrow : ℕ} {g : F TExpr} {t : F TemplateAt} {all : F (List TemplateAt)} {ts us vs ws : List Terminal} →
+      TagExpr m ts g (Symbol CloseParen close ∷ Symbol Arrow arrow ∷ us) → Template m us t vs → ArmTemplates m (with_part m (no_parts m) t) vs all ws →
+      Arm m (Keyword If at ∷ Symbol OpenParen opening ∷ ts) (m.join arm_of g all) ws
+
+-- { arm } "else" "->", after the arms so far
+pub data MoreArms {F : Type 0 → Type 0} (m : Measuring F) : F (List ArmAt) → List Terminal → F (List ArmAt) → List Terminal → Type 0 where
+  last_arm : {at arrow : ℕ} {all : F (List ArmAt)} {us : List Terminal} → MoreArms m all (Keyword Else at ∷ Symbol Arrow arrow ∷ us) all us
+  more_arms : {a : F ArmAt} {so_far all : F (List ArmAt)} {ts us vs : List Terminal} →
+      Arm m ts a us → MoreArms m (with_part m so_far a) us all vs → MoreArms m so_far ts all vs
+
+-- "->" | arm { arm } "else" "->"
+pub data Arms {F : Type 0 → Type 0} (m : Measuring F) : List Terminal → F (List ArmAt) → List Terminal → Type 0 where
+  no_arms : {arrow : ℕ} {us : List Terminal} → Arms m (Symbol Arrow arrow ∷ us) (no_parts m) us
+  arms : {a : F ArmAt} {all : F (List ArmAt)} {ts us vs : List Terminal} →
+      Arm m ts a us → MoreArms m (with_part m (no_parts m) a) us all vs → Arms m ts all vs
+
+-- template { ";" template } "]", behind the arms of a filter
+pub data LastTemplates {F : Type 0 → Type 0} (m : Measuring F) (at : ℕ) (pattern : Variant) (arms : F (List ArmAt)) : List Terminal → F NetExpr → List Terminal → Type 0 where
+  last_templates : {t : F TemplateAt} {all : F (List TemplateAt)} {us vs ws : List Terminal} →
+      Template m us t vs → MoreTemplates m (with_part m (no_parts m) t) vs all ws → LastTemplates m at pattern arms us (m.join (filter_at at pattern) arms all) ws
+
+-- variant ( "->" | arm { arm } "else" "->" ) template { ";" template } "]", after the filter's opening bracket
 pub data Filter {F : Type 0 → Type 0} (m : Measuring F) (at : ℕ) : List Terminal → F NetExpr → List Terminal → Type 0 where
-  filter : {arrow : ℕ} {pattern : Variant} {t : F TemplateAt} {all : F (List TemplateAt)} {ts us vs ws : List Terminal} →
-      IsVariant ts pattern (Symbol Arrow arrow ∷ us) → Template m us t vs → MoreTemplates m (with_part m (no_parts m) t) vs all ws →
-      Filter m at ts (m.each (filter_at at pattern) all) ws
+  filter : {pattern : Variant} {arms : F (List ArmAt)} {n : F NetExpr} {ts us vs ws : List Terminal} →
+      IsVariant ts pattern us → Arms m us arms vs → LastTemplates m at pattern arms vs n ws → Filter m at ts n ws
 
 -- { "," variant } "|]", after the patterns so far
 pub data MorePatterns : List Variant → List Terminal → List Variant → List Terminal → Type 0 where

@@ -18,7 +18,7 @@ pub use declaration::{BoxDecl, Decl, FunDecl, NetDecl, Program};
 pub use fault::ParseFault;
 pub use label::{Ident, LabelAt, Sig, Text, Tuple, TypePart, Variant};
 pub use measure::{Kept, Measured};
-pub use network::{ItemAt, ItemSource, NetExpr, NetForm, TemplateAt};
+pub use network::{ArmAt, ItemAt, ItemSource, NetExpr, NetForm, TemplateAt};
 pub use sn_list::{Boxed, Seq};
 pub use tag_expr::{Operator, TExpr, TForm};
 pub use terminal::{Bracket, Infix, Keyword, Link, Sign, Symbol, Terminal};

@@ -18,6 +18,8 @@ pub enum NetForm {
     Identity,
     Filter {
         pattern: Variant,
+        arms: Seq<ArmAt>,
+        /// The last list.
         templates: Seq<TemplateAt>,
     },
     Sync {
@@ -41,6 +43,13 @@ pub enum NetForm {
         body: Boxed<NetExpr>,
         tag: Ident,
     },
+}
+
+/// A guard of a filter, and what the filter emits where it is the first that is not 0.
+#[derive(Drop)]
+pub struct ArmAt {
+    pub guard: TExpr,
+    pub templates: Seq<TemplateAt>,
 }
 
 /// What a filter emits, and the place of its `{`.

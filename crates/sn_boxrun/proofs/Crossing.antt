@@ -8,4 +8,4 @@ pub job_send : IsSend job.the_row
 job_send = search parts depth 60 fits 100000
 
 pub done_send : IsSend done.the_row
-done_send = search (parts, run_send, run_sync) depth 60 fits 100000
+done_send = search (run_send, run_sync, parts) depth 60 fits 100000

@@ -31,10 +31,10 @@ pub(crate) const TWICE: &[u8] =
     b"The name is declared a second time in its scope; or a label stands twice in a variant, a tuple or a template; or a function or a parameter has the name of another one, or of a built-in function. Rename one of the two.";
 
 pub(crate) const ARITY: &[u8] =
-    b"The number of parts is wrong: 2 to 64 branches, 2 to 8 patterns, 1 to 16 templates, 0 to 8 parameters, as many arguments as the function has parameters, and as many values behind out N as the output tuple N has labels.";
+    b"The number of parts is wrong: 2 to 64 branches, 2 to 8 patterns, at most 16 arms of a filter, 1 to 16 templates in an arm or behind the arms, 0 to 8 parameters, as many arguments as the function has parameters, and as many values behind out N as the output tuple N has labels.";
 
 pub(crate) const GUARD_TAG: &[u8] =
-    b"The guard of the star uses a tag that its exit pattern does not name. Add the tag to the exit pattern.";
+    b"The guard of a star uses a tag that the exit pattern does not name, or the guard of an arm one that the filter's pattern does not name. Add the tag to the pattern.";
 
 pub(crate) const NO_MAIN: &[u8] =
     b"The source has no outermost net main with a signature. Declare net main (.. -> ..) connect ..;";

@@ -1,2 +1,3 @@
 pub mod Adding
 pub mod OnePart
+pub mod Using

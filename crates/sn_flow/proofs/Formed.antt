@@ -14,6 +14,7 @@ use Rattle.sn_record.specs.contracts.label_set.LabelSet as labels
 use Rattle.sn_tagexpr.specs.declared.expr.TagExpr.{TagExpr}
 use Rattle.sn_net.specs.declared.expr.BoxProgram.{BoxProgram}
 use Rattle.sn_net.specs.declared.filter.Filter.{Filter}
+use Rattle.sn_net.specs.Filter.{every_template}
 use Rattle.sn_net.specs.declared.net.Merge.{Merge}
 use Rattle.sn_net.specs.declared.net.Net.{Net}
 use Rattle.sn_net.specs.declared.net.Net.TheOpen.{Net-F}
@@ -79,7 +80,7 @@ module _ (boxes : List BoxProgram) (net : Net) where
       → outline boxes net ≡ Component place (variant_of program.input ∷ []) (variant_of program.input) (map variant_of program.outputs)
   box_is place number program is here = ap (outline boxes) is ∙ outline-Box boxes place number ∙ ap (box_outline place) here
 
-  pub filter_is : (filter : Filter) → net ≡ form.Filter filter → outline boxes net ≡ Component filter.place (filter.pattern ∷ []) filter.pattern (map template_variant filter.templates)
+  pub filter_is : (filter : Filter) → net ≡ form.Filter filter → outline boxes net ≡ Component filter.place (filter.pattern ∷ []) filter.pattern (map template_variant (every_template filter))
   filter_is filter is = ap (outline boxes) is ∙ outline-Filter boxes filter
 
   pub sync_is : (place : ℕ) (patterns : List Labels) → net ≡ form.Sync place patterns → outline boxes net ≡ Component place patterns finite.empty (finite.empty ∷ [])

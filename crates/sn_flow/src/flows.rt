@@ -1,7 +1,8 @@
 //! What components answer to a variant.
-ghost use Rattle.std.specs.Prelude.{◌≡◌, ◌∷◌, [], IfOk, map};
+ghost use Rattle.std.specs.Prelude.{◌≡◌, ◌++◌, ◌∷◌, [], IfOk, OnOk, map};
 ghost use Rattle.std.specs.FinMap.{empty};
 ghost use Rattle.sn_net.specs.Face.{variant_of};
+ghost use Rattle.sn_net.specs.Filter.{every_template};
 ghost use Rattle.sn_typing.specs.Outline.{template_variant};
 ghost use Rattle.sn_flow.specs.Visits.{ComponentFlows};
 
@@ -59,15 +60,30 @@ fn template_set(alloc: Global, template: &Template) -> Result<LabelSet, Memory>
     Ok(set)
 }
 
-/// The labels that each template sets.
-fn template_sets(alloc: Global, templates: &[Template]) -> Result<Seq<LabelSet>, Memory>
-    ensures { IfOk result (λ sets. sets ≡ map template_variant templates.now) }
+/// Appends the labels that each template sets.
+fn push_template_sets(
+    alloc: Global,
+    sets: &mut Seq<LabelSet>,
+    templates: &[Template],
+) -> Result<(), Memory>
+    ensures { OnOk result (sets.new ≡ sets.old ++ map template_variant templates.now) }
 {
-    let mut sets = Seq::new(alloc);
     for template in templates {
         let set = template_set(alloc, template)?;
-        append(&mut sets, set)?;
+        append(sets, set)?;
     }
+    Ok(())
+}
+
+/// The labels that each template of each list sets.
+fn template_sets(alloc: Global, filter: &Filter) -> Result<Seq<LabelSet>, Memory>
+    ensures { IfOk result (λ sets. sets ≡ map template_variant (every_template filter.now)) }
+{
+    let mut sets = Seq::new(alloc);
+    for arm in filter.arms.as_slice() {
+        push_template_sets(alloc, &mut sets, arm.templates.as_slice())?;
+    }
+    push_template_sets(alloc, &mut sets, filter.templates.as_slice())?;
     Ok(sets)
 }
 
@@ -90,9 +106,9 @@ pub fn filter_flow(
     filter: &Filter,
     variant: &LabelSet,
 ) -> Result<Seq<LabelSet>, Stop>
-    ensures { ComponentFlows (filter.now.pattern ∷ []) filter.now.pattern (map template_variant filter.now.templates) variant.now result }
+    ensures { ComponentFlows (filter.now.pattern ∷ []) filter.now.pattern (map template_variant (every_template filter.now)) variant.now result }
 {
-    let outputs = template_sets(alloc, filter.templates.as_slice())?;
+    let outputs = template_sets(alloc, filter)?;
     component_flow(
         alloc,
         from_ref(&filter.pattern),

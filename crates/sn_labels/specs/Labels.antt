@@ -13,7 +13,7 @@ use Rattle.sn_net.specs.declared.filter.Filter.{Filter}
 use Rattle.sn_net.specs.declared.filter.Template.{Template}
 use Rattle.sn_net.specs.declared.net.Net.{Net, fold-Net}
 use Rattle.sn_net.specs.declared.net.Net.TheOpen.{Net-F}
-use Rattle.sn_net.specs.Filter.{tag, target}
+use Rattle.sn_net.specs.Filter.{every_template, tag, target}
 use Rattle.sn_model.specs.declared.run.Run.{Run}
 use Rattle.sn_model.specs.Run.{boxes_of, items_of, net_of}
 
@@ -32,9 +32,9 @@ is_in_some sets l = list_any (λ set. contains set l) sets
 abbrev pub is_set_by : Template → Label → Bool
 is_set_by template l = list_any (λ part. is_label (target part) l) template.parts
 
--- a filter has those of its pattern and of its templates
+-- a filter has those of its pattern and of all its templates
 abbrev pub is_of_filter : Filter → Label → Bool
-is_of_filter filter l = contains filter.pattern l || list_any (λ template. is_set_by template l) filter.templates
+is_of_filter filter l = contains filter.pattern l || list_any (λ template. is_set_by template l) (every_template filter)
 
 -- One level, with whether each part has the label in its place. The labels of a box stand in its program, and the tags of a guard in
 -- the exit pattern.

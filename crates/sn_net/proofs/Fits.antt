@@ -1,18 +1,16 @@
 -- What a network gives that fits its boxes: boxes that there are, closed filters, and parts that fit.
-use Rattle.std.proofs.Common.{◌≡◌, ℕ, ◌<◌, List, length, sym, subst}
+use Rattle.std.proofs.Common.{ℕ, ◌<◌, List, length, sym, subst}
 use Rattle.std.specs.List.{All}
 use Rattle.std.specs.Coded.{le_prop}
 use Rattle.std.proofs.Props.{props}
 use mathlib.Core.Logic.{∥∥₁_elim, ∥∥₁_map}
 use Rattle.sn_net.specs.declared.expr.BoxProgram.{BoxProgram}
 use Rattle.sn_net.specs.declared.filter.Filter.{Filter}
-use Rattle.sn_net.specs.declared.filter.Template.{Template}
 use Rattle.sn_net.specs.declared.net.Net.{Net}
 use Rattle.sn_net.specs.declared.net.Net.TheOpen.{Net-F}
 use Rattle.sn_net.specs.declared.net.Net.TheVariants.{Box, Filter as FilterLeaf, rolls-Box, rolls-Filter}
 use Rattle.sn_net.specs.declared.net.Net.TheViews.{roll-Net}
-use Rattle.sn_record.specs.LabelSet.{Labels}
-use Rattle.sn_net.specs.Filter.{IsClosed, IsClosedTemplate}
+use Rattle.sn_net.specs.Filter.{IsClosed}
 use Rattle.sn_net.specs.WellFormed.{FitsBoxes, IsWellFormed}
 use Rattle.sn_net.proofs.Sound.{level_sound, parts, parts_formed}
 

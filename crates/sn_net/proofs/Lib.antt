@@ -10,3 +10,4 @@ pub mod Orders
 pub mod Routed
 pub mod Sound
 pub mod Variants
+pub mod Chosen

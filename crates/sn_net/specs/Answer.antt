@@ -1,5 +1,5 @@
 -- What a filter answers to a record that matches its pattern.
-use Rattle.std.specs.Prelude.{ℕ, ℤ, pos, List, [], ◌∷◌, map, Option, None, Some, Result, Ok, Err}
+use Rattle.std.specs.Prelude.{ℕ, ℤ, pos, if◌then◌else◌, List, [], ◌∷◌, map, Option, None, Some, Result, Ok, Err}
 use Rattle.std.specs.FinMap.{empty, get, insert}
 use Rattle.sn_record.specs.declared.label.Label.{Label}
 use Rattle.sn_record.specs.declared.value.Value.{Value}
@@ -14,9 +14,11 @@ use Rattle.sn_record.specs.Record.{Entries, inherit}
 use Rattle.sn_tagexpr.specs.declared.fault.ExprFault.{ExprFault}
 use Rattle.sn_tagexpr.specs.declared.fault.ExprFault.TheVariants.{Overflow, DivZero}
 use Rattle.sn_tagexpr.specs.Evaluation.{worth}
+use Rattle.sn_tagexpr.specs.Operators.{is_zero}
 use Rattle.sn_net.specs.declared.filter.Part.{Part}
 use Rattle.sn_net.specs.declared.filter.Part.TheVariants.{Copy, Rename, Compute}
 use Rattle.sn_net.specs.declared.filter.Template.{Template}
+use Rattle.sn_net.specs.declared.filter.Arm.{Arm}
 use Rattle.sn_net.specs.declared.filter.Filter.{Filter}
 use Rattle.sn_net.specs.Filter.{field, tag, target}
 use Rattle.sn_net.specs.Item.{ModelItem, Rec, Fault}
@@ -83,6 +85,25 @@ up_to_fault place [] = []
 up_to_fault place (Ok r ∷ more) = Rec r ∷ up_to_fault place more
 up_to_fault place (Err fault ∷ more) = Fault (fault_at place fault) ∷ []
 
--- an item for each template, in order, up to the first fault, which stands at the filter's place
+-- a guard that is not 0 takes the templates of its arm, one that is 0 leaves the choice to what follows, and one that faults ends it
+abbrev pub chosen_by : Result ℤ ExprFault → List Template → Result (List Template) ExprFault → Result (List Template) ExprFault
+chosen_by (Ok n) own following = if is_zero n then following else Ok own
+chosen_by (Err fault) own following = Err fault
+
+-- the templates of the first arm whose guard is not 0, or the last list where every guard is 0; or the fault of a guard before that
+abbrev pub chosen : (ℕ → ℤ) → List Arm → List Template → Result (List Template) ExprFault
+chosen tags [] last = Ok last
+chosen tags (arm ∷ arms) last = chosen_by (worth tags arm.guard) arm.templates (chosen tags arms last)
+
+-- what comes of the templates that were chosen, in order, or the fault of a guard alone
+abbrev pub outcomes : Entries → Labels → Result (List Template) ExprFault → List (Result Entries ExprFault)
+outcomes r pattern (Ok templates) = map (template_record r pattern) templates
+outcomes r pattern (Err fault) = Err fault ∷ []
+
+-- the templates that the filter uses for a record, or the fault of a guard
+abbrev pub used : Filter → Entries → Result (List Template) ExprFault
+used filter r = chosen (tag_number r) filter.arms filter.templates
+
+-- an item for each template that the filter uses, in order, up to the first fault, which stands at the filter's place
 abbrev pub filter_answer : Filter → Entries → List ModelItem
-filter_answer filter r = up_to_fault filter.place (map (template_record r filter.pattern) filter.templates)
+filter_answer filter r = up_to_fault filter.place (outcomes r filter.pattern (used filter r))

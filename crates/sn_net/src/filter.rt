@@ -1,5 +1,5 @@
 ghost use Rattle.std.specs.Prelude.{◌≡◌, ◌≢◌, IfOk, IsTrue, ◌↔◌, All};
-ghost use Rattle.sn_net.specs.Filter.{field, tag, target, is_from, is_over, IsClosedTemplate, IsClosed};
+ghost use Rattle.sn_net.specs.Filter.{field, tag, target, is_from, is_over, IsClosedTemplate, IsClosedArm, IsClosed};
 
 use crate::list::append;
 use sn_list::{Memory, Seq};
@@ -30,11 +30,30 @@ impl Drop for Template {
     }
 }
 
-/// Takes a record that has each label of the pattern, and answers one record for each template.
+/// Templates that a filter uses where the guard is the first of its guards that is not 0.
+pub struct Arm {
+    pub guard: TagExpr,
+    pub templates: Seq<Template>,
+}
+
+/// Written out as that of a template.
+impl Drop for Arm {
+    fn drop(self) {
+        let Arm {
+            guard: _guard,
+            templates: _templates,
+        } = self;
+    }
+}
+
+/// Takes a record that has each label of the pattern, and answers one record for each template of a list: that of the first
+/// arm whose guard is not 0, or the last list where every guard is 0.
 pub struct Filter {
     /// The byte offset of its opening bracket in the source.
     pub place: u32,
     pub pattern: LabelSet,
+    pub arms: Seq<Arm>,
+    /// The last list.
     pub templates: Seq<Template>,
 }
 
@@ -44,6 +63,7 @@ impl Drop for Filter {
         let Filter {
             place: _,
             pattern: _pattern,
+            arms: _arms,
             templates: _templates,
         } = self;
     }
@@ -161,6 +181,18 @@ impl Template {
     }
 }
 
+/// Whether each template is closed over `pattern`.
+fn are_closed(pattern: &LabelSet, templates: &[Template]) -> bool
+    ensures { IsTrue result ↔ All (IsClosedTemplate pattern.now) templates.now }
+{
+    for template in templates {
+        if !template.is_closed(pattern) {
+            return false;
+        }
+    }
+    true
+}
+
 fn copy_templates(alloc: Global, templates: &[Template]) -> Result<Seq<Template>, Memory>
     ensures { IfOk result (λ copies. copies ≡ templates.now) }
 {
@@ -172,28 +204,59 @@ fn copy_templates(alloc: Global, templates: &[Template]) -> Result<Seq<Template>
     Ok(copies)
 }
 
+impl Arm {
+    /// Whether the guard names tags of `pattern` alone, and each template is closed over it.
+    pub fn is_closed(&self, pattern: &LabelSet) -> bool
+        ensures { IsTrue result ↔ IsClosedArm pattern.now self.now }
+    {
+        is_over(pattern, &self.guard) && are_closed(pattern, self.templates.as_slice())
+    }
+
+    fn copy(&self, alloc: Global) -> Result<Arm, Memory>
+        ensures { IfOk result (λ copy. copy ≡ self.now) }
+    {
+        let guard = self.guard.copy(alloc)?;
+        let templates = copy_templates(alloc, self.templates.as_slice())?;
+        Ok(Arm { guard, templates })
+    }
+}
+
+fn copy_arms(alloc: Global, arms: &[Arm]) -> Result<Seq<Arm>, Memory>
+    ensures { IfOk result (λ copies. copies ≡ arms.now) }
+{
+    let mut copies = Seq::new(alloc);
+    for arm in arms {
+        let copy = arm.copy(alloc)?;
+        append(&mut copies, copy)?;
+    }
+    Ok(copies)
+}
+
 impl Filter {
-    /// Whether each template takes its values from the pattern alone, and sets no label twice.
+    /// Whether each template takes its values from the pattern alone, and sets no label twice, and each guard names tags of
+    /// the pattern alone.
     pub fn is_closed(&self) -> bool
         ensures { IsTrue result ↔ IsClosed self.now }
     {
-        for template in self.templates.as_slice() {
-            if !template.is_closed(&self.pattern) {
+        for arm in self.arms.as_slice() {
+            if !arm.is_closed(&self.pattern) {
                 return false;
             }
         }
-        true
+        are_closed(&self.pattern, self.templates.as_slice())
     }
 
     /// A copy.
     pub fn copy(&self, alloc: Global) -> Result<Filter, Memory>
         ensures { IfOk result (λ copy. copy ≡ self.now) }
     {
+        let arms = copy_arms(alloc, self.arms.as_slice())?;
         let templates = copy_templates(alloc, self.templates.as_slice())?;
         let pattern = self.pattern.copy()?;
         Ok(Filter {
             place: self.place,
             pattern,
+            arms,
             templates,
         })
     }

@@ -14,7 +14,7 @@ mod tags;
 pub use expr::{BoxProgram, Boxes, BuiltinKind, Expr, Fun};
 pub use faced::Faced;
 pub use faces::{ascending, compare, copy_sets, face, variant_of};
-pub use filter::{Filter, Part, Template, is_over};
+pub use filter::{Arm, Filter, Part, Template, is_over};
 pub use net::{Claim, Merge, Net, all_det};
 pub use routing::{Key, route};
 pub use sn_tagexpr::{BinOp, TagExpr};

@@ -1,11 +1,12 @@
 -- Tokens spell one network, up to what may follow it.
 use Rattle.std.proofs.Common.{◌≡◌, ◌∙◌, ℕ, ◌<◌, Bool, List, [], ◌∷◌, Option, Some, None, refl, sym, ap, subst, arith}
 use Rattle.sn_ast.specs.Measures.{Measuring}
-use Rattle.sn_ast.specs.Networks.{branched, chained, computed_item, filter_at, same_item, sync_at, with_guarded_star, with_split, with_star}
-use Rattle.sn_ast.specs.Networks.{Item, same, renamed, computed, MoreItems, last_item, more_items, Items, no_items, items, Template, template, MoreTemplates, last_template, more_templates, Filter, filter, MorePatterns, last_pattern, more_patterns, Patterns, patterns, Atom, name, identity, filtered, sync, parens, Post, post, Posts, bare, star, guarded_star, split, Serial, serial, MoreSerial, last, dots, Network, network, MoreBranches, final, branch}
+use Rattle.sn_ast.specs.Networks.{arm_of, branched, chained, computed_item, filter_at, same_item, sync_at, with_guarded_star, with_split, with_star}
+use Rattle.sn_ast.specs.Networks.{Item, same, renamed, computed, MoreItems, last_item, more_items, Items, no_items, items, Template, template, MoreTemplates, last_template, more_templates, ArmTemplates, arm_ends, arm_goes_on, Arm, arm, MoreArms, last_arm, more_arms, Arms, no_arms, arms, LastTemplates, last_templates, Filter, filter, MorePatterns, last_pattern, more_patterns, Patterns, patterns, Atom, name, identity, filtered, sync, parens, Post, post, Posts, bare, star, guarded_star, split, Serial, serial, MoreSerial, last, dots, Network, network, MoreBranches, final, branch}
 use Rattle.sn_ast.specs.Rows.{append, no_parts, with_part}
 use Rattle.sn_ast.specs.TagExprs.{TagExpr}
 use Rattle.sn_ast.specs.declared.label.Variant.{Variant}
+use Rattle.sn_ast.specs.declared.network.ArmAt.{ArmAt}
 use Rattle.sn_ast.specs.declared.network.ItemAt.{ItemAt}
 use Rattle.sn_ast.specs.declared.network.NetExpr.{NetExpr}
 use Rattle.sn_ast.specs.declared.network.TemplateAt.{TemplateAt}
@@ -62,12 +63,62 @@ module _ {F : Type 0 → Type 0} (m : Measuring F) where
       let first = template_once a b in
       more_templates_once d (along (λ x ts. MoreTemplates m x ts fs vs) (ap (with_part m so_far) first.0) first.1 k)
 
+  arm_templates_once : {so_far es fs : F (List TemplateAt)} {ts us vs : List Terminal} → ArmTemplates m so_far ts es us → ArmTemplates m so_far ts fs vs → rank us < 1 → rank vs < 1
+      → (es ≡ fs) × (us ≡ vs)
+  arm_templates_once arm_ends arm_ends p q = (refl, refl)
+  arm_templates_once arm_ends (arm_goes_on a d) p q = absurd (omega arith)
+  arm_templates_once (arm_goes_on a d) arm_ends p q = absurd (omega arith)
+  arm_templates_once {so_far} {fs} {vs} (arm_goes_on a d) (arm_goes_on b k) p q =
+      let first = template_once a b in
+      arm_templates_once d (along (λ x ts. ArmTemplates m x ts fs vs) (ap (with_part m so_far) first.0) first.1 k) p q
+
+  arm_once : {a b : F ArmAt} {ts us vs : List Terminal} → Arm m ts a us → Arm m ts b vs → rank us < 1 → rank vs < 1 → (a ≡ b) × (us ≡ vs)
+  arm_once {vs} (arm a c d) (arm {t = t'} {all = all'} {vs = ws'} a' c' d') p q =
+      let first = tag_expr_once m a a' (omega arith) (omega arith) in
+      let second = template_once c (subst (λ ts. Template m ts t' ws') (sym (ap (λ ts. behind (behind ts)) first.1)) c') in
+      let third = arm_templates_once d (along (λ x ts. ArmTemplates m x ts all' vs) (ap (with_part m (no_parts m)) second.0) second.1 d') p q in
+      (λ i. m.join arm_of (first.0 i) (third.0 i), third.1)
+
+  -- an arm begins with its own word
+  abbrev BeginsArm : List Terminal → Type 0
+  BeginsArm (Keyword If at ∷ ts) = Unit {0}
+  BeginsArm ts = ⊥
+
+  arm_begins : {a : F ArmAt} {ts us : List Terminal} → Arm m ts a us → BeginsArm ts
+  arm_begins (arm a c d) = tt
+
+  arms_front : {es fs : F (List ArmAt)} {us vs : List Terminal} → MoreArms m es us fs vs → rank us < 1
+  arms_front last_arm = omega arith
+  arms_front (more_arms (arm a c d) k) = omega arith
+
+  more_arms_once : {so_far es fs : F (List ArmAt)} {ts us vs : List Terminal} → MoreArms m so_far ts es us → MoreArms m so_far ts fs vs → (es ≡ fs) × (us ≡ vs)
+  more_arms_once last_arm last_arm = (refl, refl)
+  more_arms_once last_arm (more_arms a k) = absurd (arm_begins a)
+  more_arms_once (more_arms a d) last_arm = absurd (arm_begins a)
+  more_arms_once {so_far} {fs} {vs} (more_arms a d) (more_arms b k) =
+      let first = arm_once a b (arms_front d) (arms_front k) in
+      more_arms_once d (along (λ x ts. MoreArms m x ts fs vs) (ap (with_part m so_far) first.0) first.1 k)
+
+  arms_once : {es fs : F (List ArmAt)} {ts us vs : List Terminal} → Arms m ts es us → Arms m ts fs vs → (es ≡ fs) × (us ≡ vs)
+  arms_once no_arms no_arms = (refl, refl)
+  arms_once no_arms (arms a k) = absurd (arm_begins a)
+  arms_once (arms a d) no_arms = absurd (arm_begins a)
+  arms_once {fs} {vs} (arms a d) (arms b k) =
+      let first = arm_once a b (arms_front d) (arms_front k) in
+      more_arms_once d (along (λ x ts. MoreArms m x ts fs vs) (ap (with_part m (no_parts m)) first.0) first.1 k)
+
+  last_once : {at : ℕ} {pattern other : Variant} {arms others : F (List ArmAt)} {n o : F NetExpr} {us vs ws xs : List Terminal} → pattern ≡ other → arms ≡ others → us ≡ vs
+      → LastTemplates m at pattern arms us n ws → LastTemplates m at other others vs o xs → (n ≡ o) × (ws ≡ xs)
+  last_once {at} {xs} p q r (last_templates c d) (last_templates {t = t'} {all = all'} {vs = ws'} c' d') =
+      let third = template_once c (subst (λ ts. Template m ts t' ws') (sym r) c') in
+      let fourth = more_templates_once d (along (λ x ts. MoreTemplates m x ts all' xs) (ap (with_part m (no_parts m)) third.0) third.1 d') in
+      (λ i. m.join (filter_at at (p i)) (q i) (fourth.0 i), fourth.1)
+
   filter_once : {at : ℕ} {n o : F NetExpr} {ts us vs : List Terminal} → Filter m at ts n us → Filter m at ts o vs → (n ≡ o) × (us ≡ vs)
-  filter_once {at} {vs} (filter {pattern = pattern} a b d) (filter {t = t'} {all = all'} {vs = ws'} a' b' d') =
+  filter_once (filter a b c) (filter {arms = arms'} {vs = ws'} a' b' c') =
       let first = variant_once a a' in
-      let second = template_once b (subst (λ ts. Template m ts t' ws') (sym (ap behind first.1)) b') in
-      let third = more_templates_once d (along (λ x ts. MoreTemplates m x ts all' vs) (ap (with_part m (no_parts m)) second.0) second.1 d') in
-      (λ i. m.each (filter_at at (first.0 i)) (third.0 i), third.1)
+      let second = arms_once b (subst (λ ts. Arms m ts arms' ws') (sym first.1) b') in
+      last_once first.0 second.0 second.1 c c'
 
 more_patterns_once : {so_far all others : List Variant} {ts us vs : List Terminal} → MorePatterns so_far ts all us → MorePatterns so_far ts others vs → (all ≡ others) × (us ≡ vs)
 more_patterns_once last_pattern last_pattern = (refl, refl)

@@ -1,7 +1,7 @@
 //! What boxes, filters and synchrocells do with what comes to them.
-ghost use Rattle.std.specs.Prelude.{◌≡◌, ◌++◌, ◌<◌, ◌∷◌, [], IfOk, OnOk, length, map, slice_get, if◌then◌else◌};
-ghost use Rattle.sn_record.specs.Record.{is_match};
-ghost use Rattle.sn_net.specs.Answer.{filter_answer};
+ghost use Rattle.std.specs.Prelude.{◌≡◌, ◌++◌, ◌<◌, ◌∷◌, [], IfOk, Ok, OnOk, length, map, slice_get, if◌then◌else◌};
+ghost use Rattle.sn_record.specs.Record.{Matches, is_match};
+ghost use Rattle.sn_net.specs.Answer.{filter_answer, used};
 ghost use Rattle.sn_net.specs.Cell.{cell_emits, cell_next, new_cell};
 ghost use Rattle.sn_net.specs.Filter.{IsClosed};
 ghost use Rattle.sn_net.specs.Item as model;
@@ -18,9 +18,9 @@ use crate::kept::{Kept, into_holding, keep_cell};
 use crate::output::Output;
 use crate::walk::Walk;
 use sn_boxrun::call_owned;
-use sn_filter::{apply_onto, apply_single};
+use sn_filter::{apply_onto, apply_single, choose};
 use sn_list::{Memory, Seq};
-use sn_net::Filter;
+use sn_net::{Filter, Template};
 use sn_record::{LabelSet, Record};
 use sn_stack::append;
 use sn_sync::Holding;
@@ -32,6 +32,30 @@ fn is_match(r: &Record, variant: &LabelSet) -> bool
     ensures { result ≡ is_match r.now variant.now }
 {
     r.matches(variant)
+}
+
+/// Appends what a filter answers to a record for which it uses the templates.
+fn use_templates(
+    alloc: Global,
+    filter: &Filter,
+    templates: &[Template],
+    taken: Record,
+    out: &mut Output,
+) -> Result<(), Memory>
+    requires templates { used filter.now taken ≡ Ok templates.now }
+    requires closed { IsClosed filter.now }
+    requires matches { Matches taken filter.now.pattern }
+    ensures { OnOk result (given out.new ≡ given out.old ++ filter_answer filter.now taken) }
+{
+    if let [template] = templates {
+        let item = apply_single(alloc, filter, template, taken)?;
+        return append(&mut out.given, Flowing::of(item));
+    }
+    let mut answers = out.take_answers(alloc);
+    apply_onto(alloc, filter, templates, taken, &mut answers)?;
+    let room = append_items(&mut out.given, answers)?;
+    out.put_answers(room);
+    Ok(())
 }
 
 /// Appends what a filter answers to a record, or that the record has no route, where it does not match the pattern.
@@ -48,15 +72,10 @@ fn filter_record(
     if !is_match(&taken, &filter.pattern) {
         return append(&mut out.given, Flowing::Stuck(filter.place));
     }
-    if let [template] = filter.templates.as_slice() {
-        let item = apply_single(alloc, filter, template, taken)?;
-        return append(&mut out.given, Flowing::of(item));
+    match choose(filter, &taken) {
+        Ok(templates) => use_templates(alloc, filter, templates, taken, out),
+        Err(fault) => append(&mut out.given, Flowing::Fault(fault)),
     }
-    let mut answers = out.take_answers(alloc);
-    apply_onto(alloc, filter, taken, &mut answers)?;
-    let room = append_items(&mut out.given, answers)?;
-    out.put_answers(room);
-    Ok(())
 }
 
 /// Appends what a filter answers to an item.

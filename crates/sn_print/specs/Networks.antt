@@ -1,5 +1,7 @@
 -- The texts of networks.
-use Rattle.std.specs.Prelude.{ℕ, List, [], ◌++◌, map, codes, Option, Some, None}
+use Rattle.std.specs.Prelude.{ℕ, List, [], ◌∷◌, ◌++◌, map, codes, Option, Some, None}
+use Rattle.std.specs.List.{flat_map}
+use Rattle.sn_ast.specs.declared.network.ArmAt.{ArmAt}
 use Rattle.sn_ast.specs.declared.network.ItemAt.{ItemAt}
 use Rattle.sn_ast.specs.declared.network.ItemSource.{ItemSource}
 use Rattle.sn_ast.specs.declared.network.ItemSource.TheVariants.{Same, Field, Expr}
@@ -22,6 +24,20 @@ item_text i = label_text i.target ++ source_text i.source
 abbrev pub template_text : TemplateAt → List ℕ
 template_text t = codes "{" ++ (joined (codes ",") (map item_text t.items) ++ codes "}")
 
+abbrev pub templates_text : List TemplateAt → List ℕ
+templates_text templates = joined (codes ";") (map template_text templates)
+
+-- the arms of a filter, and the word before its last list
+abbrev pub arm_text : ArmAt → List ℕ
+arm_text arm = codes " if " ++ (in_parentheses (tag_text arm.guard) ++ (codes " -> " ++ templates_text arm.templates))
+
+abbrev pub else_text : List ArmAt → List ℕ
+else_text [] = []
+else_text (arm ∷ arms) = codes " else"
+
+abbrev pub arms_text : List ArmAt → List ℕ
+arms_text arms = flat_map arm_text arms ++ else_text arms
+
 abbrev pub guard_text : Option TExpr → List ℕ
 guard_text None = []
 guard_text (Some e) = codes " if " ++ in_parentheses (tag_text e)
@@ -30,8 +46,8 @@ guard_text (Some e) = codes " if " ++ in_parentheses (tag_text e)
 abbrev pub net_step : NetForm-F Shown Shown → Shown
 net_step (NetForm-F.Name name) = alone name.text
 net_step NetForm-F.Identity = alone (codes "[]")
-net_step (NetForm-F.Filter pattern templates) =
-    alone (codes "[" ++ (variant_text pattern ++ (codes " -> " ++ (joined (codes ";") (map template_text templates) ++ codes "]"))))
+net_step (NetForm-F.Filter pattern arms templates) =
+    alone (codes "[" ++ (variant_text pattern ++ (arms_text arms ++ (codes " -> " ++ (templates_text templates ++ codes "]")))))
 net_step (NetForm-F.Sync patterns) = alone (codes "[|" ++ (joined (codes ",") (map variant_text patterns) ++ codes "|]"))
 net_step (NetForm-F.Serial parts) = compound (joined (codes " .. ") (map operand parts))
 net_step (NetForm-F.Choice det branches) = compound (joined (chosen det (codes " || ") (codes " | ")) (map operand branches))

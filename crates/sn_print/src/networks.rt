@@ -1,14 +1,15 @@
 //! The texts of networks.
 ghost use Rattle.std.specs.Prelude.{◌≡◌, ◌++◌, map, codes, IfOk, OnOk};
+ghost use Rattle.sn_print.specs.Words.{in_parentheses};
 ghost use Rattle.sn_print.specs.Expressions.{is_alone, operand};
 ghost use Rattle.sn_print.specs.Labels.{variant_text};
-ghost use Rattle.sn_print.specs.Networks.{guard_text, item_text, net_shown, net_text, source_text, template_text};
+ghost use Rattle.sn_print.specs.Networks.{arm_text, arms_text, else_text, guard_text, item_text, net_shown, net_text, source_text, template_text, templates_text};
 ghost use Rattle.sn_print.specs.Words.{chosen, joined};
 
 use crate::labels::{push_label, push_variant};
 use crate::tags::push_tag_expr;
 use crate::words::{push_separator, push_tag};
-use sn_ast::{ItemAt, ItemSource, NetExpr, NetForm, TExpr, TemplateAt, Text, Variant};
+use sn_ast::{ArmAt, ItemAt, ItemSource, NetExpr, NetForm, TExpr, TemplateAt, Text, Variant};
 use sn_list::{Memory, Seq};
 use std::alloc::Global;
 
@@ -54,7 +55,7 @@ fn push_template(text: &mut Text, template: &TemplateAt) -> Result<(), Memory>
 }
 
 fn push_templates(text: &mut Text, templates: &[TemplateAt]) -> Result<(), Memory>
-    ensures { OnOk result (text.new ≡ text.old ++ joined (codes ";") (map template_text templates.now)) }
+    ensures { OnOk result (text.new ≡ text.old ++ templates_text templates.now) }
 {
     for (i, template) in templates.iter().enumerate() {
         push_separator(text, b";", i)?;
@@ -86,11 +87,39 @@ fn push_guard(text: &mut Text, guard: &Option<TExpr>) -> Result<(), Memory>
     }
 }
 
-fn push_filter(text: &mut Text, pattern: &Variant, templates: &[TemplateAt]) -> Result<(), Memory>
-    ensures { OnOk result (text.new ≡ text.old ++ (codes "[" ++ (variant_text pattern.now ++ (codes " -> " ++ (joined (codes ";") (map template_text templates.now) ++ codes "]"))))) }
+fn push_arm(text: &mut Text, arm: &ArmAt) -> Result<(), Memory>
+    ensures { OnOk result (text.new ≡ text.old ++ arm_text arm.now) }
+{
+    text.extend_from_slice(b" if (")?;
+    push_tag_expr(text, &arm.guard)?;
+    text.extend_from_slice(b") -> ")?;
+    push_templates(text, arm.templates.as_slice())
+}
+
+/// Appends the arms of a filter, and the word before its last list.
+fn push_arms(text: &mut Text, arms: &[ArmAt]) -> Result<(), Memory>
+    ensures { OnOk result (text.new ≡ text.old ++ arms_text arms.now) }
+{
+    for arm in arms {
+        push_arm(text, arm)?;
+    }
+    if arms.is_empty() {
+        return Ok(());
+    }
+    text.extend_from_slice(b" else")
+}
+
+fn push_filter(
+    text: &mut Text,
+    pattern: &Variant,
+    arms: &[ArmAt],
+    templates: &[TemplateAt],
+) -> Result<(), Memory>
+    ensures { OnOk result (text.new ≡ text.old ++ (codes "[" ++ (variant_text pattern.now ++ (arms_text arms.now ++ (codes " -> " ++ (templates_text templates.now ++ codes "]")))))) }
 {
     text.extend_from_slice(b"[")?;
     push_variant(text, pattern)?;
+    push_arms(text, arms)?;
     text.extend_from_slice(b" -> ")?;
     push_templates(text, templates)?;
     text.extend_from_slice(b"]")
@@ -146,9 +175,11 @@ pub fn push_network(text: &mut Text, n: &NetExpr) -> Result<(), Memory>
     match &n.form {
         NetForm::Name(name) => text.extend_from_slice(name.text.as_slice()),
         NetForm::Identity => text.extend_from_slice(b"[]"),
-        NetForm::Filter { pattern, templates } => {
-            push_filter(text, pattern, templates.as_slice())
-        }
+        NetForm::Filter {
+            pattern,
+            arms,
+            templates,
+        } => push_filter(text, pattern, arms.as_slice(), templates.as_slice()),
         NetForm::Sync { patterns } => push_sync(text, patterns.as_slice()),
         NetForm::Serial { parts } => push_operands(text, b" .. ", parts.as_slice()),
         NetForm::Choice { det, branches } => {

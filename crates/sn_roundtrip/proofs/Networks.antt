@@ -1,14 +1,18 @@
 -- Networks read back.
-use Rattle.std.proofs.Common.{◌≡◌, ℕ, true, false, Bool, ◌+◌, ◌++◌, List, [], ◌∷◌, map, append-nil, codes, Option, Some, None, refl, sym, ap, ◌∙◌}
+use Rattle.std.proofs.Common.{◌≡◌, ◌≢◌, ℕ, true, false, Bool, ◌+◌, ◌++◌, List, [], ◌∷◌, map, append-nil, codes, Option, Some, None, refl, sym, ap, ◌∙◌}
+use Rattle.std.specs.List.{flat_map}
+use Rattle.std.proofs.lemmas.Grind.{flat_map-append}
 use Rattle.sn_ast.specs.Labels.{IsVariant}
 use Rattle.sn_ast.specs.Measures.{measured}
-use Rattle.sn_ast.specs.Networks.{same_item, renamed_item, computed_item, filter_at, sync_at, serial_at, choice_at, star_at, split_at, with_star, with_guarded_star, with_split, Item, same, renamed, computed, MoreItems, last_item, more_items, Items, no_items, items, Template, template, MoreTemplates, last_template, more_templates, filter, MorePatterns, last_pattern, more_patterns, Patterns, patterns, Atom, name as named, identity, filtered, sync, parens, Post, post, Posts, bare, star, guarded_star, split, Serial, serial, MoreSerial, last, dots, Network, network, MoreBranches, final, branch}
+use Rattle.sn_ast.specs.Networks.{same_item, renamed_item, computed_item, arm_of, filter_at, sync_at, serial_at, choice_at, star_at, split_at, with_star, with_guarded_star, with_split, Item, same, renamed, computed, MoreItems, last_item, more_items, Items, no_items, items, Template, template, MoreTemplates, last_template, more_templates, ArmTemplates, arm_ends, arm_goes_on, Arm, arm, MoreArms, last_arm, more_arms, Arms, no_arms, arms as armed, last_templates, filter, MorePatterns, last_pattern, more_patterns, Patterns, patterns, Atom, name as named, identity, filtered, sync, parens, Post, post, Posts, bare, star, guarded_star, split, Serial, serial, MoreSerial, last, dots, Network, network, MoreBranches, final, branch}
 use Rattle.sn_ast.specs.Rows.{append, no_parts, with_part}
+use Rattle.sn_ast.specs.TagExprs.{TagExpr}
 use Rattle.sn_ast.specs.Terminals.{link_of}
 use Rattle.sn_ast.specs.declared.label.Ident.{Ident}
 use Rattle.sn_ast.specs.declared.label.LabelAt.{LabelAt}
 use Rattle.sn_ast.specs.declared.label.Variant.{Variant}
 use Rattle.sn_ast.specs.declared.measure.Measured.{Measured}
+use Rattle.sn_ast.specs.declared.network.ArmAt.{ArmAt}
 use Rattle.sn_ast.specs.declared.network.ItemAt.{ItemAt}
 use Rattle.sn_ast.specs.declared.network.ItemSource.TheVariants.{Same}
 use Rattle.sn_ast.specs.declared.network.NetExpr.{NetExpr, NetExpr-F, fold-NetExpr, fold-roll-NetExpr}
@@ -23,19 +27,19 @@ use Rattle.sn_ast.specs.declared.terminal.Link.TheVariants.{Branch as BranchLink
 use Rattle.sn_ast.specs.declared.terminal.Symbol.{Symbol as SomeSymbol}
 use Rattle.sn_ast.specs.declared.terminal.Symbol.TheVariants as symbol
 use Rattle.sn_ast.specs.declared.terminal.Terminal.{Terminal}
-use Rattle.sn_ast.specs.declared.terminal.Terminal.TheVariants.{Symbol}
+use Rattle.sn_ast.specs.declared.terminal.Terminal.TheVariants.{Keyword, Symbol}
 use Rattle.sn_print.specs.Expressions.{Rank, Alone, Compound, Sequence as SequenceRank, Shown, alone, compound, operand, by_rank}
 use Rattle.sn_print.specs.Labels.{label_text, variant_text}
-use Rattle.sn_print.specs.Networks.{net_shown, net_step, item_text, template_text}
+use Rattle.sn_print.specs.Networks.{net_shown, net_step, arm_text, else_text, item_text, template_text}
 use Rattle.sn_print.specs.Words.{chosen, in_angles, in_parentheses, joined}
-use Rattle.sn_roundtrip.specs.Unplaced.{unplaced_ident, unplaced_variant, unplaced_tag, unplaced_item, unplaced_template, unplaced_net, unplaced_net_form, at_no_net_place}
+use Rattle.sn_roundtrip.specs.Unplaced.{unplaced_ident, unplaced_variant, unplaced_tag, unplaced_item, unplaced_template, unplaced_arm, unplaced_net, unplaced_net_form, at_no_net_place}
 use Rattle.sn_roundtrip.proofs.Boxes.{spaced_key}
 use Rattle.sn_roundtrip.proofs.Joins.{before, calmly, mildly, wholly}
 use Rattle.sn_roundtrip.proofs.Labels.{IsLabel, one_label, GoodLabel, good_label, GoodVariant, good_variant, SameRow, same_more, same_first}
 use Rattle.sn_roundtrip.proofs.Rereads.{Readable, reread, Shows, Like, like_leaf, like_inside, like_parens, like_loose, like_each, like_raise, like_join, like_row}
-use Rattle.sn_roundtrip.proofs.Rows.{GoodRow, row_begins, row_goes_on, calm_head}
-use Rattle.sn_roundtrip.proofs.Singles.{symbol_span, tag_span, name_span, spaced_text, spaced}
-use Rattle.sn_roundtrip.proofs.Spans.{HeadAt, Calm, Free, Whole}
+use Rattle.sn_roundtrip.proofs.Rows.{GoodRow, RowOf, not_nil, row_begins, row_goes_on, calm_head}
+use Rattle.sn_roundtrip.proofs.Singles.{gap, keyword_span, symbol_span, tag_span, name_span, spaced_text, spaced}
+use Rattle.sn_roundtrip.proofs.Spans.{HeadAt, Calm, Exactly, Free, Whole}
 use Rattle.sn_roundtrip.proofs.Tags.{GoodTag, good_tag_expr, tag_whole, parens_span}
 use Rattle.sn_roundtrip.specs.Words.{IsIdentifier, IsTagName, AreWords}
 
@@ -53,8 +57,10 @@ module _ {A B : Type 0} (s : NetForm-F A B → A) (t : NetExpr-F A B → B) (at 
   pub fold_name : (n : Ident) → fold (record { at = at; form = form.Name n }) ≡ t (record { at = at; form = s (NetForm-F.Name n) })
   fold_name n = of_form (form.Name n) (NetForm-F.Name n) (ap (fold-NetForm A B s t) (sym (form.rolls-Name n)) ∙ fold-roll-NetForm A B s t (NetForm-F.Name n))
 
-  pub fold_filter : (pattern : Variant) (templates : List TemplateAt) → fold (record { at = at; form = form.Filter pattern templates }) ≡ t (record { at = at; form = s (NetForm-F.Filter pattern templates) })
-  fold_filter pattern templates = of_form (form.Filter pattern templates) (NetForm-F.Filter pattern templates) (ap (fold-NetForm A B s t) (sym (form.rolls-Filter pattern templates)) ∙ fold-roll-NetForm A B s t (NetForm-F.Filter pattern templates))
+  pub fold_filter : (pattern : Variant) (arms : List ArmAt) (templates : List TemplateAt)
+      → fold (record { at = at; form = form.Filter pattern arms templates }) ≡ t (record { at = at; form = s (NetForm-F.Filter pattern arms templates) })
+  fold_filter pattern arms templates = of_form (form.Filter pattern arms templates) (NetForm-F.Filter pattern arms templates)
+      (ap (fold-NetForm A B s t) (sym (form.rolls-Filter pattern arms templates)) ∙ fold-roll-NetForm A B s t (NetForm-F.Filter pattern arms templates))
 
   pub fold_sync : (vs : List Variant) → fold (record { at = at; form = form.Sync vs }) ≡ t (record { at = at; form = s (NetForm-F.Sync vs) })
   fold_sync vs = of_form (form.Sync vs) (NetForm-F.Sync vs) (ap (fold-NetForm A B s t) (sym (form.rolls-Sync vs)) ∙ fold-roll-NetForm A B s t (NetForm-F.Sync vs))
@@ -174,33 +180,109 @@ good_template : {t : Measured TemplateAt} {ts us : List Terminal} → Template m
 good_template (template {at} no_items) w = (empty_template at, w.1.1)
 good_template (template {at} {all} (items {i = i} a d)) w = let x = good_item a w.1 in let r = good_more_items d (first_item i x.0) x.1 in (template_of at all r.0, r.1)
 
+-- how templates go on after those so far: to the end of an arm's list, or of the last one
+abbrev Going : Type 1
+Going = Measured (List TemplateAt) → List Terminal → Measured (List TemplateAt) → List Terminal → Type 0
+
 -- one template, and others after it
-data TemplateRow : List Terminal → Measured (List TemplateAt) → List Terminal → Type 0 where
+data TemplateRow (More : Going) : List Terminal → Measured (List TemplateAt) → List Terminal → Type 0 where
   template_row : {t : Measured TemplateAt} {all : Measured (List TemplateAt)} {ts us vs : List Terminal} → Template measured ts t us →
-      MoreTemplates measured (with_part measured (no_parts measured) t) us all vs → TemplateRow ts all vs
+      More (with_part measured (no_parts measured) t) us all vs → TemplateRow More ts all vs
 
-abbrev GoodTemplates : Measured (List TemplateAt) → Type 0
-GoodTemplates row = GoodRow Calm Free (codes ";") template_text TemplateRow (MoreTemplates measured) row.value (Like (map unplaced_template) 0 row)
+abbrev GoodTemplates : Going → Measured (List TemplateAt) → Type 0
+GoodTemplates More row = GoodRow Calm Free (codes ";") template_text (TemplateRow More) More row.value (Like (map unplaced_template) 0 row)
 
-templates_begin : (p : ℕ) (t : Measured TemplateAt) (ts us : List Terminal) (w : Measured (List TemplateAt)) (vs : List Terminal) → HeadAt p ts → Template measured ts t us →
-    MoreTemplates measured (with_part measured (no_parts measured) t) us w vs → TemplateRow ts w vs
-templates_begin p t ts us w vs h d k = template_row d k
+module _ (More : Going) where
+  templates_begin : (p : ℕ) (t : Measured TemplateAt) (ts us : List Terminal) (w : Measured (List TemplateAt)) (vs : List Terminal) → HeadAt p ts → Template measured ts t us →
+      More (with_part measured (no_parts measured) t) us w vs → TemplateRow More ts w vs
+  templates_begin p t ts us w vs h d k = template_row d k
 
-templates_go_on : (q : ℕ) (row : Measured (List TemplateAt)) (t : Measured TemplateAt) (ts us : List Terminal) (w : Measured (List TemplateAt)) (vs : List Terminal) → Template measured ts t us →
-    MoreTemplates measured (with_part measured row t) us w vs → MoreTemplates measured row (Symbol symbol.Semicolon q ∷ ts) w vs
-templates_go_on q row t ts us w vs d k = more_templates d k
+  first_template : (t : Measured TemplateAt) → GoodTemplate t → GoodTemplates More (with_part measured (no_parts measured) t)
+  first_template t x = row_begins (codes ";") template_text (TemplateRow More) More (λ p y. with_part measured (no_parts measured) y) templates_begin
+      (λ p y l. like_row unplaced_template (like_leaf (map unplaced_template) [] [] refl) l) calm_head x
 
-first_template : (t : Measured TemplateAt) → GoodTemplate t → GoodTemplates (with_part measured (no_parts measured) t)
-first_template t x = row_begins (codes ";") template_text TemplateRow (MoreTemplates measured) (λ p y. with_part measured (no_parts measured) y) templates_begin
-    (λ p y l. like_row unplaced_template (like_leaf (map unplaced_template) [] [] refl) l) calm_head x
+  next_template : ((q : ℕ) (row : Measured (List TemplateAt)) (t : Measured TemplateAt) (ts us : List Terminal) (w : Measured (List TemplateAt)) (vs : List Terminal) →
+      Template measured ts t us → More (with_part measured row t) us w vs → More row (Symbol symbol.Semicolon q ∷ ts) w vs) →
+      (row : Measured (List TemplateAt)) (t : Measured TemplateAt) → GoodTemplates More row → GoodTemplate t → GoodTemplates More (with_part measured row t)
+  next_template go_on row t r x = row_goes_on (codes ";") template_text (TemplateRow More) More More (symbol_span symbol.Semicolon) refl
+      (λ q. with_part measured) go_on (λ q so_far y l m. like_row unplaced_template l m) r x
 
-next_template : (row : Measured (List TemplateAt)) (t : Measured TemplateAt) → GoodTemplates row → GoodTemplate t → GoodTemplates (with_part measured row t)
-next_template row t r x = row_goes_on (codes ";") template_text TemplateRow (MoreTemplates measured) (MoreTemplates measured) (symbol_span symbol.Semicolon) refl
-    (λ q. with_part measured) templates_go_on (λ q so_far y l m. like_row unplaced_template l m) r x
+abbrev Last : Going
+Last = MoreTemplates measured
 
-good_more_templates : {row all : Measured (List TemplateAt)} {ts us : List Terminal} → MoreTemplates measured row ts all us → GoodTemplates row → AreWords ts → GoodTemplates all × AreWords us
+abbrev OfArm : Going
+OfArm = ArmTemplates measured
+
+good_more_templates : {row all : Measured (List TemplateAt)} {ts us : List Terminal} → Last row ts all us → GoodTemplates Last row → AreWords ts → GoodTemplates Last all × AreWords us
 good_more_templates last_template r w = (r, w.1)
-good_more_templates (more_templates {t = t} {so_far = row} a d) r w = let x = good_template a w.1 in good_more_templates d (next_template row t r x.0) x.1
+good_more_templates (more_templates {t = t} {so_far = row} a d) r w =
+    let x = good_template a w.1 in good_more_templates d (next_template Last (λ q row t ts us w vs d k. more_templates d k) row t r x.0) x.1
+
+good_arm_templates : {row all : Measured (List TemplateAt)} {ts us : List Terminal} → OfArm row ts all us → GoodTemplates OfArm row → AreWords ts → GoodTemplates OfArm all × AreWords us
+good_arm_templates arm_ends r w = (r, w)
+good_arm_templates (arm_goes_on {t = t} {so_far = row} a d) r w =
+    let x = good_template a w.1 in good_arm_templates d (next_template OfArm (λ q row t ts us w vs d k. arm_goes_on d k) row t r x.0) x.1
+
+-- arms
+abbrev GoodArm : Measured ArmAt → Type 0
+GoodArm a = Shows (Exactly 32) Free (arm_text a.value) (Arm measured) (Like unplaced_arm 0 a)
+
+armed_by : {ts us vs : List Terminal} {at opening close arrow : ℕ} {g : Measured TExpr} {all : Measured (List TemplateAt)} →
+    TagExpr measured ts g (Symbol symbol.CloseParen close ∷ Symbol symbol.Arrow arrow ∷ us) → TemplateRow OfArm us all vs →
+    Arm measured (Keyword keyword.If at ∷ Symbol symbol.OpenParen opening ∷ ts) (measured.join arm_of g all) vs
+armed_by a (template_row t d) = arm a t d
+
+arm_made : (g : Measured TExpr) (all : Measured (List TemplateAt)) → GoodTag g → GoodTemplates OfArm all → GoodArm (measured.join arm_of g all)
+arm_made g all z r = record {
+  text = codes " if " ++ (in_parentheses z.shown.text ++ (codes " -> " ++ r.shows.text));
+  is = λ i. codes " if " ++ (in_parentheses (z.is i).text ++ (codes " -> " ++ r.shows.is i));
+  reads = record {
+    span = before (spaced_key keyword.If) (before (before (symbol_span symbol.OpenParen) (before (tag_whole z).span (symbol_span symbol.CloseParen) refl) refl)
+        (before (spaced symbol.Arrow) r.shows.reads.span refl) refl) refl;
+    rereads = λ p. reread _ (λ us. armed_by (((tag_whole z).rereads _).reads _) ((r.shows.reads.rereads _).reads _ _ us arm_ends))
+        (like_join unplaced_tag (map unplaced_template) unplaced_arm arm_of arm_of arm_of (λ a b. refl) (λ a b. refl) ((tag_whole z).rereads _).good (r.shows.reads.rereads _).good);
+  };
+}
+
+good_arm : {a : Measured ArmAt} {ts us : List Terminal} → Arm measured ts a us → AreWords ts → GoodArm a × AreWords us
+good_arm (arm {g = g} {t = t} {all = all} a b d) w =
+    let z = good_tag_expr a w.1.1 in let y = good_template b z.1.1.1 in let r = good_arm_templates d (first_template OfArm t y.0) y.1 in (arm_made g all z.0 r.0, r.1)
+
+-- Arms in a row, with nothing between them.
+abbrev GoodArms : Measured (List ArmAt) → Type 0
+GoodArms row = Shows (Exactly 32) Free (flat_map arm_text row.value) (RowOf (Arms measured) (MoreArms measured)) (Like (map unplaced_arm) 0 row)
+
+first_arm : (a : Measured ArmAt) → GoodArm a → GoodArms (with_part measured (no_parts measured) a)
+first_arm a s = record {
+  text = s.text;
+  is = append-nil (arm_text a.value) ∙ s.is;
+  reads = record {
+    span = s.reads.span;
+    rereads = λ p. reread (with_part measured (no_parts measured) (s.reads.rereads p).again) (λ us w vs k. armed ((s.reads.rereads p).reads us) k)
+        (like_row unplaced_arm (like_leaf (map unplaced_arm) [] [] refl) (s.reads.rereads p).good);
+  };
+}
+
+next_arm : (row : Measured (List ArmAt)) (a : Measured ArmAt) → GoodArms row → GoodArm a → GoodArms (with_part measured row a)
+next_arm row a r s = record {
+  text = r.text ++ s.text;
+  is = flat_map-append arm_text row.value (a.value ∷ []) ∙ (λ i. r.is i ++ (append-nil (arm_text a.value) ∙ s.is) i);
+  reads = record {
+    span = before r.reads.span s.reads.span refl;
+    rereads = λ p. reread (with_part measured (r.reads.rereads p).again (s.reads.rereads _).again)
+        (λ us w vs k. (r.reads.rereads p).reads _ w vs (more_arms ((s.reads.rereads _).reads us) k))
+        (like_row unplaced_arm (r.reads.rereads p).good (s.reads.rereads _).good);
+  };
+}
+
+record GoodArmed (row : Measured (List ArmAt)) : Type 0 where
+  pub filled : row.value ≢ []
+  pub shows : GoodArms row
+
+good_more_arms : {row all : Measured (List ArmAt)} {ts us : List Terminal} → MoreArms measured row ts all us → GoodArmed row → AreWords ts → GoodArmed all × AreWords us
+good_more_arms last_arm r w = (r, w.1.1)
+good_more_arms (more_arms {a = a} {so_far = row} b d) r w =
+    let x = good_arm b w in good_more_arms d (record { filled = not_nil row.value a.value; shows = next_arm row a r.shows x.0 }) x.1
 
 -- patterns of a synchrocell
 abbrev GoodPatterns : List Variant → Type 0
@@ -289,27 +371,48 @@ good_identity at = record {
   };
 }
 
-filtered_by : {ts us vs : List Terminal} {at arrow : ℕ} {pattern : Variant} {all : Measured (List TemplateAt)} → IsVariant ts pattern (Symbol symbol.Arrow arrow ∷ us) → TemplateRow us all vs →
-    Atom measured (Symbol symbol.OpenBracket at ∷ ts) (measured.each (filter_at at pattern) all) vs
-filtered_by a (template_row t d) = filtered (filter a t d)
+filtered_by : {ts us vs ws : List Terminal} {at : ℕ} {pattern : Variant} {arms : Measured (List ArmAt)} {all : Measured (List TemplateAt)} →
+    IsVariant ts pattern us → Arms measured us arms vs → TemplateRow Last vs all ws → Atom measured (Symbol symbol.OpenBracket at ∷ ts) (measured.join (filter_at at pattern) arms all) ws
+filtered_by v a (template_row t d) = filtered (filter v a (last_templates t d))
 
-abbrev plain_filter : Variant → List TemplateAt → NetExpr
-plain_filter pattern templates = record { at = 0; form = form.Filter pattern templates }
+abbrev plain_filter : Variant → List ArmAt → List TemplateAt → NetExpr
+plain_filter pattern arms templates = record { at = 0; form = form.Filter pattern arms templates }
 
-like_filter : (at other : ℕ) (pattern again : Variant) {row again_row : Measured (List TemplateAt)} → unplaced_variant again ≡ unplaced_variant pattern → Like (map unplaced_template) 0 row again_row →
-    Like unplaced_net 0 (measured.each (filter_at at pattern) row) (measured.each (filter_at other again) again_row)
-like_filter at other pattern again is l = like_each (map unplaced_template) unplaced_net (plain_filter (unplaced_variant pattern)) (filter_at at pattern) (filter_at other again)
+like_filter : (at other : ℕ) (pattern again : Variant) {arms again_arms : Measured (List ArmAt)} {row again_row : Measured (List TemplateAt)} →
+    unplaced_variant again ≡ unplaced_variant pattern → Like (map unplaced_arm) 0 arms again_arms → Like (map unplaced_template) 0 row again_row →
+    Like unplaced_net 0 (measured.join (filter_at at pattern) arms row) (measured.join (filter_at other again) again_arms again_row)
+like_filter at other pattern again is k l =
+    like_join (map unplaced_arm) (map unplaced_template) unplaced_net (plain_filter (unplaced_variant pattern)) (filter_at at pattern) (filter_at other again)
     (fold_filter unplaced_net_form at_no_net_place at pattern)
-    (λ ts. fold_filter unplaced_net_form at_no_net_place other again ts ∙ ap (λ v. plain_filter v (map unplaced_template ts)) is) l
+    (λ arms ts. fold_filter unplaced_net_form at_no_net_place other again arms ts ∙ ap (λ v. plain_filter v (map unplaced_arm arms) (map unplaced_template ts)) is) k l
 
-good_filter : (at : ℕ) (pattern : Variant) (all : Measured (List TemplateAt)) → GoodVariant pattern → GoodTemplates all → GoodNet (measured.each (filter_at at pattern) all)
+good_filter : (at : ℕ) (pattern : Variant) (all : Measured (List TemplateAt)) → GoodVariant pattern → GoodTemplates Last all →
+    GoodNet (measured.join (filter_at at pattern) (no_parts measured) all)
 good_filter at pattern all x r = record {
   shown = alone (codes "[" ++ (x.text ++ (codes " -> " ++ (r.shows.text ++ codes "]"))));
-  is = fold_filter net_step (λ n. n.form) at pattern all.value ∙ (λ i. alone (codes "[" ++ (x.is i ++ (codes " -> " ++ (r.shows.is i ++ codes "]")))));
+  is = fold_filter net_step (λ n. n.form) at pattern [] all.value ∙ (λ i. alone (codes "[" ++ (x.is i ++ (codes " -> " ++ (r.shows.is i ++ codes "]")))));
   reads = record {
     span = wholly (calmly refl (before (symbol_span symbol.OpenBracket) (before x.reads.span (before (spaced symbol.Arrow) (before r.shows.reads.span (symbol_span symbol.CloseBracket) refl) refl) refl) refl));
-    rereads = λ p. reread _ (λ us. filtered_by ((x.reads.rereads _).reads _) ((r.shows.reads.rereads _).reads _ _ us last_template))
-        (like_filter at _ pattern _ (x.reads.rereads _).good (r.shows.reads.rereads _).good);
+    rereads = λ p. reread _ (λ us. filtered_by ((x.reads.rereads _).reads _) no_arms ((r.shows.reads.rereads _).reads _ _ us last_template))
+        (like_filter at _ pattern _ (x.reads.rereads _).good (like_leaf (map unplaced_arm) [] [] refl) (r.shows.reads.rereads _).good);
+  };
+}
+
+else_filled : (arms : List ArmAt) → arms ≢ [] → else_text arms ≡ codes " else"
+else_filled [] filled = absurd (filled refl)
+else_filled (one ∷ more) filled = refl
+
+good_armed : (at : ℕ) (pattern : Variant) (some : Measured (List ArmAt)) (all : Measured (List TemplateAt)) → GoodVariant pattern → GoodArmed some → GoodTemplates Last all →
+    GoodNet (measured.join (filter_at at pattern) some all)
+good_armed at pattern some all x a r = record {
+  shown = alone (codes "[" ++ (x.text ++ ((a.shows.text ++ codes " else") ++ (codes " -> " ++ (r.shows.text ++ codes "]")))));
+  is = fold_filter net_step (λ n. n.form) at pattern some.value all.value
+      ∙ (λ i. alone (codes "[" ++ (x.is i ++ ((a.shows.is i ++ else_filled some.value a.filled i) ++ (codes " -> " ++ (r.shows.is i ++ codes "]"))))));
+  reads = record {
+    span = wholly (calmly refl (before (symbol_span symbol.OpenBracket) (before x.reads.span (before (before a.shows.reads.span (before (gap 32 refl) (keyword_span keyword.Else) refl) refl)
+        (before (spaced symbol.Arrow) (before r.shows.reads.span (symbol_span symbol.CloseBracket) refl) refl) refl) refl) refl));
+    rereads = λ p. reread _ (λ us. filtered_by ((x.reads.rereads _).reads _) ((a.shows.reads.rereads _).reads _ _ _ last_arm) ((r.shows.reads.rereads _).reads _ _ us last_template))
+        (like_filter at _ pattern _ (x.reads.rereads _).good (a.shows.reads.rereads _).good (r.shows.reads.rereads _).good);
   };
 }
 
@@ -546,8 +649,15 @@ mutual
   good_atom : {n : Measured NetExpr} {ts us : List Terminal} → Atom measured ts n us → AreWords ts → GoodNet n × AreWords us
   good_atom (named {name = n}) w = (good_name n w.0, w.1)
   good_atom (identity {at}) w = (good_identity at, w.1.1)
-  good_atom (filtered {at} (filter {pattern = pattern} {t = t} {all = all} a b d)) w =
-      let x = good_variant a w.1 in let y = good_template b x.1.1 in let r = good_more_templates d (first_template t y.0) y.1 in (good_filter at pattern all x.0 r.0, r.1)
+  good_atom (filtered {at} (filter {pattern = pattern} a no_arms (last_templates {t = t} {all = all} b d))) w =
+      let x = good_variant a w.1 in let y = good_template b x.1.1 in let r = good_more_templates d (first_template Last t y.0) y.1 in (good_filter at pattern all x.0 r.0, r.1)
+  good_atom (filtered {at} (filter {pattern = pattern} a (armed {a = first} {all = some} e f) (last_templates {t = t} {all = all} b d))) w =
+      let x = good_variant a w.1 in
+      let z = good_arm e x.1 in
+      let k = good_more_arms f (record { filled = not_nil [] first.value; shows = first_arm first z.0 }) z.1 in
+      let y = good_template b k.1 in
+      let r = good_more_templates d (first_template Last t y.0) y.1 in
+      (good_armed at pattern some all x.0 k.0 r.0, r.1)
   good_atom (sync {at} {all} (patterns {v = v} a d)) w = let x = good_variant a w.1 in let r = good_more_patterns d (first_pattern v x.0) x.1 in (good_sync at all r.0, r.1)
   good_atom (parens a) w = let x = good_network a w.1 in (good_parens x.0, x.1.1)
 

@@ -20,6 +20,7 @@ use Rattle.sn_ast.specs.declared.label.Tuple.{Tuple}
 use Rattle.sn_ast.specs.declared.label.TypePart.{TypePart}
 use Rattle.sn_ast.specs.declared.label.TypePart.TheVariants.{Set, Named}
 use Rattle.sn_ast.specs.declared.label.Variant.{Variant}
+use Rattle.sn_ast.specs.declared.network.ArmAt.{ArmAt}
 use Rattle.sn_ast.specs.declared.network.ItemAt.{ItemAt}
 use Rattle.sn_ast.specs.declared.network.ItemSource.{ItemSource}
 use Rattle.sn_ast.specs.declared.network.ItemSource.TheVariants.{Same, Field, Expr}
@@ -105,11 +106,14 @@ unplaced_item i = record { target = unplaced_label i.target; source = unplaced_s
 abbrev pub unplaced_template : TemplateAt → TemplateAt
 unplaced_template t = record { items = map unplaced_item t.items; at = 0 }
 
+abbrev pub unplaced_arm : ArmAt → ArmAt
+unplaced_arm a = record { guard = unplaced_tag a.guard; templates = map unplaced_template a.templates }
+
 -- one level of a network
 abbrev pub unplaced_net_form : NetForm-F NetForm NetExpr → NetForm
 unplaced_net_form (NetForm-F.Name name) = net_form.Name (unplaced_ident name)
 unplaced_net_form NetForm-F.Identity = net_form.Identity
-unplaced_net_form (NetForm-F.Filter pattern templates) = net_form.Filter (unplaced_variant pattern) (map unplaced_template templates)
+unplaced_net_form (NetForm-F.Filter pattern arms templates) = net_form.Filter (unplaced_variant pattern) (map unplaced_arm arms) (map unplaced_template templates)
 unplaced_net_form (NetForm-F.Sync patterns) = net_form.Sync (map unplaced_variant patterns)
 unplaced_net_form (NetForm-F.Serial parts) = net_form.Serial parts
 unplaced_net_form (NetForm-F.Choice det branches) = net_form.Choice det branches

@@ -96,10 +96,10 @@ inner_scopes = record { outer = record { names = codes "twice" ∷ []; meanings 
 
 -- the parts of the network by their numbers
 abbrev pub start_part : Filter
-start_part = filters.filter_at the_names 99 start_pattern (start_template ∷ [])
+start_part = filters.filter_at the_names 99 start_pattern [] (start_template ∷ [])
 
 abbrev pub step_part : Filter
-step_part = filters.filter_at the_names 127 step_pattern (step_template ∷ [])
+step_part = filters.filter_at the_names 127 step_pattern [] (step_template ∷ [])
 
 abbrev pub exit_labels : Labels
 exit_labels = variant_at the_names exit_pattern
@@ -126,10 +126,10 @@ call_stands : Stands twice_call (Made call_component)
 call_stands = net_folds.fold_name (network_step the_names inner_scopes) (λ n. n.form n.at) 90 (named (codes "twice") 90)
 
 start_stands : Stands start_filter (Made (component.Filter start_part))
-start_stands = net_folds.fold_filter (network_step the_names inner_scopes) (λ n. n.form n.at) 99 start_pattern (start_template ∷ [])
+start_stands = net_folds.fold_filter (network_step the_names inner_scopes) (λ n. n.form n.at) 99 start_pattern [] (start_template ∷ [])
 
 step_stands : Stands step_filter (Made (component.Filter step_part))
-step_stands = net_folds.fold_filter (network_step the_names inner_scopes) (λ n. n.form n.at) 127 step_pattern (step_template ∷ [])
+step_stands = net_folds.fold_filter (network_step the_names inner_scopes) (λ n. n.form n.at) 127 step_pattern [] (step_template ∷ [])
 
 star_stands : Stands step_star (Made star_component)
 star_stands =
@@ -158,7 +158,7 @@ start_holds = holds_all pattern_list
 
 start_passes : CheckPasses start_filter
 start_passes least =
-    ap (λ check. check least) (net_folds.fold_filter (required_step the_names inner_scopes) (λ n. n.form n.at) 99 start_pattern (start_template ∷ []))
+    ap (λ check. check least) (net_folds.fold_filter (required_step the_names inner_scopes) (λ n. n.form n.at) 99 start_pattern [] (start_template ∷ []))
     ∙ filter_passes the_names 99 start_pattern start_template refl
     (template_passes the_names start_part.pattern pattern_list start_holds start_template (
       same_passes the_names start_part.pattern pattern_list start_holds (tag_at (codes "n") 110) refl,
@@ -181,7 +181,7 @@ added_passes = op_passes the_names step_part.pattern step_list step_holds Unknow
 
 step_passes : CheckPasses step_filter
 step_passes least =
-    ap (λ check. check least) (net_folds.fold_filter (required_step the_names inner_scopes) (λ n. n.form n.at) 127 step_pattern (step_template ∷ []))
+    ap (λ check. check least) (net_folds.fold_filter (required_step the_names inner_scopes) (λ n. n.form n.at) 127 step_pattern [] (step_template ∷ []))
     ∙ filter_passes the_names 127 step_pattern step_template refl
     (template_passes the_names step_part.pattern step_list step_holds step_template (less_passes, (added_passes, tt)) refl) least
 

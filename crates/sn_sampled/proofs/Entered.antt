@@ -47,11 +47,11 @@ call_leaves : Leaves (after_network twice_call)
 call_leaves = ap (λ entry. entry the_names) (net_folds.fold_name network_step (λ n. n.form) 90 (named (codes "twice") 90))
 
 start_leaves : Leaves (after_network start_filter)
-start_leaves = ap (λ entry. entry the_names) (net_folds.fold_filter network_step (λ n. n.form) 99 start_pattern (start_template ∷ [])) ∙ zero_leaves
+start_leaves = ap (λ entry. entry the_names) (net_folds.fold_filter network_step (λ n. n.form) 99 start_pattern [] (start_template ∷ [])) ∙ zero_leaves
 
 step_leaves : Leaves (after_network step_filter)
 step_leaves =
-    ap (λ entry. entry the_names) (net_folds.fold_filter network_step (λ n. n.form) 127 step_pattern (step_template ∷ []))
+    ap (λ entry. entry the_names) (net_folds.fold_filter network_step (λ n. n.form) 127 step_pattern [] (step_template ∷ []))
     ∙ ap (λ names. after_tags sum_of_s (entered names (codes "s"))) less_leaves ∙ sum_leaves
 
 star_leaves : Leaves (after_network step_star)

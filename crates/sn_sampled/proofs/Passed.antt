@@ -101,6 +101,6 @@ module _ (names : List (List ℕ)) where
   -- a filter of one template
   pub filter_passes : (place : ℕ) (pattern : Variant) (template : TemplateAt) → apart [] pattern.labels ≡ true →
       Passes (λ least. template_required names (variant_at names pattern) least template) →
-      Passes (filter_required names place pattern (template ∷ []))
+      Passes (filter_required names place pattern [] (template ∷ []))
   filter_passes place pattern template labels passes least =
       ap (λ before. template_required names (variant_at names pattern) before template) (labels_pass pattern.labels labels least) ∙ passes least

@@ -67,17 +67,19 @@ source_spelled =
     no_inner
     (net_expr.network (net_expr.serial (net_expr.post net_expr.name net_expr.bare)
     (net_expr.dots
-    (net_expr.post (net_expr.filtered (net_expr.filter (variant (labels refl (last_label refl)))
+    (net_expr.post (net_expr.filtered (net_expr.filter (variant (labels refl (last_label refl))) net_expr.no_arms
+    (net_expr.last_templates
     (net_expr.template (net_expr.items (net_expr.same refl) (net_expr.more_items (net_expr.computed (alone tag_expr.number)) net_expr.last_item)))
-    net_expr.last_template)) net_expr.bare)
+    net_expr.last_template))) net_expr.bare)
     (net_expr.dots
     (net_expr.post (net_expr.parens (net_expr.network (net_expr.serial (net_expr.post
     (net_expr.parens (net_expr.network (net_expr.serial (net_expr.post
-    (net_expr.filtered (net_expr.filter (variant (labels refl (more_labels refl (last_label refl))))
+    (net_expr.filtered (net_expr.filter (variant (labels refl (more_labels refl (last_label refl)))) net_expr.no_arms
+    (net_expr.last_templates
     (net_expr.template (net_expr.items
     (net_expr.computed (added tag_expr.tag refl tag_expr.number))
     (net_expr.more_items (net_expr.computed (added tag_expr.tag refl tag_expr.tag)) net_expr.last_item)))
-    net_expr.last_template))
+    net_expr.last_template)))
     (net_expr.guarded_star refl (variant (labels refl (last_label refl))) (compared tag_expr.tag refl tag_expr.number) net_expr.bare))
     net_expr.last) net_expr.final))
     (net_expr.split refl net_expr.bare)) net_expr.last) net_expr.final)) net_expr.bare)

@@ -76,7 +76,7 @@ abbrev pub start_template : TemplateAt
 start_template = record { items = same_item (tag_at (codes "n") 110) ∷ computed_item (named (codes "s") 114) zero_expr ∷ []; at = 109 }
 
 abbrev pub start_filter : NetExpr
-start_filter = filter_at 99 start_pattern (start_template ∷ [])
+start_filter = filter_at 99 start_pattern [] (start_template ∷ [])
 
 -- [{<n>,<s>} -> {<n>=<n>-1,<s>=<s>+<n>}]
 abbrev pub one_less : TExpr
@@ -92,7 +92,7 @@ abbrev pub step_template : TemplateAt
 step_template = record { items = computed_item (named (codes "n") 142) one_less ∷ computed_item (named (codes "s") 152) sum_of_s ∷ []; at = 141 }
 
 abbrev pub step_filter : NetExpr
-step_filter = filter_at 127 step_pattern (step_template ∷ [])
+step_filter = filter_at 127 step_pattern [] (step_template ∷ [])
 
 -- ** {<n>} if (<n> == 0), and !! <k>
 abbrev pub at_zero : TExpr

@@ -116,7 +116,7 @@ module _ (names : List (List ℕ)) (scopes : Scopes) where
       (IsSoundNetwork (network_step names scopes (map-NetForm NetForm NetExpr (ℕ → Network) Network form_network network_of (map-NetForm _ _ NetForm NetExpr (λ e. e.0) (λ e. e.0) z)) place))) [
         | NetForm-F.Name name ↦ λ place. tells_weaker _ _ _ (required_tells (is_part (meaning_of scopes name.text)) Unknown name.at) (λ there. named_sound (meaning_of scopes name.text) name.at)
         | NetForm-F.Identity ↦ λ place least none. (none, identity_sound place)
-        | NetForm-F.Filter pattern templates ↦ λ place. tells_weaker _ _ _ (filter_tells names place pattern templates) (λ closed. sound_made _ (sound_filter (filter_at names place pattern templates) closed))
+        | NetForm-F.Filter pattern arms templates ↦ λ place. tells_weaker _ _ _ (filter_tells names place pattern arms templates) (λ closed. sound_made _ (sound_filter (filter_at names place pattern arms templates) closed))
         | NetForm-F.Sync patterns ↦ λ place least none.
             let before = tells_each (variant_required names) (λ pattern. Unit {0}) (variant_tells names) patterns (required (is_between 2 8 (length patterns)) Arity place least) none in
             ((required_tells (is_between 2 8 (length patterns)) Arity place least before.0).0, sound_made _ (sound_sync place (each (variant_at names) patterns)))

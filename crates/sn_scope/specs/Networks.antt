@@ -51,7 +51,7 @@ guard_at names guard = option_map (tag_expr names) guard
 abbrev pub network_step : List (List ℕ) → Scopes → NetForm-F (ℕ → Network) Network → ℕ → Network
 network_step names scopes (NetForm-F.Name name) place = named_at (meaning_of scopes name.text) name.at
 network_step names scopes NetForm-F.Identity place = Made (Filter (identity_at place))
-network_step names scopes (NetForm-F.Filter pattern templates) place = Made (Filter (filter_at names place pattern templates))
+network_step names scopes (NetForm-F.Filter pattern arms templates) place = Made (Filter (filter_at names place pattern arms templates))
 network_step names scopes (NetForm-F.Sync patterns) place = Made (Sync place (each (variant_at names) patterns))
 network_step names scopes (NetForm-F.Serial parts) place = Made (Serial parts)
 network_step names scopes (NetForm-F.Choice det branches) place = Made (Choice place (merge_of det) branches)
@@ -75,7 +75,7 @@ all_required checks least = fold (λ so_far check. check so_far) least checks
 abbrev pub required_step : List (List ℕ) → Scopes → NetForm-F (ℕ → Check) Check → ℕ → Check
 required_step names scopes (NetForm-F.Name name) place least = required (is_part (meaning_of scopes name.text)) Unknown name.at least
 required_step names scopes NetForm-F.Identity place least = least
-required_step names scopes (NetForm-F.Filter pattern templates) place least = filter_required names place pattern templates least
+required_step names scopes (NetForm-F.Filter pattern arms templates) place least = filter_required names place pattern arms templates least
 required_step names scopes (NetForm-F.Sync patterns) place least =
     fold (variant_required names) (required (is_between 2 8 (length patterns)) Arity place least) patterns
 required_step names scopes (NetForm-F.Serial parts) place least = all_required parts least

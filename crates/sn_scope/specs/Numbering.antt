@@ -13,6 +13,7 @@ use Rattle.sn_ast.specs.declared.label.Tuple.{Tuple}
 use Rattle.sn_ast.specs.declared.label.TypePart.{TypePart}
 use Rattle.sn_ast.specs.declared.label.TypePart.TheVariants.{Set, Named}
 use Rattle.sn_ast.specs.declared.label.Variant.{Variant}
+use Rattle.sn_ast.specs.declared.network.ArmAt.{ArmAt}
 use Rattle.sn_ast.specs.declared.network.ItemAt.{ItemAt}
 use Rattle.sn_ast.specs.declared.network.ItemSource.{ItemSource}
 use Rattle.sn_ast.specs.declared.network.ItemSource.TheVariants.{Same, Field, Expr}
@@ -81,6 +82,10 @@ after_item names item = after_source item.source (after_label names item.target)
 abbrev pub after_template : Names → TemplateAt → Names
 after_template names template = fold after_item names template.items
 
+-- the tags of a guard, and then what its templates name
+abbrev pub after_arm : Names → ArmAt → Names
+after_arm names arm = fold after_template (after_tags arm.guard names) arm.templates
+
 abbrev pub after_guard : Option TExpr → Entry
 after_guard None names = names
 after_guard (Some e) names = after_tags e names
@@ -89,7 +94,7 @@ after_guard (Some e) names = after_tags e names
 abbrev pub network_step : NetForm-F Entry Entry → Entry
 network_step (NetForm-F.Name name) names = names
 network_step NetForm-F.Identity names = names
-network_step (NetForm-F.Filter pattern templates) names = fold after_template (after_variant names pattern) templates
+network_step (NetForm-F.Filter pattern arms templates) names = fold after_template (fold after_arm (after_variant names pattern) arms) templates
 network_step (NetForm-F.Sync patterns) names = fold after_variant names patterns
 network_step (NetForm-F.Serial parts) names = all_after parts names
 network_step (NetForm-F.Choice det branches) names = all_after branches names

@@ -1,18 +1,19 @@
 //! Filters by the numbers of their labels.
-ghost use Rattle.std.specs.Prelude.{◌≡◌, ◌++◌, ◌∷◌, [], IfOk, OnOk, fold, not, map as each};
+ghost use Rattle.std.specs.Prelude.{◌≡◌, ◌++◌, ◌∷◌, [], IfOk, OnOk, fold, length, not, map as each};
+ghost use Rattle.std.specs.List.{list_all};
 ghost use Rattle.std.specs.FinMap as map;
 ghost use Rattle.sn_net.specs.Filter.{target};
 ghost use Rattle.sn_record.specs.LabelSet.{contains};
 ghost use Rattle.sn_label_scope.specs.Refusals.{required};
 ghost use Rattle.sn_label_scope.specs.declared.refusal.Reason.TheVariants as reason;
-ghost use Rattle.sn_scope.specs.Filters.{filter_at, filter_required, identity_at, is_between, items_required, part_at, source_required, template_at, template_required};
+ghost use Rattle.sn_scope.specs.Filters.{are_few, arm_at, arm_required, filter_at, filter_required, identity_at, is_between, items_required, part_at, source_required, template_at, template_required};
 
 use crate::tags::{require_tags, tag_expr};
-use sn_ast::{ItemAt, ItemSource, TemplateAt, Variant};
+use sn_ast::{ArmAt, ItemAt, ItemSource, TemplateAt, Variant};
 use sn_label_scope::{Reason, Refusals, label_at, label_set};
 use sn_list::{Memory, Seq};
 use sn_names::NameTable;
-use sn_net::{Filter, Part, Template};
+use sn_net::{Arm, Filter, Part, Template};
 use sn_record::{Kind, Label, LabelSet};
 use std::alloc::Global;
 
@@ -124,24 +125,83 @@ fn templates_at(
     Ok(made)
 }
 
-/// The filter of a pattern and 1 to 16 templates. Another number of them is refused at the filter's place.
+/// The arm over the pattern, which has the guard's tags.
+fn arm_at(
+    alloc: Global,
+    names: &NameTable,
+    refusals: &mut Refusals,
+    pattern: &LabelSet,
+    arm: &ArmAt,
+) -> Result<Arm, Memory>
+    ensures arm { IfOk result (λ made. made ≡ arm_at names.now arm.now) }
+    ensures refused { OnOk result (refusals.new ≡ arm_required names.now pattern.now refusals.old arm.now) }
+{
+    require_tags(names, refusals, pattern, Reason::GuardTag, &arm.guard);
+    let guard = tag_expr(alloc, names, &arm.guard)?;
+    let templates = templates_at(alloc, names, refusals, pattern, arm.templates.as_slice())?;
+    Ok(Arm { guard, templates })
+}
+
+/// The arms over the pattern.
+fn arms_at(
+    alloc: Global,
+    names: &NameTable,
+    refusals: &mut Refusals,
+    pattern: &LabelSet,
+    arms: &[ArmAt],
+) -> Result<Seq<Arm>, Memory>
+    ensures arms { IfOk result (λ made. made ≡ each (arm_at names.now) arms.now) }
+    ensures refused { OnOk result (refusals.new ≡ fold (arm_required names.now pattern.now) refusals.old arms.now) }
+{
+    let mut made = Seq::new(alloc);
+    for arm in arms {
+        let arm = arm_at(alloc, names, refusals, pattern, arm)?;
+        sn_stack::append(&mut made, arm)?;
+    }
+    Ok(made)
+}
+
+/// Whether each arm has 1 to 16 templates.
+fn have_few(arms: &[ArmAt]) -> bool
+    ensures { result ≡ list_all (λ arm. is_between 1 16 (length arm.templates)) arms.now }
+{
+    for arm in arms {
+        if !is_between(1, 16, arm.templates.len()) {
+            return false;
+        }
+    }
+    true
+}
+
+/// Whether there are 0 to 16 arms, and 1 to 16 templates in each list.
+fn are_few(arms: &[ArmAt], templates: &[TemplateAt]) -> bool
+    ensures { result ≡ are_few arms.now templates.now }
+{
+    is_between(0, 16, arms.len()) && have_few(arms) && is_between(1, 16, templates.len())
+}
+
+/// The filter of a pattern, 0 to 16 arms and 1 to 16 templates in each list. Another number of them is refused at the filter's
+/// place.
 pub fn filter_at(
     alloc: Global,
     names: &NameTable,
     refusals: &mut Refusals,
     place: u32,
     pattern: &Variant,
+    arms: &[ArmAt],
     templates: &[TemplateAt],
 ) -> Result<Filter, Memory>
-    ensures filter { IfOk result (λ filter. filter ≡ filter_at names.now place pattern.now templates.now) }
-    ensures refused { OnOk result (refusals.new ≡ filter_required names.now place pattern.now templates.now refusals.old) }
+    ensures filter { IfOk result (λ filter. filter ≡ filter_at names.now place pattern.now arms.now templates.now) }
+    ensures refused { OnOk result (refusals.new ≡ filter_required names.now place pattern.now arms.now templates.now refusals.old) }
 {
-    refusals.require(is_between(1, 16, templates.len()), Reason::Arity, place);
+    refusals.require(are_few(arms, templates), Reason::Arity, place);
     let pattern = label_set(alloc, names, refusals, pattern.labels.as_slice())?;
+    let arms = arms_at(alloc, names, refusals, &pattern, arms)?;
     let templates = templates_at(alloc, names, refusals, &pattern, templates)?;
     Ok(Filter {
         place,
         pattern,
+        arms,
         templates,
     })
 }
@@ -160,6 +220,7 @@ pub fn identity_at(alloc: Global, place: u32) -> Result<Filter, Memory>
     Ok(Filter {
         place,
         pattern: LabelSet::new(alloc),
+        arms: Seq::new(alloc),
         templates,
     })
 }

@@ -12,7 +12,7 @@ ghost use Rattle.sn_label_scope.specs.declared.refusal.Reason.TheVariants as rea
 use crate::filters::{filter_at, identity_at, is_between};
 use crate::scopes::{Meaning, Scopes};
 use crate::tags::{require_tags, tag_expr};
-use sn_ast::{Ident, NetExpr, NetForm, TExpr, TemplateAt, Variant};
+use sn_ast::{ArmAt, Ident, NetExpr, NetForm, TExpr, TemplateAt, Variant};
 use sn_label_scope::{Reason, Refusals, label_set, label_sets};
 use sn_list::{Boxed, Memory, Seq};
 use sn_names::NameTable;
@@ -141,12 +141,13 @@ fn filter(
     refusals: &mut Refusals,
     place: u32,
     pattern: &Variant,
+    arms: &[ArmAt],
     templates: &[TemplateAt],
 ) -> Result<Boxed<Network>, Memory>
-    ensures network { IfOk result (λ network. network ≡ Made (form.Filter (filter_at names.now place pattern.now templates.now))) }
-    ensures refused { OnOk result (refusals.new ≡ filter_required names.now place pattern.now templates.now refusals.old) }
+    ensures network { IfOk result (λ network. network ≡ Made (form.Filter (filter_at names.now place pattern.now arms.now templates.now))) }
+    ensures refused { OnOk result (refusals.new ≡ filter_required names.now place pattern.now arms.now templates.now refusals.old) }
 {
-    let filter = filter_at(alloc, names, refusals, place, pattern, templates)?;
+    let filter = filter_at(alloc, names, refusals, place, pattern, arms, templates)?;
     made(alloc, Component::Filter(filter))
 }
 
@@ -210,9 +211,19 @@ pub fn network_at(
     match &network.form {
         NetForm::Name(name) => named_at(alloc, scopes, refusals, name),
         NetForm::Identity => identity(alloc, place),
-        NetForm::Filter { pattern, templates } => {
-            filter(alloc, names, refusals, place, pattern, templates.as_slice())
-        }
+        NetForm::Filter {
+            pattern,
+            arms,
+            templates,
+        } => filter(
+            alloc,
+            names,
+            refusals,
+            place,
+            pattern,
+            arms.as_slice(),
+            templates.as_slice(),
+        ),
         NetForm::Sync { patterns } => sync(alloc, names, refusals, place, patterns.as_slice()),
         NetForm::Serial { parts } => {
             let parts = networks_at(alloc, names, scopes, refusals, parts.as_slice())?;

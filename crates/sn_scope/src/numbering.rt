@@ -1,11 +1,11 @@
 //! The names of a source's labels, entered in the order in which they stand.
 ghost use Rattle.std.specs.Prelude.{◌≡◌, OnOk, map as each};
 ghost use Rattle.std.specs.List.{fold};
-ghost use Rattle.sn_scope.specs.Numbering.{after_box, after_decl, after_guard, after_item, after_label, after_labels, after_net, after_network, after_sig, after_tags, after_part, after_template, after_tuple, after_types, after_variant, all_after};
+ghost use Rattle.sn_scope.specs.Numbering.{after_arm, after_box, after_decl, after_guard, after_item, after_label, after_labels, after_net, after_network, after_sig, after_tags, after_part, after_template, after_tuple, after_types, after_variant, all_after};
 
 use sn_ast::{
-    BoxDecl, Decl, ItemAt, ItemSource, LabelAt, NetDecl, NetExpr, NetForm, Sig, TExpr, TForm,
-    TemplateAt, Tuple, TypePart, Variant,
+    ArmAt, BoxDecl, Decl, ItemAt, ItemSource, LabelAt, NetDecl, NetExpr, NetForm, Sig, TExpr,
+    TForm, TemplateAt, Tuple, TypePart, Variant,
 };
 use sn_list::Memory;
 use sn_names::NameTable;
@@ -117,6 +117,22 @@ fn enter_templates(names: &mut NameTable, templates: &[TemplateAt]) -> Result<()
     Ok(())
 }
 
+fn enter_arm(names: &mut NameTable, arm: &ArmAt) -> Result<(), Memory>
+    ensures { OnOk result (names.new ≡ after_arm names.old arm.now) }
+{
+    enter_tags(names, &arm.guard)?;
+    enter_templates(names, arm.templates.as_slice())
+}
+
+fn enter_arms(names: &mut NameTable, arms: &[ArmAt]) -> Result<(), Memory>
+    ensures { OnOk result (names.new ≡ fold after_arm names.old arms.now) }
+{
+    for arm in arms {
+        enter_arm(names, arm)?;
+    }
+    Ok(())
+}
+
 fn enter_guard(names: &mut NameTable, guard: &Option<TExpr>) -> Result<(), Memory>
     ensures { OnOk result (names.new ≡ after_guard guard.now names.old) }
 {
@@ -133,8 +149,13 @@ fn enter_network(names: &mut NameTable, network: &NetExpr) -> Result<(), Memory>
 {
     match &network.form {
         NetForm::Name(_) | NetForm::Identity => Ok(()),
-        NetForm::Filter { pattern, templates } => {
+        NetForm::Filter {
+            pattern,
+            arms,
+            templates,
+        } => {
             enter_labels(names, pattern.labels.as_slice())?;
+            enter_arms(names, arms.as_slice())?;
             enter_templates(names, templates.as_slice())
         }
         NetForm::Sync { patterns } => enter_variants(names, patterns.as_slice()),

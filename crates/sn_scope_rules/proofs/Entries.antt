@@ -14,6 +14,7 @@ use Rattle.sn_ast.specs.declared.label.Sig.TheVariants.{Arrow, Named as NamedSig
 use Rattle.sn_ast.specs.declared.label.TypePart.{TypePart}
 use Rattle.sn_ast.specs.declared.label.TypePart.TheVariants.{Set, Named as NamedType}
 use Rattle.sn_ast.specs.declared.label.Variant.{Variant}
+use Rattle.sn_ast.specs.declared.network.ArmAt.{ArmAt}
 use Rattle.sn_ast.specs.declared.network.ItemAt.{ItemAt}
 use Rattle.sn_ast.specs.declared.network.ItemSource.{ItemSource}
 use Rattle.sn_ast.specs.declared.network.ItemSource.TheVariants.{Same, Field, Expr}
@@ -30,10 +31,10 @@ use Rattle.sn_ast.specs.declared.tag_expr.TForm.TheOpen.{TForm-F}
 use Rattle.sn_ast.specs.declared.tag_expr.TForm.TheViews.{roll-TForm, roll-TExpr}
 use Rattle.sn_names.specs.Names.{entered, is_held}
 use Rattle.sn_names.proofs.NamesLaws.{is_held-entered}
-use Rattle.sn_scope.specs.Numbering.{Entry, after_box, after_decl, after_guard, after_item, after_label, after_labels, after_net, after_network, after_part, after_sig, after_signature, after_source, after_tags, after_template, after_tuple, after_types, after_variant, all_after, decl_step, names_of, net_step, network_step, tags_step as entry_step}
+use Rattle.sn_scope.specs.Numbering.{Entry, after_arm, after_box, after_decl, after_guard, after_item, after_label, after_labels, after_net, after_network, after_part, after_sig, after_signature, after_source, after_tags, after_template, after_tuple, after_types, after_variant, all_after, decl_step, names_of, net_step, network_step, tags_step as entry_step}
 use Rattle.sn_scope_rules.specs.Filters.{tags_in, tags_step}
 use Rattle.sn_scope_rules.specs.Standing.{StandsIn}
-use Rattle.sn_scope_rules.proofs.Held.{Each, HeldBox, HeldDecl, HeldDeclLevel, HeldGuard, HeldIdent, HeldItem, HeldLabel, HeldLabels, HeldLevel, HeldNet, HeldNetDecl, HeldNetSig, HeldPart, HeldSig, HeldSource, HeldTemplate, HeldTuple, HeldType, HeldVariant, Names, each_cons, each_nil, level_decl, level_net}
+use Rattle.sn_scope_rules.proofs.Held.{Each, HeldArm, HeldBox, HeldDecl, HeldDeclLevel, HeldGuard, HeldIdent, HeldItem, HeldLabel, HeldLabels, HeldLevel, HeldNet, HeldNetDecl, HeldNetSig, HeldPart, HeldSig, HeldSource, HeldTags, HeldTemplate, HeldTuple, HeldType, HeldVariant, Names, each_cons, each_nil, level_decl, level_net}
 use Rattle.sn_scope_rules.proofs.Idents.{held_entered}
 use Rattle.sn_scope_rules.proofs.Standing.{in_either}
 
@@ -151,6 +152,13 @@ item_enters item = enters_both (λ names. after_label names item.target) (after_
 template_enters : (template : TemplateAt) → Enters (λ names. after_template names template) (λ all. HeldTemplate all template)
 template_enters template = enters_each after_item HeldItem item_enters template.items
 
+templates_enter : (templates : List TemplateAt) → Enters (λ names. fold after_template names templates) (λ all. Each (HeldTemplate all) templates)
+templates_enter templates = enters_each after_template HeldTemplate template_enters templates
+
+arm_enters : (arm : ArmAt) → Enters (λ names. after_arm names arm) (λ all. HeldArm all arm)
+arm_enters arm = enters_both (after_tags arm.guard) (λ names. fold after_template names arm.templates) (λ all. HeldTags all arm.guard) (λ all. Each (HeldTemplate all) arm.templates)
+    (tags_enter arm.guard) (templates_enter arm.templates)
+
 guard_enters : (guard : Option TExpr) → Enters (after_guard guard) (λ all. HeldGuard all guard)
 guard_enters None = enters_nothing (λ all. Unit {0}) (λ all. tt)
 guard_enters (Some e) = tags_enter e
@@ -210,8 +218,12 @@ network_enters = ind-NetExpr FormEnters NetEnters
     (λ all. HeldLevel all (map-NetForm _ _ NetForm NetExpr (λ e. e.0) (λ e. e.0) z))) [
       | NetForm-F.Name name ↦ leaf (λ names. names) (λ all. Unit {0}) (enters_nothing (λ all. Unit {0}) (λ all. tt))
       | NetForm-F.Identity ↦ leaf (λ names. names) (λ all. Unit {0}) (enters_nothing (λ all. Unit {0}) (λ all. tt))
-      | NetForm-F.Filter pattern templates ↦ leaf (λ names. fold after_template (after_variant names pattern) templates) (λ all. HeldVariant all pattern × Each (HeldTemplate all) templates)
-          (enters_both (λ names. after_variant names pattern) (λ names. fold after_template names templates) (λ all. HeldVariant all pattern) (λ all. Each (HeldTemplate all) templates) (variant_enters pattern) (enters_each after_template HeldTemplate template_enters templates))
+      | NetForm-F.Filter pattern arms templates ↦ leaf (λ names. fold after_template (fold after_arm (after_variant names pattern) arms) templates)
+          (λ all. HeldVariant all pattern × (Each (HeldArm all) arms × Each (HeldTemplate all) templates))
+          (enters_both (λ names. after_variant names pattern) (λ names. fold after_template (fold after_arm names arms) templates) (λ all. HeldVariant all pattern)
+          (λ all. Each (HeldArm all) arms × Each (HeldTemplate all) templates) (variant_enters pattern)
+          (enters_both (λ names. fold after_arm names arms) (λ names. fold after_template names templates) (λ all. Each (HeldArm all) arms) (λ all. Each (HeldTemplate all) templates)
+          (enters_each after_arm HeldArm arm_enters arms) (templates_enter templates)))
       | NetForm-F.Sync patterns ↦ leaf (λ names. fold after_variant names patterns) (λ all. Each (HeldVariant all) patterns) (enters_each after_variant HeldVariant variant_enters patterns)
       | NetForm-F.Serial parts ↦ enters_so (all_after (each after_network (exprs parts))) (λ all. Each (HeldNet all) (exprs parts)) (λ all. HeldLevel all (NetForm-F.Serial (exprs parts))) (nets_enter parts) (λ all held. (tt, held))
       | NetForm-F.Choice det branches ↦ enters_so (all_after (each after_network (exprs branches))) (λ all. Each (HeldNet all) (exprs branches)) (λ all. HeldLevel all (NetForm-F.Choice det (exprs branches))) (nets_enter branches) (λ all held. (tt, held))

@@ -1,9 +1,11 @@
 -- Checks of expressions over tags and of filters find what breaks their rules.
-use Rattle.std.proofs.Common.{◌≡◌, ℕ, Bool, true, false, not, List, [], ◌∷◌, ◌++◌, length, fold, ◌⊎◌, inl, inr, refl, sym, ap, ◌∙◌, subst, subst₂}
+use Rattle.std.proofs.Common.{◌≡◌, ℕ, Bool, true, false, not, ◌&&◌, List, [], ◌∷◌, ◌++◌, length, fold, ◌⊎◌, inl, inr, refl, sym, ap, ◌∙◌, subst, subst₂, true≢false}
 use Rattle.std.specs.FinMap as finite
+use Rattle.std.specs.List.{list_all}
 use Rattle.sn_ast.specs.declared.label.Ident.{Ident}
 use Rattle.sn_ast.specs.declared.label.LabelAt.{LabelAt}
 use Rattle.sn_ast.specs.declared.label.Variant.{Variant}
+use Rattle.sn_ast.specs.declared.network.ArmAt.{ArmAt}
 use Rattle.sn_ast.specs.declared.network.ItemAt.{ItemAt}
 use Rattle.sn_ast.specs.declared.network.ItemSource.{ItemSource}
 use Rattle.sn_ast.specs.declared.network.ItemSource.TheVariants.{Same, Field, Expr}
@@ -16,15 +18,15 @@ use Rattle.sn_ast.specs.declared.tag_expr.TForm.TheViews.{roll-TForm, roll-TExpr
 use Rattle.sn_label_scope.specs.Labels.{labels_at, variant_at, variant_required}
 use Rattle.sn_label_scope.specs.Refusals.{Check, required}
 use Rattle.sn_label_scope.specs.declared.refusal.Reason.{Reason}
-use Rattle.sn_label_scope.specs.declared.refusal.Reason.TheVariants.{Unknown, Twice, Arity}
+use Rattle.sn_label_scope.specs.declared.refusal.Reason.TheVariants.{Unknown, Twice, Arity, GuardTag}
 use Rattle.sn_label_scope.specs.declared.refusal.Refusal.{Refusal}
 use Rattle.sn_names.specs.Names.{label_number}
 use Rattle.sn_net.specs.Filter.{tag, target}
 use Rattle.sn_record.specs.LabelSet.{Labels, contains}
-use Rattle.sn_scope.specs.Filters.{filter_required, from_required, is_between, items_required, part_at, source_required, template_required}
+use Rattle.sn_scope.specs.Filters.{are_few, arm_required, filter_required, from_required, is_between, items_required, part_at, source_required, template_required, templates_required}
 use Rattle.sn_scope.specs.Tags.{tags_required, tags_step as check_step}
 use Rattle.sn_scope_rules.specs.Filters.{FilterBreaks, ItemsBreak, NamesOther, SourceBreaks, tags_in, tags_step}
-use Rattle.sn_scope_rules.specs.Filters.FilterBreaks.{in_pattern, in_template, template_count}
+use Rattle.sn_scope_rules.specs.Filters.FilterBreaks.{arm_count, arm_template_count, in_arm_template, in_guard, in_pattern, in_template, template_count}
 use Rattle.sn_scope_rules.specs.Filters.ItemsBreak.{in_source, set_twice}
 use Rattle.sn_scope_rules.specs.Filters.NamesOther.{no_such_tag}
 use Rattle.sn_scope_rules.specs.Filters.SourceBreaks.{computes_from_no_tag, copies_no_label, renames_no_field}
@@ -34,7 +36,7 @@ use Rattle.sn_scope_rules.specs.Standing.{StandsIn}
 use Rattle.sn_scope_rules.specs.Standing.StandsIn.{here, later}
 use Rattle.sn_scope_rules.proofs.Checks.{Among, Fails, Finds, among_cases, among_cons, among_none, finds_both, finds_each, finds_nothing, finds_required, finds_same, held_from}
 use Rattle.sn_scope_rules.proofs.Labels.{labels_break}
-use Rattle.sn_scope_rules.proofs.Held.{Each, HeldIdent, HeldItem, HeldLabel, HeldSource, HeldTags, HeldTemplate, HeldVariant}
+use Rattle.sn_scope_rules.proofs.Held.{Each, HeldArm, HeldIdent, HeldItem, HeldLabel, HeldSource, HeldTags, HeldTemplate, HeldVariant}
 use Rattle.sn_scope_rules.proofs.Texts.{contains_label, contains_set, numbered}
 use Rattle.sn_scope_rules.proofs.Standing.{Behind, behind_cases, behind_first, behind_in, behind_more, in_behind, in_either, in_left, in_right, none_behind}
 
@@ -196,31 +198,108 @@ module _ (names : List (List ℕ)) (labels : List LabelAt) where
   items_break : (items : List ItemAt) → HeldItems items → Finds (items_required names pattern finite.empty items) (ItemsBreak labels items)
   items_break items held = finds_same (items_required names pattern finite.empty items) (λ r. Behind with_item finite.empty (Item r) items) (ItemsBreak labels items) (items_find finite.empty items held) (items_to items held) (items_from items held)
 
-module _ (names : List (List ℕ)) (place : ℕ) (pattern : Variant) (templates : List TemplateAt) where
+-- where two tests do not both hold, one of them fails
+and_fails : (a b : Bool) → (a && b) ≡ false → (a ≡ false) ⊎ (b ≡ false)
+and_fails true b fails = inr fails
+and_fails false b fails = inl refl
+
+left_fails : (a b : Bool) → a ≡ false → (a && b) ≡ false
+left_fails a b fails = ap (λ x. x && b) fails
+
+right_fails : (a b : Bool) → b ≡ false → (a && b) ≡ false
+right_fails true b fails = fails
+right_fails false b fails = refl
+
+-- where a test does not hold of all, it fails for one
+abbrev FailsIn : {A : Type 0} → (A → Bool) → List A → Type 0
+FailsIn {A} test xs = (x : A) × StandsIn x xs × (test x ≡ false)
+
+fails_later : {A : Type 0} (test : A → Bool) (x : A) (xs : List A) → FailsIn test xs → FailsIn test (x ∷ xs)
+fails_later test x xs one = (one.0, later one.1, one.2)
+
+one_fails : {A : Type 0} (test : A → Bool) (xs : List A) → list_all test xs ≡ false → FailsIn test xs
+one_fails test [] fails = absurd (true≢false fails)
+one_fails test (x ∷ xs) fails = by (and_fails (test x) (list_all test xs) fails) (λ rest. fails_later test x xs (one_fails test xs rest))
+  where
+    by : (test x ≡ false) ⊎ (list_all test xs ≡ false) → (list_all test xs ≡ false → FailsIn test (x ∷ xs)) → FailsIn test (x ∷ xs)
+    by (inl own) more = (x, here, own)
+    by (inr rest) more = more rest
+
+all_fails : {A : Type 0} (test : A → Bool) (x : A) (xs : List A) → StandsIn x xs → test x ≡ false → list_all test xs ≡ false
+all_fails test x _ (here {xs}) fails = left_fails (test x) (list_all test xs) fails
+all_fails test x _ (later {y} {xs} at) fails = right_fails (test y) (list_all test xs) (all_fails test x xs at fails)
+
+module _ (names : List (List ℕ)) (place : ℕ) (pattern : Variant) (arms : List ArmAt) (templates : List TemplateAt) where
   abbrev InTemplate : TemplateAt → Refusal → Type 0
   InTemplate template = ItemsBreak pattern.labels template.items
 
-  abbrev count_right : Bool
-  count_right = is_between 1 16 (length templates)
+  abbrev InArm : ArmAt → Refusal → Type 0
+  InArm arm r = OtherTag names pattern.labels GuardTag arm.guard r ⊎ Among InTemplate arm.templates r
 
-  abbrev InFilter : Refusal → Type 0
-  InFilter r = (Fails count_right Arity place r ⊎ LabelsBreak pattern.labels r) ⊎ Among InTemplate templates r
+  abbrev FilterHas : Refusal → Type 0
+  FilterHas r = ((Fails (are_few arms templates) Arity place r ⊎ LabelsBreak pattern.labels r) ⊎ Among InArm arms r) ⊎ Among InTemplate templates r
 
-  filter_to : (r : Refusal) → InFilter r → FilterBreaks place pattern templates r
-  filter_to r (inl (inl fails)) = subst (FilterBreaks place pattern templates) fails.1 (template_count fails.0)
-  filter_to r (inl (inr one)) = in_pattern one
+  abbrev Breaks : Refusal → Type 0
+  Breaks = FilterBreaks place pattern arms templates
+
+  abbrev has_few : ArmAt → Bool
+  has_few arm = is_between 1 16 (length arm.templates)
+
+  few_breaks : are_few arms templates ≡ false → Breaks (record { reason = Arity; at = place })
+  few_breaks fails = by (and_fails (is_between 0 16 (length arms)) (list_all has_few arms && is_between 1 16 (length templates)) fails)
+    where
+      of_lists : (list_all has_few arms ≡ false) ⊎ (is_between 1 16 (length templates) ≡ false) → Breaks (record { reason = Arity; at = place })
+      of_lists (inl some) = let one = one_fails has_few arms some in arm_template_count one.1 one.2
+      of_lists (inr wrong) = template_count wrong
+
+      by : (is_between 0 16 (length arms) ≡ false) ⊎ ((list_all has_few arms && is_between 1 16 (length templates)) ≡ false) → Breaks (record { reason = Arity; at = place })
+      by (inl many) = arm_count many
+      by (inr lists) = of_lists (and_fails (list_all has_few arms) (is_between 1 16 (length templates)) lists)
+
+  lists_fail : (list_all has_few arms && is_between 1 16 (length templates)) ≡ false → are_few arms templates ≡ false
+  lists_fail fails = right_fails (is_between 0 16 (length arms)) (list_all has_few arms && is_between 1 16 (length templates)) fails
+
+  arm_to : (arm : ArmAt) (r : Refusal) → StandsIn arm arms → InArm arm r → Breaks r
+  arm_to arm r at (inl other) = subst Breaks other.2 (in_guard at other.1)
+  arm_to arm r at (inr one) = in_arm_template at one.1 one.2
+
+  filter_to : (r : Refusal) → FilterHas r → Breaks r
+  filter_to r (inl (inl (inl fails))) = subst Breaks fails.1 (few_breaks fails.0)
+  filter_to r (inl (inl (inr one))) = in_pattern one
+  filter_to r (inl (inr one)) = arm_to one.0 r one.1 one.2
   filter_to r (inr one) = in_template one.1 one.2
 
-  filter_from : (r : Refusal) → FilterBreaks place pattern templates r → InFilter r
-  filter_from r (template_count wrong) = inl (inl (wrong, refl))
-  filter_from r (in_pattern one) = inl (inr one)
+  filter_from : (r : Refusal) → Breaks r → FilterHas r
+  filter_from r (arm_count many) = inl (inl (inl (left_fails (is_between 0 16 (length arms)) (list_all has_few arms && is_between 1 16 (length templates)) many, refl)))
+  filter_from r (arm_template_count {arm} at wrong) =
+      inl (inl (inl (lists_fail (left_fails (list_all has_few arms) (is_between 1 16 (length templates)) (all_fails has_few arm arms at wrong)), refl)))
+  filter_from r (template_count wrong) = inl (inl (inl (lists_fail (right_fails (list_all has_few arms) (is_between 1 16 (length templates)) wrong), refl)))
+  filter_from r (in_pattern one) = inl (inl (inr one))
+  filter_from r (in_guard {arm} {name} at other) = inl (inr (arm, at, inl (name, other, refl)))
+  filter_from r (in_arm_template {arm} {template} at within one) = inl (inr (arm, at, inr (template, within, one)))
   filter_from r (in_template {template} at one) = inr (template, at, one)
 
-  pub filter_finds : HeldVariant names pattern → Each (HeldTemplate names) templates → Finds (filter_required names place pattern templates) (FilterBreaks place pattern templates)
-  filter_finds held_pattern held = finds_same (filter_required names place pattern templates) InFilter (FilterBreaks place pattern templates)
-      (finds_both (λ least. variant_required names (required count_right Arity place least) pattern) (λ least. fold (template_required names (variant_at names pattern)) least templates)
-      (λ r. Fails count_right Arity place r ⊎ LabelsBreak pattern.labels r) (Among InTemplate templates)
-      (finds_both (required count_right Arity place) (λ least. variant_required names least pattern) (Fails count_right Arity place) (LabelsBreak pattern.labels)
-      (finds_required count_right Arity place) (labels_break names pattern.labels held_pattern))
-      (finds_each (template_required names (variant_at names pattern)) InTemplate templates (λ template at. items_break names pattern.labels template.items (held template at))))
+  templates_find : (some : List TemplateAt) → Each (HeldTemplate names) some → Finds (templates_required names (variant_at names pattern) some) (Among InTemplate some)
+  templates_find some held =
+      finds_each (template_required names (variant_at names pattern)) InTemplate some (λ template at. items_break names pattern.labels template.items (held template at))
+
+  arm_finds : (arm : ArmAt) → HeldArm names arm → Finds (λ least. arm_required names (variant_at names pattern) least arm) (InArm arm)
+  arm_finds arm held = finds_both (tags_required names (variant_at names pattern) GuardTag arm.guard) (templates_required names (variant_at names pattern) arm.templates)
+      (OtherTag names pattern.labels GuardTag arm.guard) (Among InTemplate arm.templates)
+      (other_tags names pattern.labels GuardTag arm.guard held.0) (templates_find arm.templates held.1)
+
+  pub filter_finds : HeldVariant names pattern → Each (HeldArm names) arms → Each (HeldTemplate names) templates → Finds (filter_required names place pattern arms templates) Breaks
+  filter_finds held_pattern held_arms held = finds_same (filter_required names place pattern arms templates) FilterHas Breaks
+      (finds_both (λ least. fold (arm_required names (variant_at names pattern)) (variant_required names (required few Arity place least) pattern) arms)
+      (templates_required names (variant_at names pattern) templates)
+      (λ r. (Fails few Arity place r ⊎ LabelsBreak pattern.labels r) ⊎ Among InArm arms r) (Among InTemplate templates)
+      (finds_both (λ least. variant_required names (required few Arity place least) pattern) (λ least. fold (arm_required names (variant_at names pattern)) least arms)
+      (λ r. Fails few Arity place r ⊎ LabelsBreak pattern.labels r) (Among InArm arms)
+      (finds_both (required few Arity place) (λ least. variant_required names least pattern) (Fails few Arity place) (LabelsBreak pattern.labels)
+      (finds_required few Arity place) (labels_break names pattern.labels held_pattern))
+      (finds_each (arm_required names (variant_at names pattern)) InArm arms (λ arm at. arm_finds arm (held_arms arm at))))
+      (templates_find templates held))
       filter_to filter_from
+    where
+      few : Bool
+      few = are_few arms templates

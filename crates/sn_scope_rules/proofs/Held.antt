@@ -13,6 +13,7 @@ use Rattle.sn_ast.specs.declared.label.Tuple.{Tuple}
 use Rattle.sn_ast.specs.declared.label.TypePart.{TypePart}
 use Rattle.sn_ast.specs.declared.label.TypePart.TheVariants.{Set, Named as NamedType}
 use Rattle.sn_ast.specs.declared.label.Variant.{Variant}
+use Rattle.sn_ast.specs.declared.network.ArmAt.{ArmAt}
 use Rattle.sn_ast.specs.declared.network.ItemAt.{ItemAt}
 use Rattle.sn_ast.specs.declared.network.ItemSource.{ItemSource}
 use Rattle.sn_ast.specs.declared.network.ItemSource.TheVariants.{Same, Field, Expr}
@@ -83,6 +84,9 @@ HeldItem all item = HeldLabel all item.target × HeldSource all item.source
 abbrev pub HeldTemplate : Names → TemplateAt → Type 0
 HeldTemplate all template = Each (HeldItem all) template.items
 
+abbrev pub HeldArm : Names → ArmAt → Type 0
+HeldArm all arm = HeldTags all arm.guard × Each (HeldTemplate all) arm.templates
+
 abbrev pub HeldGuard : Names → Option TExpr → Type 0
 HeldGuard all None = Unit {0}
 HeldGuard all (Some e) = HeldTags all e
@@ -91,7 +95,7 @@ HeldGuard all (Some e) = HeldTags all e
 abbrev pub HeldForm : Names → NetForm-F NetForm NetExpr → Type 0
 HeldForm all (NetForm-F.Name name) = Unit {0}
 HeldForm all NetForm-F.Identity = Unit {0}
-HeldForm all (NetForm-F.Filter pattern templates) = HeldVariant all pattern × Each (HeldTemplate all) templates
+HeldForm all (NetForm-F.Filter pattern arms templates) = HeldVariant all pattern × (Each (HeldArm all) arms × Each (HeldTemplate all) templates)
 HeldForm all (NetForm-F.Sync patterns) = Each (HeldVariant all) patterns
 HeldForm all (NetForm-F.Serial parts) = Unit {0}
 HeldForm all (NetForm-F.Choice det branches) = Unit {0}

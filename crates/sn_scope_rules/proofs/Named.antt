@@ -15,6 +15,7 @@ use Rattle.sn_ast.specs.declared.label.Sig.{Sig}
 use Rattle.sn_ast.specs.declared.label.Sig.TheVariants.{Arrow, Named as NamedSig}
 use Rattle.sn_ast.specs.declared.label.TypePart.{TypePart}
 use Rattle.sn_ast.specs.declared.label.TypePart.TheVariants.{Set, Named as NamedType}
+use Rattle.sn_ast.specs.declared.network.ArmAt.{ArmAt}
 use Rattle.sn_ast.specs.declared.network.ItemAt.{ItemAt}
 use Rattle.sn_ast.specs.declared.network.ItemSource.{ItemSource}
 use Rattle.sn_ast.specs.declared.network.ItemSource.TheVariants.{Same, Field, Expr}
@@ -31,9 +32,9 @@ use Rattle.sn_ast.specs.declared.tag_expr.TForm.TheOpen.{TForm-F}
 use Rattle.sn_ast.specs.declared.tag_expr.TForm.TheViews.{roll-TForm, roll-TExpr}
 use Rattle.sn_names.specs.Names.{all_entered, entered}
 use Rattle.sn_names.proofs.NamesLaws.{all_entered-append}
-use Rattle.sn_scope.specs.Numbering.{Entry, Names, after_box, after_decl, after_guard, after_item, after_label, after_labels, after_net, after_network, after_part, after_sig, after_signature, after_source, after_tags, after_template, after_tuple, after_types, after_variant, all_after, decl_step, names_of, net_step, network_step, tags_step as entry_step}
+use Rattle.sn_scope.specs.Numbering.{Entry, Names, after_arm, after_box, after_decl, after_guard, after_item, after_label, after_labels, after_net, after_network, after_part, after_sig, after_signature, after_source, after_tags, after_template, after_tuple, after_types, after_variant, all_after, decl_step, names_of, net_step, network_step, tags_step as entry_step}
 use Rattle.sn_scope_rules.specs.Filters.{tags_in, tags_step}
-use Rattle.sn_scope_rules.specs.Named.{in_box, in_decl, in_guard, in_item, in_labels, in_net, in_network, in_part, in_program, in_sig, in_signature, in_source, in_template, in_tuple, in_type, in_variant, together, Named, decl_step as named_decl, net_step as named_net, network_step as named_network}
+use Rattle.sn_scope_rules.specs.Named.{in_arm, in_box, in_decl, in_guard, in_item, in_labels, in_net, in_network, in_part, in_program, in_sig, in_signature, in_source, in_template, in_tuple, in_type, in_variant, together, Named, decl_step as named_decl, net_step as named_net, network_step as named_network}
 use Rattle.sn_scope_rules.proofs.Standing.{together_map}
 
 abbrev texts : Named → Names
@@ -117,6 +118,13 @@ item_lists item = λ names. source_lists item.source (after_label names item.tar
 template_lists : (template : TemplateAt) → Lists (λ names. after_template names template) (in_template template)
 template_lists template = lists_each after_item in_item item_lists template.items
 
+templates_list : (templates : List TemplateAt) → Lists (λ names. fold after_template names templates) (flat_map in_template templates)
+templates_list templates = lists_each after_template in_template template_lists templates
+
+arm_lists : (arm : ArmAt) → Lists (λ names. after_arm names arm) (in_arm arm)
+arm_lists arm = lists_both (after_tags arm.guard) (λ names. fold after_template names arm.templates) (tags_in arm.guard) (flat_map in_template arm.templates)
+    (tags_list arm.guard) (templates_list arm.templates)
+
 guard_lists : (guard : Option TExpr) → Lists (after_guard guard) (in_guard guard)
 guard_lists None = λ names. refl
 guard_lists (Some e) = tags_list e
@@ -157,8 +165,10 @@ network_lists = ind-NetExpr (λ form. Lists (net_entry form) (net_named form)) N
     (named_network (map-NetForm NetForm NetExpr Named Named net_named in_network (map-NetForm _ _ NetForm NetExpr (λ e. e.0) (λ e. e.0) z)))) [
       | NetForm-F.Name name ↦ λ names. refl
       | NetForm-F.Identity ↦ λ names. refl
-      | NetForm-F.Filter pattern templates ↦ lists_both (λ names. after_variant names pattern) (λ names. fold after_template names templates) (in_variant pattern)
-          (flat_map in_template templates) (labels_list pattern.labels) (lists_each after_template in_template template_lists templates)
+      | NetForm-F.Filter pattern arms templates ↦ lists_both (λ names. after_variant names pattern) (λ names. fold after_template (fold after_arm names arms) templates)
+          (in_variant pattern) (flat_map in_arm arms ++ flat_map in_template templates) (labels_list pattern.labels)
+          (lists_both (λ names. fold after_arm names arms) (λ names. fold after_template names templates) (flat_map in_arm arms) (flat_map in_template templates)
+          (lists_each after_arm in_arm arm_lists arms) (templates_list templates))
       | NetForm-F.Sync patterns ↦ lists_each after_variant in_variant (λ pattern. labels_list pattern.labels) patterns
       | NetForm-F.Serial parts ↦ nets_list parts
       | NetForm-F.Choice det branches ↦ nets_list branches

@@ -3,6 +3,7 @@ use Rattle.std.proofs.Common.{◌≡◌, ℕ, Bool, List, [], ◌∷◌, length,
 use Rattle.std.proofs.lemmas.List.{length-map}
 use Rattle.sn_ast.specs.declared.label.Ident.{Ident}
 use Rattle.sn_ast.specs.declared.label.Variant.{Variant}
+use Rattle.sn_ast.specs.declared.network.ArmAt.{ArmAt}
 use Rattle.sn_ast.specs.declared.network.NetExpr.{NetExpr, fold-roll-NetExpr}
 use Rattle.sn_ast.specs.declared.network.NetForm.{NetForm, fold-NetForm}
 use Rattle.sn_ast.specs.declared.network.NetForm.TheFolds.{fold-roll-NetForm, ind-NetExpr, map-NetForm}
@@ -134,14 +135,14 @@ module _ (names : List (List ℕ)) (scopes : Scopes) (around : Around) (same : A
       nothing r (inl one) = unbroken r one
       nothing r (inr one) = among_none Breaks r one
 
-  filters_find : (pattern : Variant) (templates : List TemplateAt) → HeldLevel names (NetForm-F.Filter pattern templates) → (place : ℕ) → Finds (filter_required names place pattern templates) (LevelBreaks place (NetForm-F.Filter pattern templates))
-  filters_find pattern templates held place = finds_same (filter_required names place pattern templates) (FilterBreaks place pattern templates) (LevelBreaks place (NetForm-F.Filter pattern templates))
-      (filter_finds names place pattern templates held.0.0 held.0.1) (λ r one. inl (in_filter one)) from
+  filters_find : (pattern : Variant) (arms : List ArmAt) (templates : List TemplateAt) → HeldLevel names (NetForm-F.Filter pattern arms templates) → (place : ℕ) → Finds (filter_required names place pattern arms templates) (LevelBreaks place (NetForm-F.Filter pattern arms templates))
+  filters_find pattern arms templates held place = finds_same (filter_required names place pattern arms templates) (FilterBreaks place pattern arms templates) (LevelBreaks place (NetForm-F.Filter pattern arms templates))
+      (filter_finds names place pattern arms templates held.0.0 held.0.1.0 held.0.1.1) (λ r one. inl (in_filter one)) from
     where
-      broken : (r : Refusal) → FormBreaks around place (NetForm-F.Filter pattern templates) r → FilterBreaks place pattern templates r
+      broken : (r : Refusal) → FormBreaks around place (NetForm-F.Filter pattern arms templates) r → FilterBreaks place pattern arms templates r
       broken r (in_filter one) = one
 
-      from : (r : Refusal) → LevelBreaks place (NetForm-F.Filter pattern templates) r → FilterBreaks place pattern templates r
+      from : (r : Refusal) → LevelBreaks place (NetForm-F.Filter pattern arms templates) r → FilterBreaks place pattern arms templates r
       from r (inl one) = broken r one
       from r (inr one) = absurd (among_none Breaks r one)
 
@@ -254,7 +255,7 @@ module _ (names : List (List ℕ)) (scopes : Scopes) (around : Around) (same : A
       (LevelBreaks place (map-NetForm _ _ NetForm NetExpr (λ e. e.0) (λ e. e.0) z))) [
         | NetForm-F.Name name ↦ name_finds name
         | NetForm-F.Identity ↦ identity_finds
-        | NetForm-F.Filter pattern templates ↦ filters_find pattern templates
+        | NetForm-F.Filter pattern arms templates ↦ filters_find pattern arms templates
         | NetForm-F.Sync patterns ↦ cell_finds patterns
         | NetForm-F.Serial parts ↦ serial_finds parts
         | NetForm-F.Choice det branches ↦ choice_finds det branches

@@ -46,7 +46,7 @@ module _ (names : List (List ℕ)) (boxes : List BoxProgram) where
     tree_once around network t (name_of_box {there} name decl declaration is found at) u other =
         sym (by_name around name (place_of network) decl there (Decl-F.BoxDecl declaration) u found at (by_form around network (NetForm-F.Name name) u is other))
     tree_once around network t (identity is) u other = sym (by_form around network NetForm-F.Identity u is other)
-    tree_once around network t (filter pattern templates is) u other = sym (by_form around network (NetForm-F.Filter pattern templates) u is other)
+    tree_once around network t (filter pattern arms templates is) u other = sym (by_form around network (NetForm-F.Filter pattern arms templates) u is other)
     tree_once around network t (cell patterns is) u other = sym (by_form around network (NetForm-F.Sync patterns) u is other)
     tree_once around network t (series parts is one) u other = series_once _ _ _ one u (by_form around network (NetForm-F.Serial parts) u is other)
     tree_once around network t (choice det branches is all) u other =

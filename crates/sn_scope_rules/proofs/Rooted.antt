@@ -130,7 +130,7 @@ module _ (names : List (List ℕ)) (boxes : List BoxProgram) where
         (elim y as (λ z. FormGives (map-NetForm _ _ NetForm NetExpr (λ e. e.0) (λ e. e.0) z)) [
           | NetForm-F.Name name ↦ name_has name
           | NetForm-F.Identity ↦ λ place fine long. (_, refl)
-          | NetForm-F.Filter pattern templates ↦ λ place fine long. (_, refl)
+          | NetForm-F.Filter pattern arms templates ↦ λ place fine long. (_, refl)
           | NetForm-F.Sync patterns ↦ λ place fine long. (_, refl)
           | NetForm-F.Serial parts ↦ λ place fine long. series_has (exprs parts) (parts_have parts fine.1 long.1) (long.0 (exprs parts) refl)
           | NetForm-F.Choice det branches ↦ λ place fine long. let have = branches_have (exprs branches) (parts_have branches fine.1 long.1) in (_, (have.0, have.1, refl))

@@ -7,6 +7,7 @@ use Rattle.sn_ast.specs.declared.declaration.Decl.TheViews.{out-Decl, out-NetDec
 use Rattle.sn_ast.specs.declared.declaration.NetDecl.{NetDecl}
 use Rattle.sn_ast.specs.declared.label.Ident.{Ident}
 use Rattle.sn_ast.specs.declared.label.Variant.{Variant}
+use Rattle.sn_ast.specs.declared.network.ArmAt.{ArmAt}
 use Rattle.sn_ast.specs.declared.network.NetExpr.{NetExpr, fold-roll-NetExpr}
 use Rattle.sn_ast.specs.declared.network.NetForm.{NetForm, fold-NetForm}
 use Rattle.sn_ast.specs.declared.network.NetForm.TheFolds.{fold-roll-NetForm, ind-NetExpr, map-NetForm}
@@ -64,7 +65,7 @@ module _ (names : List (List ℕ)) (boxes : List BoxProgram) where
   abbrev pub FormTree : Around → ℕ → NetForm-F NetForm NetExpr → Net → Type 0
   FormTree around place (NetForm-F.Name name) t = (found : Decl × Around) × (found_at around name.text ≡ Some found) × NamedTree (out-Decl found.0) found.1 name.at t
   FormTree around place NetForm-F.Identity t = t ≡ net.Filter (identity_at place)
-  FormTree around place (NetForm-F.Filter pattern templates) t = t ≡ net.Filter (filter_at names place pattern templates)
+  FormTree around place (NetForm-F.Filter pattern arms templates) t = t ≡ net.Filter (filter_at names place pattern arms templates)
   FormTree around place (NetForm-F.Sync patterns) t = t ≡ net.Sync place (each (variant_at names) patterns)
   FormTree around place (NetForm-F.Serial parts) t = SeriesOf names boxes around parts t
   FormTree around place (NetForm-F.Choice det branches) t = (ts : List Net) × Beside (TreeOf names boxes around) branches ts × (t ≡ net.Choice place (merge_of det) ts (each
@@ -96,7 +97,7 @@ module _ (names : List (List ℕ)) (boxes : List BoxProgram) where
     pub form_to : (t : Net) (x : NetForm-F NetForm NetExpr) → form_of network ≡ x → FormTree around (place_of network) x t → TreeOf names boxes around network t
     form_to t (NetForm-F.Name name) is one = named_to around network name t one.0.0 one.0.1 (out-Decl one.0.0) is one.1 refl one.2
     form_to t NetForm-F.Identity is one = subst (TreeOf names boxes around network) (sym one) (identity is)
-    form_to t (NetForm-F.Filter pattern templates) is one = subst (TreeOf names boxes around network) (sym one) (filter pattern templates is)
+    form_to t (NetForm-F.Filter pattern arms templates) is one = subst (TreeOf names boxes around network) (sym one) (filter pattern arms templates is)
     form_to t (NetForm-F.Sync patterns) is one = subst (TreeOf names boxes around network) (sym one) (cell patterns is)
     form_to t (NetForm-F.Serial parts) is one = series parts is one
     form_to t (NetForm-F.Choice det branches) is one = subst (TreeOf names boxes around network) (sym one.2) (choice det branches is (trees_to around branches one.0 one.1))
@@ -113,7 +114,7 @@ module _ (names : List (List ℕ)) (boxes : List BoxProgram) where
   form_from around network t (name_of_box {there} name decl declaration is found at) =
       subst (λ x. FormTree around (place_of network) x t) (sym is) ((decl, there), found, subst (λ x. NamedTree x there name.at t) (sym at) refl)
   form_from around network t (identity is) = subst (λ x. FormTree around (place_of network) x t) (sym is) refl
-  form_from around network t (filter pattern templates is) = subst (λ x. FormTree around (place_of network) x t) (sym is) refl
+  form_from around network t (filter pattern arms templates is) = subst (λ x. FormTree around (place_of network) x t) (sym is) refl
   form_from around network t (cell patterns is) = subst (λ x. FormTree around (place_of network) x t) (sym is) refl
   form_from around network t (series parts is one) = subst (λ x. FormTree around (place_of network) x t) (sym is) one
   form_from around network t (choice {made} det branches is all) = subst (λ x. FormTree around (place_of network) x t) (sym is) (made, trees_from around branches made all, refl)
@@ -255,11 +256,11 @@ module _ (names : List (List ℕ)) (boxes : List BoxProgram) where
     identity_ties place fine = leaf (component.Filter (identity_at place)) (net.Filter (identity_at place)) (λ n. node-Filter boxes (trees_of n) (series_of n)
         (identity_at place)) (parts-Filter (identity_at place))
 
-    filter_ties : (pattern : Variant) (templates : List TemplateAt) (place : ℕ) → UnbrokenForm around place (NetForm-F.Filter pattern templates)
-        → TiedTo (Made (component.Filter (filter_at names place pattern templates))) (FormTree around place (NetForm-F.Filter pattern templates))
-    filter_ties pattern templates place fine =
-        leaf (component.Filter (filter_at names place pattern templates)) (net.Filter (filter_at names place pattern templates)) (λ n. node-Filter boxes (trees_of n)
-        (series_of n) (filter_at names place pattern templates)) (parts-Filter (filter_at names place pattern templates))
+    filter_ties : (pattern : Variant) (arms : List ArmAt) (templates : List TemplateAt) (place : ℕ) → UnbrokenForm around place (NetForm-F.Filter pattern arms templates)
+        → TiedTo (Made (component.Filter (filter_at names place pattern arms templates))) (FormTree around place (NetForm-F.Filter pattern arms templates))
+    filter_ties pattern arms templates place fine =
+        leaf (component.Filter (filter_at names place pattern arms templates)) (net.Filter (filter_at names place pattern arms templates)) (λ n. node-Filter boxes (trees_of n)
+        (series_of n) (filter_at names place pattern arms templates)) (parts-Filter (filter_at names place pattern arms templates))
 
     cell_ties : (patterns : List Variant) (place : ℕ) → UnbrokenForm around place (NetForm-F.Sync patterns)
         → TiedTo (Made (component.Sync place (each (variant_at names) patterns))) (FormTree around place (NetForm-F.Sync patterns))
@@ -353,7 +354,7 @@ module _ (names : List (List ℕ)) (boxes : List BoxProgram) where
         (FormTree around place (map-NetForm _ _ NetForm NetExpr (λ e. e.0) (λ e. e.0) z))) [
           | NetForm-F.Name name ↦ name_ties name
           | NetForm-F.Identity ↦ identity_ties
-          | NetForm-F.Filter pattern templates ↦ filter_ties pattern templates
+          | NetForm-F.Filter pattern arms templates ↦ filter_ties pattern arms templates
           | NetForm-F.Sync patterns ↦ cell_ties patterns
           | NetForm-F.Serial parts ↦ serial_ties parts
           | NetForm-F.Choice det branches ↦ choice_ties det branches

@@ -5,6 +5,7 @@ use Rattle.std.specs.Prelude.{◌≡◌, ℕ, Bool, true, false, ◌&&◌, List,
 use Rattle.sn_ast.specs.declared.label.Ident.{Ident}
 use Rattle.sn_ast.specs.declared.label.LabelAt.{LabelAt}
 use Rattle.sn_ast.specs.declared.label.Variant.{Variant}
+use Rattle.sn_ast.specs.declared.network.ArmAt.{ArmAt}
 use Rattle.sn_ast.specs.declared.network.ItemAt.{ItemAt}
 use Rattle.sn_ast.specs.declared.network.ItemSource.{ItemSource}
 use Rattle.sn_ast.specs.declared.network.ItemSource.TheVariants.{Same, Field, Expr}
@@ -15,7 +16,7 @@ use Rattle.sn_box_scope.specs.Variables.{same_kind}
 use Rattle.sn_label_scope.specs.declared.refusal.Refusal.{Refusal}
 use Rattle.sn_scope.specs.Filters.{is_between}
 use Rattle.sn_scope_rules.specs.Labels.{LabelsBreak, has_label}
-use Rattle.sn_scope_rules.specs.Refusals.{arity, twice, unknown}
+use Rattle.sn_scope_rules.specs.Refusals.{arity, guard_tag, twice, unknown}
 use Rattle.sn_scope_rules.specs.Standing.{StandsBehind, StandsIn}
 
 -- one level, with the tags of each part in its place
@@ -62,8 +63,14 @@ pub data ItemsBreak (pattern : List LabelAt) (items : List ItemAt) : Refusal →
   in_source : {item : ItemAt} {r : Refusal} → StandsIn item items → SourceBreaks pattern item.target item.source r → ItemsBreak pattern items r
   set_twice : {before : List ItemAt} {item : ItemAt} → StandsBehind item before items → sets_again before item ≡ true → ItemsBreak pattern items (twice item.target.name.at)
 
--- a filter without 1 to 16 templates, a label twice in its pattern, or what is refused in a template
-pub data FilterBreaks (place : ℕ) (pattern : Variant) (templates : List TemplateAt) : Refusal → Type 0 where
-  template_count : is_between 1 16 (length templates) ≡ false → FilterBreaks place pattern templates (arity place)
-  in_pattern : {r : Refusal} → LabelsBreak pattern.labels r → FilterBreaks place pattern templates r
-  in_template : {template : TemplateAt} {r : Refusal} → StandsIn template templates → ItemsBreak pattern.labels template.items r → FilterBreaks place pattern templates r
+-- a filter with more than 16 arms, or without 1 to 16 templates in an arm or in its last list; a label twice in its pattern; a tag of a guard that the
+-- pattern does not have; or what is refused in a template of an arm or of the last list
+pub data FilterBreaks (place : ℕ) (pattern : Variant) (arms : List ArmAt) (templates : List TemplateAt) : Refusal → Type 0 where
+  arm_count : is_between 0 16 (length arms) ≡ false → FilterBreaks place pattern arms templates (arity place)
+  arm_template_count : {arm : ArmAt} → StandsIn arm arms → is_between 1 16 (length arm.templates) ≡ false → FilterBreaks place pattern arms templates (arity place)
+  template_count : is_between 1 16 (length templates) ≡ false → FilterBreaks place pattern arms templates (arity place)
+  in_pattern : {r : Refusal} → LabelsBreak pattern.labels r → FilterBreaks place pattern arms templates r
+  in_guard : {arm : ArmAt} {name : Ident} → StandsIn arm arms → NamesOther pattern.labels arm.guard name → FilterBreaks place pattern arms templates (guard_tag name.at)
+  in_arm_template : {arm : ArmAt} {template : TemplateAt} {r : Refusal} → StandsIn arm arms → StandsIn template arm.templates →
+      ItemsBreak pattern.labels template.items r → FilterBreaks place pattern arms templates r
+  in_template : {template : TemplateAt} {r : Refusal} → StandsIn template templates → ItemsBreak pattern.labels template.items r → FilterBreaks place pattern arms templates r

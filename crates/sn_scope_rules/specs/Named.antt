@@ -14,6 +14,7 @@ use Rattle.sn_ast.specs.declared.label.Tuple.{Tuple}
 use Rattle.sn_ast.specs.declared.label.TypePart.{TypePart}
 use Rattle.sn_ast.specs.declared.label.TypePart.TheVariants.{Set, Named as NamedType}
 use Rattle.sn_ast.specs.declared.label.Variant.{Variant}
+use Rattle.sn_ast.specs.declared.network.ArmAt.{ArmAt}
 use Rattle.sn_ast.specs.declared.network.ItemAt.{ItemAt}
 use Rattle.sn_ast.specs.declared.network.ItemSource.{ItemSource}
 use Rattle.sn_ast.specs.declared.network.ItemSource.TheVariants.{Same, Field, Expr}
@@ -55,6 +56,10 @@ in_item item = item.target.name ∷ in_source item.source
 abbrev pub in_template : TemplateAt → Named
 in_template template = flat_map in_item template.items
 
+-- the tags of the guard, and then what the arm's templates name
+abbrev pub in_arm : ArmAt → Named
+in_arm arm = tags_in arm.guard ++ flat_map in_template arm.templates
+
 abbrev pub in_guard : Option TExpr → Named
 in_guard None = []
 in_guard (Some e) = tags_in e
@@ -66,7 +71,7 @@ together parts = flat_map (λ part. part) parts
 abbrev pub network_step : NetForm-F Named Named → Named
 network_step (NetForm-F.Name name) = []
 network_step NetForm-F.Identity = []
-network_step (NetForm-F.Filter pattern templates) = in_variant pattern ++ flat_map in_template templates
+network_step (NetForm-F.Filter pattern arms templates) = in_variant pattern ++ (flat_map in_arm arms ++ flat_map in_template templates)
 network_step (NetForm-F.Sync patterns) = flat_map in_variant patterns
 network_step (NetForm-F.Serial parts) = together parts
 network_step (NetForm-F.Choice det branches) = together branches

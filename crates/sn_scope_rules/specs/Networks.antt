@@ -2,6 +2,7 @@
 use Rattle.std.specs.Prelude.{◌≡◌, ℕ, ◌≤◌, Bool, false, List, [], ◌∷◌, length, Option, Some}
 use Rattle.sn_ast.specs.declared.label.Ident.{Ident}
 use Rattle.sn_ast.specs.declared.label.Variant.{Variant}
+use Rattle.sn_ast.specs.declared.network.ArmAt.{ArmAt}
 use Rattle.sn_ast.specs.declared.network.NetExpr.{NetExpr}
 use Rattle.sn_ast.specs.declared.network.NetForm.{NetForm}
 use Rattle.sn_ast.specs.declared.network.NetForm.TheOpen.{NetForm-F}
@@ -27,7 +28,7 @@ place_of net = (out-NetExpr net).at
 abbrev pub parts_in : NetForm-F NetForm NetExpr → List NetExpr
 parts_in (NetForm-F.Name name) = []
 parts_in NetForm-F.Identity = []
-parts_in (NetForm-F.Filter pattern templates) = []
+parts_in (NetForm-F.Filter pattern arms templates) = []
 parts_in (NetForm-F.Sync patterns) = []
 parts_in (NetForm-F.Serial parts) = parts
 parts_in (NetForm-F.Choice det branches) = branches
@@ -40,8 +41,8 @@ parts_of net = parts_in (form_of net)
 -- what is refused in one form at its place, but for the networks that it is made of
 pub data FormBreaks (around : Around) (place : ℕ) : NetForm-F NetForm NetExpr → Refusal → Type 0 where
   no_such_part : {name : Ident} → stands_for_a is_part around name.text ≡ false → FormBreaks around place (NetForm-F.Name name) (unknown name.at)
-  in_filter : {pattern : Variant} {templates : List TemplateAt} {r : Refusal} →
-      FilterBreaks place pattern templates r → FormBreaks around place (NetForm-F.Filter pattern templates) r
+  in_filter : {pattern : Variant} {arms : List ArmAt} {templates : List TemplateAt} {r : Refusal} →
+      FilterBreaks place pattern arms templates r → FormBreaks around place (NetForm-F.Filter pattern arms templates) r
   pattern_count : {patterns : List Variant} → is_between 2 8 (length patterns) ≡ false → FormBreaks around place (NetForm-F.Sync patterns) (arity place)
   in_cell_pattern : {patterns : List Variant} {pattern : Variant} {r : Refusal} →
       StandsIn pattern patterns → LabelsBreak pattern.labels r → FormBreaks around place (NetForm-F.Sync patterns) r

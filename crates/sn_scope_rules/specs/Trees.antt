@@ -7,6 +7,7 @@ use Rattle.sn_ast.specs.declared.declaration.Decl.TheViews.{out-Decl, out-NetDec
 use Rattle.sn_ast.specs.declared.declaration.NetDecl.{NetDecl}
 use Rattle.sn_ast.specs.declared.label.Ident.{Ident}
 use Rattle.sn_ast.specs.declared.label.Variant.{Variant}
+use Rattle.sn_ast.specs.declared.network.ArmAt.{ArmAt}
 use Rattle.sn_ast.specs.declared.network.NetExpr.{NetExpr}
 use Rattle.sn_ast.specs.declared.network.NetForm.TheOpen.{NetForm-F}
 use Rattle.sn_ast.specs.declared.network.TemplateAt.{TemplateAt}
@@ -35,8 +36,8 @@ mutual
         TreeOf names boxes around network (tree.Box name.at (length (boxes_before there)))
     identity : {around : Around} {network : NetExpr} →
         form_of network ≡ NetForm-F.Identity → TreeOf names boxes around network (tree.Filter (identity_at (place_of network)))
-    filter : {around : Around} {network : NetExpr} (pattern : Variant) (templates : List TemplateAt) →
-        form_of network ≡ NetForm-F.Filter pattern templates → TreeOf names boxes around network (tree.Filter (filter_at names (place_of network) pattern templates))
+    filter : {around : Around} {network : NetExpr} (pattern : Variant) (arms : List ArmAt) (templates : List TemplateAt) →
+        form_of network ≡ NetForm-F.Filter pattern arms templates → TreeOf names boxes around network (tree.Filter (filter_at names (place_of network) pattern arms templates))
     cell : {around : Around} {network : NetExpr} (patterns : List Variant) →
         form_of network ≡ NetForm-F.Sync patterns → TreeOf names boxes around network (tree.Sync (place_of network) (each (variant_at names) patterns))
     in_series : {around : Around} {network : NetExpr} {made : Net} (parts : List NetExpr) →

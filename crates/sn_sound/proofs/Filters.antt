@@ -1,9 +1,11 @@
 -- A closed filter answers each record that it takes by records of its templates.
 use Rattle.std.proofs.Common.{◌≡◌, ℕ, ◌||◌, cond, is_some, IsTrue, List, [], ◌∷◌, map as each, Option, None, Some, Result, Ok, Err, refl, sym, ap, ◌∙◌, subst}
 use Rattle.std.specs.List.{All, AllByRecursion as Each, list_any, Contains}
+use Rattle.std.specs.Result.{IfOk}
 use Rattle.std.specs.Ordering.{eq_by_cmp}
 use Rattle.std.specs.FinMap as map
 use Rattle.std.proofs.lemmas.List.Elements.{All-head, All-tail}
+use Rattle.std.proofs.lemmas.Result.{IfOk-weaker}
 use Rattle.sn_record.specs.declared.label.Label.{Label}
 use Rattle.sn_record.specs.declared.value.Value.{Value}
 use Rattle.sn_record.specs.Label.{label_cmp}
@@ -17,8 +19,9 @@ use Rattle.sn_net.specs.declared.filter.Filter.{Filter}
 use Rattle.sn_net.specs.declared.filter.Template.{Template}
 use Rattle.sn_net.specs.declared.filter.Part.{Part}
 use Rattle.sn_net.specs.declared.filter.Part.TheVariants.{Copy, Rename, Compute}
-use Rattle.sn_net.specs.Answer.{and_then, computed, filter_answer, inherited, part_value, tag_number, template_record, up_to_fault, with_parts}
-use Rattle.sn_net.specs.Filter.{IsClosed, IsClosedTemplate, field, is_from, target}
+use Rattle.sn_net.specs.Answer.{and_then, computed, filter_answer, inherited, outcomes, part_value, tag_number, template_record, up_to_fault, used, with_parts}
+use Rattle.sn_net.proofs.Chosen.{chosen_among, chosen_closed}
+use Rattle.sn_net.specs.Filter.{IsClosed, IsClosedTemplate, every_template, field, is_from, target}
 use Rattle.sn_net.specs.Item.{Stuck}
 use Rattle.sn_net.specs.Cell.{Passing}
 use Rattle.sn_model.specs.Components.{filter_item}
@@ -89,16 +92,28 @@ module _ (r : Entries) (pattern : Labels) (matches : Matches r pattern) where
           rest,
         )
 
+    -- so is each record of the templates that were chosen; a guard that faults gives none
+    chosen_made : (x : Result (List Template) ExprFault) → IfOk x (All (IsClosedTemplate pattern))
+        → IfOk x (λ templates. (template : Template) → Contains templates template → W (union (template_variant template) (minus v pattern)))
+        → Each (IsOf W) (up_to_fault place (outcomes r pattern x))
+    chosen_made (Ok templates) closed among = templates_made templates closed among
+    chosen_made (Err fault) closed among = (tt, tt)
+
 pub filter_answers : (filter : Filter) → IsClosed filter
     → Answers (filter.pattern ∷ []) (Flows (filter_outline filter)) (record { next = λ s x. s; emits = λ s x. filter_item filter x }) Passing
 filter_answers filter closed = record {
   start = tt;
   records = λ q r v here takes matches.
-      let own : Matches r filter.pattern = only_variant filter.pattern r v takes.has matches in (
+      let own : Matches r filter.pattern = only_variant filter.pattern r v takes.has matches in
+      let W : Labels → Type 0 = Flows (filter_outline filter) v in
+      let Listed : List Template → Type 0 = λ templates. (template : Template) → Contains templates template → Contains (every_template filter) template in
+      let Given : List Template → Type 0 = λ templates. (template : Template) → Contains templates template → W (union (template_variant template) (minus v filter.pattern)) in (
         here,
         subst (λ b. Each (IsOf (Flows (filter_outline filter) v)) (cond b (filter_answer filter r) (Stuck filter.place ∷ []))) (sym ((is_match-Matches r filter.pattern).1 own))
-            (templates_made r filter.pattern own filter.place v matches (Flows (filter_outline filter) v) filter.templates closed
-            (λ template there. (takes, (template_variant template, contains_mapped template_variant filter.templates template there, refl)))),
+            (chosen_made r filter.pattern own filter.place v matches W (used filter r)
+            (chosen_closed (tag_number r) filter closed)
+            (IfOk-weaker (used filter r) Listed Given (λ templates among template there. (takes, (template_variant template, contains_mapped template_variant (every_template filter) template (among template there), refl)))
+            (chosen_among (tag_number r) filter))),
       );
   faults = λ q fault here. (here, refl);
 }

@@ -14,6 +14,7 @@ use Rattle.sn_net.specs.Boxes.{IsClosedBox}
 use Rattle.sn_net.specs.Cell.{new_cell}
 use Rattle.sn_net.specs.Dispatchers.{Network}
 use Rattle.sn_net.specs.Face.{variant_of}
+use Rattle.sn_net.specs.Filter.{every_template}
 use Rattle.sn_net.specs.WellFormed.{IsWellFormed}
 use Rattle.sn_net.proofs.Sound.{level_sound, parts_formed}
 use Rattle.sn_model.specs.Components.{alone, answering, call_record, cell}
@@ -63,7 +64,7 @@ module _ (s : Setting) where
       (elim y as (λ z. Keeps (roll-Net (map-Net _ _ (λ e. e.0) z))) [
         | Net-F.Box place number ↦ λ formed. rolled (Net-F.Box place number) (box_follows place s.fuel (slice_get s.boxes number) (box_closed number (slice_get s.boxes number) refl formed.closed))
         | Net-F.Filter filter ↦ λ formed. rolled (Net-F.Filter filter)
-            (component filter.place (filter.pattern ∷ []) filter.pattern (map template_variant filter.templates) _ _ (filter_answers filter (level_sound s.boxes (Net-F.Filter filter) formed)))
+            (component filter.place (filter.pattern ∷ []) filter.pattern (map template_variant (every_template filter)) _ _ (filter_answers filter (level_sound s.boxes (Net-F.Filter filter) formed)))
         | Net-F.Sync place patterns ↦ λ formed. rolled (Net-F.Sync place patterns)
             (component place patterns finite.empty (finite.empty ∷ []) (cell place patterns) (new_cell patterns) (cell_answers place patterns))
         | Net-F.Serial left right ↦ λ formed.

@@ -43,6 +43,7 @@ fn filter_of(rt: &impl Abort, alloc: Global, first: Part, second: Part) -> Filte
     Filter {
         place: 0,
         pattern: set_of(rt, alloc, &[A, T]),
+        arms: Seq::new(alloc),
         templates,
     }
 }
@@ -66,6 +67,7 @@ fn sink(rt: &impl Abort, alloc: Global, label: Label) -> Filter {
     Filter {
         place: 0,
         pattern: set_of(rt, alloc, &[label]),
+        arms: Seq::new(alloc),
         templates: Seq::new(alloc),
     }
 }

@@ -5,7 +5,7 @@ pub returns-in-Some : goal.returns-in-Some
 returns-in-Some c =
     let a = c.args in
     let s = c.in-Some in
-    template_step a.at s.opening a.pattern a.templates c.start.result a.token s.ensures c.start.ensures.from c.start.ensures.to
+    template_step a.at s.opening a.begun a.templates.of a.templates.so_far c.start.result a.token s.ensures c.start.ensures.from c.start.ensures.to
 
 pub returns-in-None : goal.returns-in-None
-returns-in-None c = no_template c.args.at c.args.pattern c.args.templates c.args.token c.in-None.ensures
+returns-in-None c = no_template c.args.at c.args.begun c.args.templates.of c.args.templates.so_far c.args.token c.in-None.ensures

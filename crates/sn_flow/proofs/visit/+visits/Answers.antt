@@ -7,6 +7,7 @@ use Rattle.std.specs.FinMap.{empty}
 use Rattle.sn_record.specs.LabelSet.{Labels}
 use Rattle.sn_net.specs.declared.net.Net.TheViews.{the_lemmas}
 use Rattle.sn_net.specs.Face.{variant_of}
+use Rattle.sn_net.specs.Filter.{every_template}
 use Rattle.sn_net.specs.WellFormed.{FitsBoxes}
 use Rattle.sn_net.proofs.net.Net.TheLaws.{the_size}
 use Rattle.sn_typing.specs.Outline.{Choice, Outline, Split, Star, branch_of, is_guarded, outline, template_variant}
@@ -52,7 +53,7 @@ visit_form-returns-in-Box t c =
 
 pub visit_form-returns-in-Filter : goal.visit_form-returns-in-Filter
 visit_form-returns-in-Filter t c =
-    component_any (outline c.args.boxes.now c.args.net.now) c.in-Filter.filter.place (c.in-Filter.filter.pattern ∷ []) c.in-Filter.filter.pattern (map template_variant c.in-Filter.filter.templates) c.args.variant.now c.args.parts.now c.filter_flow.result
+    component_any (outline c.args.boxes.now c.args.net.now) c.in-Filter.filter.place (c.in-Filter.filter.pattern ∷ []) c.in-Filter.filter.pattern (map template_variant (every_template c.in-Filter.filter)) c.args.variant.now c.args.parts.now c.filter_flow.result
     (filter_is c.args.boxes.now c.args.net.now c.in-Filter.filter c.in-Filter.is) c.filter_flow.ensures
 
 pub visit_form-returns-in-Sync : goal.visit_form-returns-in-Sync

@@ -33,9 +33,10 @@ network_at-returns-in-Filter t c =
     let least = c.args.refusals.now in
     let r = c.filter.result in
     let new = c.filter.new.refusals in
-    network_here names c.args.scopes.now c.args.network.now (NetForm-F.Filter pattern c.in-Filter.templates) _ c.in-Filter.is (form.rolls-Filter pattern c.in-Filter.templates) r least new
-    (subst (λ ts. IfOk r (λ made. (made ≡ Made (component.Filter (filter_at names place pattern ts))) × (new ≡ filter_required names place pattern ts least))) c.as_slice.ensures
-    (both r _ _ c.filter.ensures.network c.filter.ensures.refused))
+    network_here names c.args.scopes.now c.args.network.now (NetForm-F.Filter pattern c.in-Filter.arms c.in-Filter.templates) _ c.in-Filter.is (form.rolls-Filter pattern c.in-Filter.arms c.in-Filter.templates) r least new
+    (subst (λ ts. IfOk r (λ made. (made ≡ Made (component.Filter (filter_at names place pattern c.in-Filter.arms ts))) × (new ≡ filter_required names place pattern c.in-Filter.arms ts least))) c.as_slice-in-Filter.ensures
+    (subst (λ arms. IfOk r (λ made. (made ≡ Made (component.Filter (filter_at names place pattern arms c.as_slice-in-Filter.result.now))) × (new ≡ filter_required names place pattern arms c.as_slice-in-Filter.result.now least))) c.as_slice.ensures
+    (both r _ _ c.filter.ensures.network c.filter.ensures.refused)))
 
 pub network_at-returns-in-Sync : goal.network_at-returns-in-Sync
 network_at-returns-in-Sync t c =
