@@ -182,6 +182,25 @@ NETWORKS = [
         star(free, is_done, split(in_turn, "<k>", serial(taking("a")(lambda a: [{"a": a + 1}]), counts_down()))),
         [record(a=1, _n=2, _k=0), record(a=2, _n=1, _k=1), record(a=3, _n=1, _k=0)],
     ),
+    Network(
+        "arms in a free choice inside a free star",
+        "net main ({a,<n>} | {b,<n>} -> {a,<n>} | {b,<n>}) connect "
+        "([{a,<n>} if (<n> % 2 == 0) -> {a,<n>=<n>-1};{a,<n>=0} else -> {b=a,<n>=<n>-1}] "
+        "| [{b,<n>} if (<n> > 1) -> {a=b,<n>=<n>-1} if (<n> == 1) -> {b,<n>=0};{a=b,<n>=0} else -> {b,<n>}]) * " + f"{DONE};",
+        star(
+            free,
+            is_done,
+            choice(
+                free,
+                (
+                    {"a"},
+                    taking("a", "<n>")(lambda a, n: [{"b": a, "<n>": n - 1}] if n % 2 else [{"a": a, "<n>": n - 1}, {"a": a, "<n>": 0}]),
+                ),
+                ({"b"}, taking("b", "<n>")(lambda b, n: [{"a": b, "<n>": n - 1}] if n > 1 else [{"b": b, "<n>": 0}, {"a": b, "<n>": 0}])),
+            ),
+        ),
+        [record(a=1, _n=2), record(b=2, _n=1), record(a=3, _n=0)],
+    ),
     # What has the binding tag goes to the branch that names it, though the other one names more labels.
     Network(
         "a free choice told by a binding tag",
