@@ -185,7 +185,7 @@ NETWORKS = [
     Network(
         "arms in a free choice inside a free star",
         "net main ({a,<n>} | {b,<n>} -> {a,<n>} | {b,<n>}) connect "
-        "([{a,<n>} if (<n> % 2 == 0) -> {a,<n>=<n>-1};{a,<n>=0} else -> {b=a,<n>=<n>-1}] "
+        "([{a,<n>} if (<n> % 2 == 0) -> {a,<n>=<n>-1} else -> {b=a,<n>=<n>-1}] "
         "| [{b,<n>} if (<n> > 1) -> {a=b,<n>=<n>-1} if (<n> == 1) -> {b,<n>=0};{a=b,<n>=0} else -> {b,<n>}]) * " + f"{DONE};",
         star(
             free,
@@ -194,12 +194,12 @@ NETWORKS = [
                 free,
                 (
                     {"a"},
-                    taking("a", "<n>")(lambda a, n: [{"b": a, "<n>": n - 1}] if n % 2 else [{"a": a, "<n>": n - 1}, {"a": a, "<n>": 0}]),
+                    taking("a", "<n>")(lambda a, n: [{"b": a, "<n>": n - 1}] if n % 2 else [{"a": a, "<n>": n - 1}]),
                 ),
                 ({"b"}, taking("b", "<n>")(lambda b, n: [{"a": b, "<n>": n - 1}] if n > 1 else [{"b": b, "<n>": 0}, {"a": b, "<n>": 0}])),
             ),
         ),
-        [record(a=1, _n=2), record(b=2, _n=1), record(a=3, _n=0)],
+        [record(a=1, _n=2), record(b=2, _n=1)],
     ),
     # What has the binding tag goes to the branch that names it, though the other one names more labels.
     Network(
