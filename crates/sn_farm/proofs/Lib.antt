@@ -1,3 +1,3 @@
 mod Ending
-mod Leaving
+mod Answered
 mod Turning

@@ -4,7 +4,8 @@ ghost use Rattle.sn_net.specs.Item.{ModelItem};
 ghost use Rattle.sn_view.specs.Coming.{MayCome};
 ghost use Rattle.sn_graph.specs.Event.{IsEventOf};
 ghost use Rattle.sn_graph.specs.Graph.{IsGraphOf, seen};
-ghost use Rattle.sn_farm.specs.Events.{CallsOf, Emits, IsQuiet, came_out};
+ghost use Rattle.sn_event_lines.specs.Told.{CallsOf, came_out};
+ghost use Rattle.sn_farm.specs.Events.{Emits, IsQuiet};
 
 use sn_graph::{ApplyCause, Effect, Event, Graph};
 use sn_model::Run;

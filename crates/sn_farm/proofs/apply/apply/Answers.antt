@@ -1,6 +1,6 @@
 use Rattle.sn_graph.specs.Event.{happening_of}
 use Rattle.sn_graph.specs.Graph.{seen}
-use Rattle.sn_farm.proofs.Leaving.{came}
+use Rattle.sn_event_lines.proofs.Leaving.{came}
 use Rattle.sn_farm.proofs.apply.apply.Goals as goal
 
 pub returns-in-Ok-clause-emits : goal.returns-in-Ok-clause-emits

@@ -1,7 +1,8 @@
 use Rattle.std.proofs.Common.{subst}
 use Rattle.sn_graph.specs.declared.event.Effect.{Effect}
 use Rattle.sn_graph.specs.Graph.{seen}
-use Rattle.sn_farm.specs.Events.{Emits, came_out}
+use Rattle.sn_event_lines.specs.Told.{came_out}
+use Rattle.sn_farm.specs.Events.{Emits}
 use Rattle.sn_farm.proofs.Turning.{goes_then, nothing}
 use Rattle.sn_farm.proofs.drive.happen.Goals as goal
 

@@ -3,7 +3,7 @@ use Rattle.sn_graph.specs.Graph.{seen}
 use Rattle.sn_farm.specs.Events.{Emits}
 use Rattle.sn_farm.specs.Turns.{Goes, shows}
 use Rattle.sn_farm.specs.declared.owner.Turn.{Turn}
-use Rattle.sn_farm.proofs.Leaving.{answered}
+use Rattle.sn_farm.proofs.Answered.{answered}
 use Rattle.sn_farm.proofs.Turning.{goes_then, nothing}
 use Rattle.sn_farm.proofs.owner.finish.Goals as goal
 use Rattle.sn_farm.proofs.owner.finish.Goals.{in-Err-Memory, in-Ok, in-Ok-2}
