@@ -20,10 +20,10 @@ use Rattle.sn_view.specs.View.{View}
 use Rattle.sn_view.proofs.Came.{may_begins}
 use Rattle.sn_farm.specs.Farmed.{HasPrinted, IsAllWritten, IsFaulted, IsWhole}
 use Rattle.sn_farm.specs.Turns.{Goes, LacksLast, Writes, WritesPart, WritesUpTo, shows}
-use Rattle.sn_farm.specs.declared.owner.Turn.TheVariants.{Ended}
+use Rattle.sn_turns.specs.declared.turn.Turn.TheVariants.{Ended}
 use Rattle.sn_model.specs.declared.outcome.Outcome.{Outcome}
 use Rattle.sn_model.specs.declared.outcome.Outcome.TheVariants.{Whole, Faulted, WriteFault, Memory}
-use Rattle.sn_farm.proofs.Turning.{lines_more, none_more}
+use Rattle.sn_farm.specs.Turning.{lines_more, none_more}
 
 -- records end without a fault, and a fault behind them ends them
 none_ends : (records : List Entries) → ending (map Rec records) ≡ None
@@ -88,9 +88,6 @@ module _ (names : List (List ℕ)) where
     some_written : (w : WritesPart names (shows old before sooner) (shows new now faults)) → AppendsPrefix before now (printed names new.out)
     some_written w = subst (λ xs. AppendsPrefix before now (printed names xs)) (sym (records_out w.records w.out)) w.held
 
-    Drives : Outcome → Type 0
-    Drives outcome = Goes names (shows old before sooner) (shows new now faults) (Ended outcome)
-
     -- what was written is the beginning of what is printed of all that came out
     pub drive_written : (outcome : Outcome) → Goes names (shows old before sooner) (shows new now faults) (Ended outcome) → AppendsPrefix before now (printed names new.out)
     drive_written Whole goes = whole_part before now (printed names new.out) (all_written goes.turns.1)
@@ -98,11 +95,15 @@ module _ (names : List (List ℕ)) where
     drive_written WriteFault goes = some_written goes.turns.1
     drive_written Memory goes = some_written goes.turns.1
 
-    pub drive_whole : Goes names (shows old before sooner) (shows new now faults) (Ended Whole) → IsWhole names new before now
-    drive_whole goes = record { over = goes.turns.0; records = (goes.turns.1.records, records_out goes.turns.1.records goes.turns.1.out); all = all_written goes.turns.1 }
+    pub drive_whole : (outcome : Outcome) → outcome ≡ Whole → Goes names (shows old before sooner) (shows new now faults) (Ended outcome) → IsWhole names new before now
+    drive_whole outcome is goes =
+        let (over, w) = (subst (λ (o : Outcome). Goes names (shows old before sooner) (shows new now faults) (Ended o)) is goes).turns in
+        record { over = over; records = (w.records, records_out w.records w.out); all = all_written w }
 
-    pub drive_faulted : (fault : FaultAt) → Goes names (shows old before sooner) (shows new now faults) (Ended (Faulted fault)) → IsFaulted names fault new before now
-    drive_faulted fault goes = record { first = ap ending (fault_out goes.turns.records fault goes.turns.out) ∙ fault_ends goes.turns.records fault; all = before_fault fault goes.turns }
+    pub drive_faulted : (outcome : Outcome) (fault : FaultAt) → outcome ≡ Faulted fault → Goes names (shows old before sooner) (shows new now faults) (Ended outcome) → IsFaulted names fault new before now
+    drive_faulted outcome fault is goes =
+        let w = (subst (λ (o : Outcome). Goes names (shows old before sooner) (shows new now faults) (Ended o)) is goes).turns in
+        record { first = ap ending (fault_out w.records fault w.out) ∙ fault_ends w.records fault; all = before_fault fault w }
 
     -- where a fault came out, the drive ended by it
     pub drive_first : (outcome : Outcome) (fault : FaultAt) → Goes names (shows old before sooner) (shows new now faults) (Ended outcome) → ending new.out ≡ Some fault → outcome ≡ Faulted fault

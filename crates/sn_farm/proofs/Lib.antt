@@ -1,3 +1,2 @@
 mod Ending
-mod Answered
-mod Turning
+mod Telling

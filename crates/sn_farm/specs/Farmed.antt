@@ -8,7 +8,7 @@ use Rattle.sn_net.specs.Item.{ModelItem, Rec}
 use Rattle.sn_io.specs.Told.{appended}
 use Rattle.sn_output.specs.Printed.{ending, printed}
 use Rattle.sn_view.specs.View.{View}
-use Rattle.sn_farm.specs.Turns.{IsOver}
+use Rattle.sn_turns.specs.Over.{IsOver}
 
 -- nothing but records is among the items
 abbrev pub AreRecords : List ModelItem → Type 0

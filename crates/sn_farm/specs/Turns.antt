@@ -9,8 +9,9 @@ use Rattle.sn_output.specs.Printed.{printed}
 use Rattle.sn_view.specs.Coming.{MayCome}
 use Rattle.sn_view.specs.Placed.{AtRest}
 use Rattle.sn_view.specs.View.{View}
-use Rattle.sn_farm.specs.declared.owner.Turn.{Turn}
-use Rattle.sn_farm.specs.declared.owner.Turn.TheVariants.{Went, Idle, Ended}
+use Rattle.sn_turns.specs.Over.{IsOver}
+use Rattle.sn_turns.specs.declared.turn.Turn.{Turn}
+use Rattle.sn_turns.specs.declared.turn.Turn.TheVariants.{Went, Idle, Ended}
 use Rattle.sn_model.specs.declared.outcome.Outcome.{Outcome}
 use Rattle.sn_model.specs.declared.outcome.Outcome.TheVariants.{Whole, Faulted, WriteFault, Memory}
 
@@ -23,10 +24,10 @@ pub record Shown : Type 0 where
 abbrev pub shows : View → Option (List ℕ) → ℕ → Shown
 shows graph held faults = record { graph = graph; held = held; faults = faults }
 
--- the graph is at rest, and nothing can come but what came out
-pub record IsOver (graph : View) : Type 0 where
-  pub rest : AtRest graph
-  pub only : (ys : List ModelItem) → MayCome graph ys → ys ≡ graph.out
+-- these items came out, and what can still come could come before
+pub record Emits (items : List ModelItem) (old new : View) : Type 0 where
+  pub out : new.out ≡ old.out ++ items
+  pub before : (ys : List ModelItem) → MayCome new ys → MayCome old ys
 
 module _ (names : List (List ℕ)) (old new : Shown) where
   -- records came out, and the line of each was written

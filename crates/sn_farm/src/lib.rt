@@ -1,11 +1,8 @@
-//! The farm: the calling thread owns a graph and applies its events, and workers make the calls of its boxes.
-//!
-//! Whatever the schedule, each event is one that the graph allows, so nothing of what is proved depends on how threads run.
+//! The farm: the calling thread owns a graph and applies its events, workers make the calls of its boxes, and the lines of the records that come
+//! out are written.
 #![tactic(auto)]
 
-mod apply;
-mod drive;
 mod farm;
-mod owner;
+mod printer;
 
 pub use farm::{farm_drive, farm_run};

@@ -1,31 +1,37 @@
-use Rattle.std.proofs.Common.{ap, subst}
+use Rattle.std.proofs.Common.{rules, ap, subst}
+use Rattle.sn_io.specs.Told.{AppendsPrefix}
+use Rattle.sn_output.specs.Printed.{printed}
 use Rattle.sn_view.specs.View.{View}
 use Rattle.sn_graph.specs.Graph.{seen}
-use Rattle.sn_farm.specs.Turns.{Goes, shows}
-use Rattle.sn_farm.specs.declared.owner.Turn.TheVariants.{Ended}
-use Rattle.sn_model.specs.declared.outcome.Outcome.{Outcome}
-use Rattle.sn_farm.proofs.Ending.{drive_faulted, drive_first, drive_last, drive_written}
+use Rattle.sn_farm.specs.Farmed.{IsAllWritten, IsFaulted, IsWhole}
+use Rattle.sn_farm.proofs.Ending.{drive_faulted, drive_first, drive_last, drive_whole, drive_written}
 use Rattle.sn_farm.proofs.farm.farm_drive.Goals as goal
 
 pub returns-clause-written : goal.returns-clause-written
 returns-clause-written g c =
-    drive_written c.args.out.now.names.now (seen c.args.graph.now) (seen c.drive_all-outcome.new.graph) _ _ _ _ (ap (λ (v : View). v.out) c.requires.started) c.drive_all-outcome.result
-    c.drive_all-outcome.ensures.goes
+    subst (λ s. AppendsPrefix (g.S.Sink.held c.args.out.now.sink.now) (g.S.Sink.held s) (printed c.args.out.now.names.now (seen c.drive_watched-outcome.new.graph).out)) (search rules)
+    (drive_written c.args.out.now.names.now (seen c.args.graph.now) (seen c.drive_watched-outcome.new.graph) (g.S.Sink.held c.args.out.now.sink.now) (g.S.Sink.held c.drive_watched-outcome.new.watcher.lines.sink.now)
+    (g.S.Sink.faults c.args.out.now.sink.now) (g.S.Sink.faults c.drive_watched-outcome.new.watcher.lines.sink.now) (ap (λ (v : View). v.out) c.requires.started) c.drive_watched-outcome.result c.drive_watched-outcome.ensures.goes.turns)
+
+pub returns-clause-whole : goal.returns-clause-whole
+returns-clause-whole g c is =
+    subst (λ s. IsWhole c.args.out.now.names.now (seen c.drive_watched-outcome.new.graph) (g.S.Sink.held c.args.out.now.sink.now) (g.S.Sink.held s)) (search rules)
+    (drive_whole c.args.out.now.names.now (seen c.args.graph.now) (seen c.drive_watched-outcome.new.graph) (g.S.Sink.held c.args.out.now.sink.now) (g.S.Sink.held c.drive_watched-outcome.new.watcher.lines.sink.now)
+    (g.S.Sink.faults c.args.out.now.sink.now) (g.S.Sink.faults c.drive_watched-outcome.new.watcher.lines.sink.now) (ap (λ (v : View). v.out) c.requires.started) c.drive_watched-outcome.result is c.drive_watched-outcome.ensures.goes.turns)
 
 pub returns-clause-faulted : goal.returns-clause-faulted
 returns-clause-faulted g c fault is =
-    let goes : Outcome → Type 0 = λ outcome.
-    Goes c.args.out.now.names.now (shows (seen c.args.graph.now) (g.S.Sink.held c.args.out.now.sink.now) (g.S.Sink.faults c.args.out.now.sink.now))
-    (shows (seen c.drive_all-outcome.new.graph) (g.S.Sink.held c.drive_all-outcome.new.out.sink.now) (g.S.Sink.faults c.drive_all-outcome.new.out.sink.now)) (Ended outcome) in
-    drive_faulted c.args.out.now.names.now (seen c.args.graph.now) (seen c.drive_all-outcome.new.graph) _ _ _ _ (ap (λ (v : View). v.out) c.requires.started) fault
-    (subst goes is c.drive_all-outcome.ensures.goes)
+    subst (λ s. IsFaulted c.args.out.now.names.now fault (seen c.drive_watched-outcome.new.graph) (g.S.Sink.held c.args.out.now.sink.now) (g.S.Sink.held s)) (search rules)
+    (drive_faulted c.args.out.now.names.now (seen c.args.graph.now) (seen c.drive_watched-outcome.new.graph) (g.S.Sink.held c.args.out.now.sink.now) (g.S.Sink.held c.drive_watched-outcome.new.watcher.lines.sink.now)
+    (g.S.Sink.faults c.args.out.now.sink.now) (g.S.Sink.faults c.drive_watched-outcome.new.watcher.lines.sink.now) (ap (λ (v : View). v.out) c.requires.started) c.drive_watched-outcome.result fault is c.drive_watched-outcome.ensures.goes.turns)
 
 pub returns-clause-first : goal.returns-clause-first
 returns-clause-first g c fault ends =
-    drive_first c.args.out.now.names.now (seen c.args.graph.now) (seen c.drive_all-outcome.new.graph) _ _ _ _ (ap (λ (v : View). v.out) c.requires.started) c.drive_all-outcome.result fault
-    c.drive_all-outcome.ensures.goes ends
+    drive_first c.args.out.now.names.now (seen c.args.graph.now) (seen c.drive_watched-outcome.new.graph) (g.S.Sink.held c.args.out.now.sink.now) (g.S.Sink.held c.drive_watched-outcome.new.watcher.lines.sink.now)
+    (g.S.Sink.faults c.args.out.now.sink.now) (g.S.Sink.faults c.drive_watched-outcome.new.watcher.lines.sink.now) (ap (λ (v : View). v.out) c.requires.started) c.drive_watched-outcome.result fault c.drive_watched-outcome.ensures.goes.turns ends
 
 pub returns-clause-last : goal.returns-clause-last
 returns-clause-last g c rest written ends unfailed =
-    drive_last c.args.out.now.names.now (seen c.args.graph.now) (seen c.drive_all-outcome.new.graph) _ _ _ _ (ap (λ (v : View). v.out) c.requires.started) c.drive_all-outcome.result
-    c.drive_all-outcome.ensures.goes rest written ends unfailed
+    drive_last c.args.out.now.names.now (seen c.args.graph.now) (seen c.drive_watched-outcome.new.graph) (g.S.Sink.held c.args.out.now.sink.now) (g.S.Sink.held c.drive_watched-outcome.new.watcher.lines.sink.now)
+    (g.S.Sink.faults c.args.out.now.sink.now) (g.S.Sink.faults c.drive_watched-outcome.new.watcher.lines.sink.now) (ap (λ (v : View). v.out) c.requires.started) c.drive_watched-outcome.result c.drive_watched-outcome.ensures.goes.turns rest
+    (subst (λ s. IsAllWritten c.args.out.now.names.now (seen c.drive_watched-outcome.new.graph) (g.S.Sink.held c.args.out.now.sink.now) (g.S.Sink.held s)) (search rules) written) ends unfailed

@@ -1,7 +1,0 @@
-use Rattle.std.proofs.Common.{refl}
-use Rattle.sn_graph.specs.Graph.{seen}
-use Rattle.sn_farm.proofs.Turning.{rests}
-use Rattle.sn_farm.proofs.drive.rest_or_wait.Goals as goal
-
-pub returns-then-at_rest : goal.returns-then-at_rest
-returns-then-at_rest g c names held faults = rests names (seen c.args.graph.now) _ _ (record { rest = c.if-at_rest.ensures.rest.0 refl; only = c.if-at_rest.ensures.only refl })

@@ -1,0 +1,8 @@
+//! Traces of runs with workers: a line for each event, as it happens.
+#![tactic(auto)]
+
+mod sink;
+mod trace;
+
+pub use sn_replay::{TraceFault, replay};
+pub use trace::trace_run;

@@ -1,0 +1,43 @@
+//! A run with workers that is traced.
+ghost use Rattle.std.specs.Prelude.{◌≡◌, ◌≤◌, None, Some};
+ghost use Rattle.sn_record.specs.declared.item.Fault.{Fault};
+ghost use Rattle.sn_io.specs.Causes.{Rose};
+ghost use Rattle.sn_model.specs.declared.outcome.Outcome.TheVariants as outcome;
+ghost use Rattle.sn_trace.specs.Written.{HasTrace, HasTracePart};
+
+use crate::sink::TraceSink;
+use sn_graph::Graph;
+use sn_io::{Gate, Sink};
+use sn_list::Seq;
+use sn_model::{Outcome, Run};
+use sn_turns::drive_watched;
+use std::alloc::Global;
+use std::sync::{Arc, Wait};
+use std::thread::Threads;
+
+/// Starts a graph of the run and drives it to its end with workers. The line of each event is written as it happens.
+pub fn trace_run<R: Threads + Wait + Sync, S: Sink, G: Gate>(
+    rt: &R,
+    alloc: Global,
+    run: &Arc<Run>,
+    workers: u32,
+    gate: &G,
+    out: &mut S,
+) -> Outcome
+    requires { (1 ≤ workers) × (workers ≤ 64) }
+    ensures part { HasTracePart run.now.value (S.held out.old) (S.held out.new) }
+    ensures whole { result ≡ outcome.Whole → HasTrace run.now.value (S.held out.old) (S.held out.new) None }
+    ensures faulted { (fault : Fault) → result ≡ outcome.Faulted fault → HasTrace run.now.value (S.held out.old) (S.held out.new) (Some fault) }
+    ensures rose { result ≡ outcome.WriteFault → Rose (S.faults out.old) (S.faults out.new) }
+    ensures later { S.faults out.old ≤ S.faults out.new }
+{
+    let Ok(mut graph) = Graph::start(alloc, run) else {
+        return Outcome::Memory;
+    };
+    let mut line = Seq::new(alloc);
+    let mut sink = TraceSink {
+        sink: out,
+        line: &mut line,
+    };
+    drive_watched(rt, alloc, run, &mut graph, workers, gate, &mut sink)
+}

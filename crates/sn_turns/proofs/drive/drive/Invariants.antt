@@ -1,0 +1,12 @@
+use Rattle.sn_graph.specs.Graph.{IsGraphOf, seen}
+use Rattle.sn_turns.specs.OwnerEnds.{AreEndsOf}
+use Rattle.sn_turns.specs.declared.turn.Turn.TheVariants.{Went}
+use Rattle.sn_turns.proofs.drive.drive.Given as goal
+
+abbrev pub invariant-loop : goal.invariant-loop
+invariant-loop g l = record {
+  ready : (goal.iterator-loop g).can_next l.iterator' × (goal.iterator-loop g).is_finite l.iterator';
+  ends : AreEndsOf l.shared.run.now.value l.ends;
+  of : IsGraphOf l.graph l.shared.run.now.value;
+  goes : g.W.Watcher.goes (seen l.fn.graph) l.fn.watcher (seen l.graph) l.watcher Went;
+}

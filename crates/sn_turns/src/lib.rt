@@ -1,0 +1,16 @@
+//! The turns of a graph's owner while workers make the calls of its boxes, whoever is told what happens.
+//!
+//! Whatever the schedule, each event is one that the graph allows, so nothing of what is proved depends on how threads run.
+#![tactic(auto)]
+
+mod apply;
+mod drive;
+mod named;
+mod owner;
+mod threads;
+mod turn;
+mod watcher;
+
+pub use threads::drive_watched;
+pub use turn::Turn;
+pub use watcher::Watcher;
