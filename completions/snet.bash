@@ -32,10 +32,10 @@ _snet() {
     read -r command behind < <(_snet_command)
     case $command,$word in
     ,-*) _snet_words "$word" '--try --explain --help' ;;
-    ,*) _snet_words "$word" 'run once check print sample' ;;
-    run,-*) _snet_words "$word" '--workers --fuel --depth --queue' ;;
-    once,-*) _snet_words "$word" '--fuel --depth' ;;
-    run,* | once,*)
+    ,*) _snet_words "$word" 'run once check print trace replay sample' ;;
+    run,-* | trace,-*) _snet_words "$word" '--workers --fuel --depth --queue' ;;
+    once,-* | replay,-*) _snet_words "$word" '--fuel --depth' ;;
+    run,* | once,* | trace,* | replay,*)
         if ((behind == 1)); then
             _snet_files "$word" .snet
         else

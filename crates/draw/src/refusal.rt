@@ -128,7 +128,7 @@ fn write_stop<W: fmt::Write>(f: &mut fmt::Formatter<W>, stop: &Stop) -> fmt::Res
     let mut buffer = Buffer::new();
     let place = buffer.format(stop.place()).as_bytes();
     let label = Shown(stop.label());
-    let name = Shown(stop.name(b"", b"", place));
+    let name = Shown(stop.name(b"", b"", b"", place));
     let (before, detail, behind) = stop.detail();
     let before = Shown(before);
     let detail = Shown(detail);

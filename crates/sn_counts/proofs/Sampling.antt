@@ -30,7 +30,7 @@ use Rattle.sn_sample.specs.Source.{source_text}
 use Rattle.sn_sample.specs.Tally.{Counts, counted, counts_line}
 use Rattle.sn_load.specs.declared.load.Program.{Program}
 use Rattle.sn_stop.specs.declared.refusal.LineFault.TheVariants as wrong
-use Rattle.sn_stop.specs.declared.refusal.Refusal.TheVariants.{TooLarge, Source as SourceAt, NoMain, TooDeep, LargeTree, TooManyNames, IllTyped, Variants, Line}
+use Rattle.sn_stop.specs.declared.refusal.Refusal.TheVariants.{TooLarge, Source as SourceAt, NoMain, TooDeep, LargeTree, TooManyNames, IllTyped, Variants, Line, Trace}
 use Rattle.sn_stop.specs.declared.stop.Stop.{Stop}
 use Rattle.sn_stop.specs.declared.stop.Stop.TheVariants.{Refused, Faulted, Unread, Memory, Write}
 use Rattle.sn_load.specs.declared.load.TheConstants.{SOURCE_LIMIT}
@@ -99,6 +99,7 @@ module _ (names : List (List ℕ)) (claim : Claim) (number count : ℕ) where
   no_room (Refused (IllTyped fault at variant)) why = cc
   no_room (Refused (Variants at)) why = cc
   no_room (Refused (Line fault)) why = cc
+  no_room (Refused (Trace fault)) why = cc
   no_room (Faulted fault) why = absurd why
   no_room (Unread which) why = absurd why
   no_room Memory why = tt
@@ -165,6 +166,7 @@ not_loaded number count out same (Refused TooManyNames) why = (inl (source_short
 not_loaded number count out same (Refused (IllTyped fault at variant)) why = ((source_short, why), same)
 not_loaded number count out same (Refused (Variants at)) why = ((source_short, why), same)
 not_loaded number count out same (Refused (Line fault)) why = absurd why
+not_loaded number count out same (Refused (Trace fault)) why = absurd why
 not_loaded number count out same (Faulted fault) why = absurd why
 not_loaded number count out same (Unread which) why = absurd why
 not_loaded number count out same Memory why = inl same
@@ -182,6 +184,7 @@ module _ (number count : ℕ) (out : Sink) (program : Program) (is : IsLoaded so
   not_counted same (Refused (IllTyped fault at variant)) why = absurd why
   not_counted same (Refused (Variants at)) why = absurd why
   not_counted same (Refused (Line fault)) why = ((program, accepted source_text program is source_short, why), same)
+  not_counted same (Refused (Trace fault)) why = absurd why
   not_counted same (Faulted fault) why = absurd why
   not_counted same (Unread which) why = absurd why
   not_counted same Memory why = inl same

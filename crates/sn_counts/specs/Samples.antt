@@ -31,6 +31,7 @@ IsRefusedSample names claim number count refusal.TooManyNames = HasNoRoom names
 IsRefusedSample names claim number count (refusal.IllTyped fault at variant) = ⊥
 IsRefusedSample names claim number count (refusal.Variants at) = ⊥
 IsRefusedSample names claim number count (refusal.Line fault) = IsWrongSample fault names claim number count
+IsRefusedSample names claim number count (refusal.Trace fault) = ⊥
 
 -- why records were not made
 abbrev pub WhyNoSamples : List (List ℕ) → Claim → ℕ → ℕ → Stop → Type 0

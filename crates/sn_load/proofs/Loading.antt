@@ -36,7 +36,7 @@ use Rattle.sn_scope.specs.declared.resolved.Parts.{Parts}
 use Rattle.sn_label_scope.specs.declared.fault.ScopeFault.{ScopeFault}
 use Rattle.sn_label_scope.specs.declared.fault.ScopeFault.TheVariants as scope
 use Rattle.sn_load.specs.declared.load.Program.{Program}
-use Rattle.sn_stop.specs.declared.refusal.Refusal.TheVariants.{TooLarge, Source as SourceAt, NoMain, TooDeep, LargeTree, TooManyNames, IllTyped, Variants, Line}
+use Rattle.sn_stop.specs.declared.refusal.Refusal.TheVariants.{TooLarge, Source as SourceAt, NoMain, TooDeep, LargeTree, TooManyNames, IllTyped, Variants, Line, Trace}
 use Rattle.sn_stop.specs.declared.refusal.LineFault.TheVariants as wrong
 use Rattle.sn_stop.specs.declared.stop.Stop.{Stop}
 use Rattle.sn_stop.specs.declared.stop.Stop.TheVariants.{Refused, Faulted, Unread, Memory, Write}
@@ -98,6 +98,7 @@ module _ (bytes : List ℕ) where
       not_accepted (Refused (IllTyped fault at variant)) why = record { parts = parts; resolved = record { tree = tree; read = read; is = is }; so = why }
       not_accepted (Refused (Variants at)) why = record { parts = parts; resolved = record { tree = tree; read = read; is = is }; so = why }
       not_accepted (Refused (Line fault)) why = absurd why
+      not_accepted (Refused (Trace fault)) why = absurd why
       not_accepted (Faulted fault) why = absurd why
       not_accepted (Unread which) why = absurd why
       not_accepted Memory why = tt

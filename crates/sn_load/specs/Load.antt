@@ -94,6 +94,7 @@ WhyNoRecords names claim bytes refusal.TooManyNames = HasManyNames names claim b
 WhyNoRecords names claim bytes (refusal.IllTyped fault at variant) = ⊥
 WhyNoRecords names claim bytes (refusal.Variants at) = ⊥
 WhyNoRecords names claim bytes (refusal.Line fault) = HasWrongLine fault names claim bytes
+WhyNoRecords names claim bytes (refusal.Trace fault) = ⊥
 
 -- why reading an input stopped
 abbrev pub WhyUnreadable : List (List ℕ) → Claim → List ℕ → Stop → Type 0

@@ -17,7 +17,7 @@ use Rattle.sn_load.specs.Source.{IsRefused, IsSource, IsWrong}
 use Rattle.sn_ast.specs.declared.fault.ParseFault.TheVariants as parse_fault
 use Rattle.sn_load.specs.declared.load.Program.{Program}
 use Rattle.sn_stop.specs.declared.refusal.Refusal.{Refusal}
-use Rattle.sn_stop.specs.declared.refusal.Refusal.TheVariants.{TooLarge, Source as SourceAt, NoMain, TooDeep, LargeTree, TooManyNames, IllTyped, Variants, Line}
+use Rattle.sn_stop.specs.declared.refusal.Refusal.TheVariants.{TooLarge, Source as SourceAt, NoMain, TooDeep, LargeTree, TooManyNames, IllTyped, Variants, Line, Trace}
 use Rattle.sn_stop.specs.declared.refusal.SourceFault.{SourceFault}
 use Rattle.sn_stop.specs.declared.refusal.SourceFault.TheVariants.{BadUtf8, BadChar, NumberTooWide, TextOpen, Unexpected, Unknown, Twice, Arity, GuardTag}
 use Rattle.sn_stop.specs.declared.refusal.TypeFault.{TypeFault}
@@ -78,6 +78,7 @@ WhyRefused parts (stop.Refused TooManyNames) = ⊥
 WhyRefused parts (stop.Refused (IllTyped fault at variant)) = IsIllTyped parts fault at variant
 WhyRefused parts (stop.Refused (Variants at)) = RefusesClaim parts (flow_fault.TooManyVariants at)
 WhyRefused parts (stop.Refused (Line fault)) = ⊥
+WhyRefused parts (stop.Refused (Trace fault)) = ⊥
 WhyRefused parts (stop.Faulted fault) = ⊥
 WhyRefused parts (stop.Unread which) = ⊥
 WhyRefused parts stop.Memory = Unit {0}
@@ -117,6 +118,7 @@ WhyNoProgram bytes TooManyNames = IsUnresolved bytes scope.TooManyNames
 WhyNoProgram bytes (IllTyped fault at variant) = ResolvesTo bytes (λ parts. IsIllTyped parts fault at variant)
 WhyNoProgram bytes (Variants at) = ResolvesTo bytes (λ parts. RefusesClaim parts (flow_fault.TooManyVariants at))
 WhyNoProgram bytes (Line fault) = ⊥
+WhyNoProgram bytes (Trace fault) = ⊥
 
 -- why loading a source stopped
 abbrev pub WhyUnloaded : List ℕ → Stop → Type 0

@@ -9,7 +9,7 @@ use Rattle.sn_ast.specs.declared.fault.ParseFault.{ParseFault}
 use Rattle.sn_ast.specs.declared.fault.ParseFault.TheVariants as parse_fault
 use Rattle.sn_print.specs.Declarations.{program_text}
 use Rattle.sn_stop.specs.declared.refusal.Refusal.{Refusal}
-use Rattle.sn_stop.specs.declared.refusal.Refusal.TheVariants.{TooLarge, Source as SourceAt, NoMain, TooDeep, LargeTree, TooManyNames, IllTyped, Variants, Line}
+use Rattle.sn_stop.specs.declared.refusal.Refusal.TheVariants.{TooLarge, Source as SourceAt, NoMain, TooDeep, LargeTree, TooManyNames, IllTyped, Variants, Line, Trace}
 use Rattle.sn_stop.specs.declared.refusal.SourceFault.{SourceFault}
 use Rattle.sn_stop.specs.declared.refusal.SourceFault.TheVariants.{BadUtf8, BadChar, NumberTooWide, TextOpen, Unexpected, Unknown, Twice, Arity, GuardTag}
 use Rattle.sn_stop.specs.declared.stop.Stop.{Stop}
@@ -57,6 +57,7 @@ FindsSource bytes (Err TooManyNames) = ⊥
 FindsSource bytes (Err (IllTyped fault at variant)) = ⊥
 FindsSource bytes (Err (Variants at)) = ⊥
 FindsSource bytes (Err (Line fault)) = ⊥
+FindsSource bytes (Err (Trace fault)) = ⊥
 
 -- why there is no text
 abbrev pub WhyNoText : List ℕ → Stop → Type 0

@@ -12,82 +12,194 @@ use Rattle.sn_outcomes.specs.Told.{AreTold}
 use Rattle.sn_output.specs.Printed.{printed, ending}
 use Rattle.sn_sample.specs.Source.{source_text}
 use Rattle.sn_sample.specs.Tally.{counted, counts_line}
-use Rattle.sn_plain.specs.Answer.{Finds, FindsSample, FindsText, FindsTypes, FindsFor, IsAnswered, IsRefusedInput, Outside, found_status}
+use Rattle.sn_plain.specs.Answer.{Finds, FindsReplay, FindsSample, FindsText, FindsTypes, FindsFor, IsAccepted, IsAnswered, IsRefused, IsRefusedInput, Outside, found_status}
 use Rattle.sn_load.specs.Flows.{HasFlows}
-use Rattle.sn_load.specs.Load.{Limits, limits_of, setting, WhyNoRecords, stream_of}
-use Rattle.sn_plain.specs.Runs.{Manner, OnOneThread, Printout, WithWorkers, whole}
+use Rattle.sn_load.specs.Load.{IsTypedFile, Limits, limits_of, setting, WhyNoRecords, stream_of}
+use Rattle.sn_plain.specs.Runs.{Manner, OnOneThread, Printout, WithWorkers, ended, whole}
 use Rattle.sn_plain.specs.Sample.{AreTypedSamples, HasNoRoom, HasUntypedSample, answers_to, names_with}
 use Rattle.sn_plain.specs.Seen.{File}
+use Rattle.sn_plain.specs.Traces.{IsRunOver}
+use Rattle.sn_plain.specs.declared.replaying.TheConstants.{TRACE_LIMIT}
+use Rattle.sn_record.specs.Record.{Entries}
+use Rattle.sn_net.specs.declared.net.Net.{Net}
+use Rattle.sn_model.specs.Meaning.{Setting}
+use Rattle.sn_model.specs.declared.run.Run.{Run as SomeRun}
+use Rattle.sn_replay.specs.Queues.{AreAlike}
+use Rattle.sn_replay.specs.Replays.{BadLine, IsVerdict, NotEnabled, Replayed, Unfinished, Verdict}
+use Rattle.sn_replay.proofs.Queues.{same_verdict}
+use Rattle.sn_replay.proofs.Verdicts.{only_verdict}
 use Rattle.sn_load.specs.Source.{FindsSource}
 use Rattle.sn_load.specs.declared.load.Program.{Program}
 use Rattle.sn_load.specs.declared.load.TheConstants.{SOURCE_LIMIT, INPUT_LIMIT}
 use Rattle.sn_stop.specs.declared.refusal.LineFault.TheVariants as wrong
 use Rattle.sn_stop.specs.declared.refusal.Refusal.{Refusal}
-use Rattle.sn_stop.specs.declared.refusal.Refusal.TheVariants.{TooLarge, Source as SourceAt, NoMain, TooDeep, LargeTree, TooManyNames, IllTyped, Variants, Line}
+use Rattle.sn_stop.specs.declared.refusal.Refusal.TheVariants.{TooLarge, Source as SourceAt, NoMain, TooDeep, LargeTree, TooManyNames, IllTyped, Variants, Line, Trace}
+use Rattle.sn_stop.specs.declared.refusal.TraceRefusal.TheVariants as trace
 use Rattle.sn_stop.specs.declared.status.Status.{Status}
-use Rattle.sn_stop.specs.declared.refusal.Which.TheVariants.{Source, Input as InputFile}
+use Rattle.sn_stop.specs.declared.refusal.Which.TheVariants.{Source, Input as InputFile, Trace as TraceFile}
 use Rattle.sn_words.specs.declared.command.Command.{Command}
-use Rattle.sn_words.specs.declared.command.Command.TheVariants.{Run, Once, Check, Print, Sample}
+use Rattle.sn_words.specs.declared.command.Command.TheVariants.{Run, Once, Check, Print, Trace as ATrace, Replay, Sample}
 
 -- what comes of a stream is printed
 abbrev pub printout : Limits → Program → Input → Printout
 printout limits program input = record { bytes = printed input.names (stream_of limits program input); ending = ending (stream_of limits program input) }
 
-abbrev run_found : Limits → Program → Result Input Refusal → Found
-run_found limits program (Ok input) = Ok (printout limits program input)
-run_found limits program (Err refusal) = Err refusal
+-- what is found of the records of an input, with their names
+abbrev pub Giving : Type 1
+Giving = Setting → Net → List Entries → List (List ℕ) → Found → Type 0
 
--- what is found of an input, in one manner of running or another
-pub data Feeds (Shows : Manner) (limits : Limits) (more : List ℕ) (program : Program) : Found → Type 0 where
-  large : INPUT_LIMIT < length more → Feeds Shows limits more program (Err (TooLarge InputFile))
-  refused : (refusal : Refusal) → length more ≤ INPUT_LIMIT → Comes program.names program.claim more (Err refusal) → Feeds Shows limits more program (Err refusal)
-  fed : (input : Input) (p : Printout) → length more ≤ INPUT_LIMIT → Comes program.names program.claim more (Ok input) → Shows (setting program limits) program.claim.net input.records input.names p
-      → Feeds Shows limits more program (Ok p)
+-- in one manner of running or another they are printed
+abbrev pub shown_by : Manner → Giving
+shown_by Shows s net records names (Ok p) = Shows s net records names p
+shown_by Shows s net records names (Err refusal) = ⊥
+
+-- what is found of an input
+pub data Feeds (Gives : Giving) (limits : Limits) (more : List ℕ) (program : Program) : Found → Type 0 where
+  large : INPUT_LIMIT < length more → Feeds Gives limits more program (Err (TooLarge InputFile))
+  refused : (refusal : Refusal) → length more ≤ INPUT_LIMIT → Comes program.names program.claim more (Err refusal) → Feeds Gives limits more program (Err refusal)
+  fed : (input : Input) (found : Found) → length more ≤ INPUT_LIMIT → Comes program.names program.claim more (Ok input) → Gives (setting program limits) program.claim.net input.records input.names found
+      → Feeds Gives limits more program found
 
 -- on one thread the printout is that of the input
-one_printout : (limits : Limits) (program : Program) (input : Input) (p : Printout) → OnOneThread (setting program limits) program.claim.net input.records input.names p → p ≡ printout limits program input
-one_printout limits program input p shown = λ i. record { bytes = shown.bytes_are i; ending = shown.ending_is i }
+given_once : (s : Setting) (net : Net) (records : List Entries) (names : List (List ℕ)) (found other : Found) → shown_by OnOneThread s net records names found
+    → shown_by OnOneThread s net records names other → found ≡ other
+given_once s net records names (Ok p) (Ok q) shown also = λ i. Ok (record { bytes = (shown.bytes_are ∙ sym also.bytes_are) i; ending = (shown.ending_is ∙ sym also.ending_is) i })
+given_once s net records names (Ok p) (Err r) shown also = absurd also
+given_once s net records names (Err r) other shown also = absurd shown
 
-feeds_once : (limits : Limits) (more : List ℕ) (program : Program) (found other : Found) → Feeds OnOneThread limits more program found → Feeds OnOneThread limits more program other → found ≡ other
-feeds_once limits more program found other (Feeds.large l) (Feeds.large k) = refl
-feeds_once limits more program found other (Feeds.large l) (Feeds.refused s w g) = absurd (omega arith)
-feeds_once limits more program found other (Feeds.large l) (Feeds.fed s q w g h) = absurd (omega arith)
-feeds_once limits more program found other (Feeds.refused r w f) (Feeds.large l) = absurd (omega arith)
-feeds_once limits more program found other (Feeds.refused r w f) (Feeds.refused s v g) = ap (run_found limits program) (comes_once program.names program.claim more (Err r) (Err s) f g)
-feeds_once limits more program found other (Feeds.refused r w f) (Feeds.fed s q v g h) = let same = comes_once program.names program.claim more (Err r) (Ok s) f g in absurd cc
-feeds_once limits more program found other (Feeds.fed r p w f h) (Feeds.large l) = absurd (omega arith)
-feeds_once limits more program found other (Feeds.fed r p w f h) (Feeds.refused s v g) = let same = comes_once program.names program.claim more (Ok r) (Err s) f g in absurd cc
-feeds_once limits more program found other (Feeds.fed r p w f h) (Feeds.fed s q v g k) =
-    ap Ok (one_printout limits program r p h) ∙ ap (run_found limits program) (comes_once program.names program.claim more (Ok r) (Ok s) f g) ∙ sym (ap Ok (one_printout limits program s q k))
+abbrev pub input_in : Input → Result Input Refusal → Input
+input_in other (Ok input) = input
+input_in other (Err refusal) = other
 
-module _ (Shows : Manner) (limits : Limits) where
-  wrong_input : (bytes more : List ℕ) (refusal : Refusal) → IsRefusedInput (Some more) (λ names claim more. WhyNoRecords names claim more refusal) bytes → Goes bytes (Feeds Shows limits more) (Err refusal)
-  wrong_input bytes more refusal (program, accepted, why) =
-      program_goes bytes (Feeds Shows limits more) (Err refusal) program accepted (Feeds.refused refusal why.0 (refusal_comes program.names program.claim more refusal why.1))
+abbrev refusal_in : Refusal → Result Input Refusal → Refusal
+refusal_in other (Ok input) = other
+refusal_in other (Err refusal) = refusal
 
-  -- what is found of a source and an input
-  pub goes : (bytes more : List ℕ) (found : Found) → Finds Shows limits (Some bytes) (Some more) found → Goes bytes (Feeds Shows limits more) found
-  goes bytes more (Err (TooLarge Source)) f = Goes.large f
-  goes bytes more (Err (TooLarge InputFile)) f = program_goes bytes (Feeds Shows limits more) (Err (TooLarge InputFile)) f.0 f.1 (Feeds.large f.2)
-  goes bytes more (Err (SourceAt fault at)) f = wrong_goes bytes (Feeds Shows limits more) (SourceAt fault at) f
-  goes bytes more (Err NoMain) f = wrong_goes bytes (Feeds Shows limits more) NoMain f
-  goes bytes more (Err (TooDeep at)) f = wrong_goes bytes (Feeds Shows limits more) (TooDeep at) f
-  goes bytes more (Err (LargeTree at)) f = wrong_goes bytes (Feeds Shows limits more) (LargeTree at) f
-  goes bytes more (Err TooManyNames) (inl f) = wrong_goes bytes (Feeds Shows limits more) TooManyNames f
-  goes bytes more (Err TooManyNames) (inr f) = wrong_input bytes more TooManyNames f
-  goes bytes more (Err (IllTyped fault at variant)) f = wrong_goes bytes (Feeds Shows limits more) (IllTyped fault at variant) f
-  goes bytes more (Err (Variants at)) f = wrong_goes bytes (Feeds Shows limits more) (Variants at) f
-  goes bytes more (Err (Line fault)) f = wrong_input bytes more (Line fault) f
-  goes bytes more (Ok p) (program, accepted, prints) =
-      program_goes bytes (Feeds Shows limits more) (Ok p) program accepted
-      (Feeds.fed prints.input p prints.within (typed_comes program.names program.claim more prints.input prints.typed) prints.shown)
+module _ (Gives : Giving) (one : (s : Setting) (net : Net) (records : List Entries) (names : List (List ℕ)) (found other : Found) → Gives s net records names found → Gives s net records names other → found ≡ other)
+    (limits : Limits) (more : List ℕ) (program : Program) where
+  comes : (r s : Result Input Refusal) → Comes program.names program.claim more r → Comes program.names program.claim more s → r ≡ s
+  comes = comes_once program.names program.claim more
+
+  feeds_once : (found other : Found) → Feeds Gives limits more program found → Feeds Gives limits more program other → found ≡ other
+  feeds_once found other (Feeds.large l) (Feeds.large k) = refl
+  feeds_once found other (Feeds.large l) (Feeds.refused s w g) = absurd (omega arith)
+  feeds_once found other (Feeds.large l) (Feeds.fed s q w g h) = absurd (omega arith)
+  feeds_once found other (Feeds.refused r w f) (Feeds.large l) = absurd (omega arith)
+  feeds_once found other (Feeds.refused r w f) (Feeds.refused s v g) = ap (λ x. Err (refusal_in r x)) (comes (Err r) (Err s) f g)
+  feeds_once found other (Feeds.refused r w f) (Feeds.fed s q v g h) = let same = comes (Err r) (Ok s) f g in absurd cc
+  feeds_once found other (Feeds.fed r p w f h) (Feeds.large l) = absurd (omega arith)
+  feeds_once found other (Feeds.fed r p w f h) (Feeds.refused s v g) = let same = comes (Ok r) (Err s) f g in absurd cc
+  feeds_once found other (Feeds.fed r p w f h) (Feeds.fed s q v g k) =
+      let same : s ≡ r = ap (input_in r) (comes (Ok s) (Ok r) g f) in
+      one (setting program limits) program.claim.net r.records r.names p q h (subst (λ (x : Input). Gives (setting program limits) program.claim.net x.records x.names q) same k)
+
+module _ (Gives : Giving) (limits : Limits) (bytes more : List ℕ) where
+  wrong_input : (refusal : Refusal) → IsRefusedInput (Some more) (λ names claim more. WhyNoRecords names claim more refusal) bytes → Goes bytes (Feeds Gives limits more) (Err refusal)
+  wrong_input refusal (program, accepted, why) =
+      program_goes bytes (Feeds Gives limits more) (Err refusal) program accepted (Feeds.refused refusal why.0 (refusal_comes program.names program.claim more refusal why.1))
+
+  -- the checks before a run refuse
+  refused_goes : (refusal : Refusal) → IsRefused (Some bytes) (Some more) refusal → Goes bytes (Feeds Gives limits more) (Err refusal)
+  refused_goes (TooLarge Source) f = Goes.large f
+  refused_goes (TooLarge InputFile) f = program_goes bytes (Feeds Gives limits more) (Err (TooLarge InputFile)) f.0 f.1 (Feeds.large f.2)
+  refused_goes (TooLarge TraceFile) f = absurd f
+  refused_goes (SourceAt fault at) f = wrong_goes bytes (Feeds Gives limits more) (SourceAt fault at) f
+  refused_goes NoMain f = wrong_goes bytes (Feeds Gives limits more) NoMain f
+  refused_goes (TooDeep at) f = wrong_goes bytes (Feeds Gives limits more) (TooDeep at) f
+  refused_goes (LargeTree at) f = wrong_goes bytes (Feeds Gives limits more) (LargeTree at) f
+  refused_goes TooManyNames (inl f) = wrong_goes bytes (Feeds Gives limits more) TooManyNames f
+  refused_goes TooManyNames (inr f) = wrong_input TooManyNames f
+  refused_goes (IllTyped fault at variant) f = wrong_goes bytes (Feeds Gives limits more) (IllTyped fault at variant) f
+  refused_goes (Variants at) f = wrong_goes bytes (Feeds Gives limits more) (Variants at) f
+  refused_goes (Line fault) f = wrong_input (Line fault) f
+  refused_goes (Trace fault) f = absurd f
+
+-- what is found of a source and an input
+pub goes : (Shows : Manner) (limits : Limits) (bytes more : List ℕ) (found : Found) → Finds Shows limits (Some bytes) (Some more) found → Goes bytes (Feeds (shown_by Shows) limits more) found
+goes Shows limits bytes more (Err refusal) f = refused_goes (shown_by Shows) limits bytes more refusal f
+goes Shows limits bytes more (Ok p) (program, accepted, prints) =
+    program_goes bytes (Feeds (shown_by Shows) limits more) (Ok p) program accepted
+    (Feeds.fed prints.input (Ok p) prints.within (typed_comes program.names program.claim more prints.input prints.typed) prints.shown)
 
 pub finds_once : (limits : Limits) (bytes more : List ℕ) (source input : Option (List ℕ)) (found other : Found) → source ≡ Some bytes → input ≡ Some more →
     Finds OnOneThread limits source input found → Finds OnOneThread limits source input other → found ≡ other
 finds_once limits bytes more source input found other s i f g =
     let f' : Finds OnOneThread limits (Some bytes) (Some more) found = subst (λ (p : Option (List ℕ) × Option (List ℕ)). Finds OnOneThread limits p.0 p.1 found) (λ j. (s j, i j)) f in
     let g' : Finds OnOneThread limits (Some bytes) (Some more) other = subst (λ (p : Option (List ℕ) × Option (List ℕ)). Finds OnOneThread limits p.0 p.1 other) (λ j. (s j, i j)) g in
-    goes_once bytes (Feeds OnOneThread limits more) (Feeds OnOneThread limits more) (feeds_once limits more) found other (goes OnOneThread limits bytes more found f') (goes OnOneThread limits bytes more other g')
+    goes_once bytes (Feeds (shown_by OnOneThread) limits more) (Feeds (shown_by OnOneThread) limits more) (feeds_once (shown_by OnOneThread) given_once limits more) found other
+    (goes OnOneThread limits bytes more found f') (goes OnOneThread limits bytes more other g')
+
+-- WHAT IS FOUND OF A TRACE
+abbrev pub found_by : List (List ℕ) → Verdict → Found
+found_by names (Replayed ys) = Ok (ended (printed names ys) (ending ys))
+found_by names (BadLine n) = Err (Trace (trace.BadLine n))
+found_by names (NotEnabled n) = Err (Trace (trace.NotEnabled n))
+found_by names Unfinished = Err (Trace trace.Unfinished)
+
+pub data Plays (text : List ℕ) (s : Setting) (net : Net) (records : List Entries) (names : List (List ℕ)) : Found → Type 0 where
+  long : TRACE_LIMIT < length text → Plays text s net records names (Err (TooLarge TraceFile))
+  said : (found : Found) (run : SomeRun) (verdict : Verdict) → length text ≤ TRACE_LIMIT → IsRunOver s net records run → IsVerdict run text verdict → found ≡ found_by names verdict
+      → Plays text s net records names found
+
+-- two runs of one network over the same records are alike
+pub alike : (s : Setting) (net : Net) (records : List Entries) (run other : SomeRun) → IsRunOver s net records run → IsRunOver s net records other → AreAlike run other
+alike s net records run other a b = record {
+  net = a.net_is ∙ sym b.net_is;
+  boxes = a.boxes_are ∙ sym b.boxes_are;
+  fuel = a.fuel_is ∙ sym b.fuel_is;
+  depth = a.depth_is ∙ sym b.depth_is;
+  input = a.input_is ∙ sym b.input_is;
+}
+
+plays_once : (text : List ℕ) (s : Setting) (net : Net) (records : List Entries) (names : List (List ℕ)) (found other : Found) → Plays text s net records names found → Plays text s net records names other → found ≡ other
+plays_once text s net records names found other (Plays.long l) (Plays.long k) = refl
+plays_once text s net records names found other (Plays.long l) (Plays.said g run v w o is e) = absurd (omega arith)
+plays_once text s net records names found other (Plays.said f run v w o is e) (Plays.long l) = absurd (omega arith)
+plays_once text s net records names found other (Plays.said f run v w o is e) (Plays.said g another u x p are d) =
+    e ∙ ap (found_by names) (only_verdict another text v u (same_verdict run another (alike s net records run another o p) text v is) are) ∙ sym d
+
+module _ (limits : Limits) (bytes more text : List ℕ) where
+  abbrev Played : Program → Found → Type 0
+  Played = Feeds (Plays text) limits more
+
+  -- the text was judged
+  told : (found : Found) (program : Program) (file : Input) → IsAccepted bytes program → length more ≤ INPUT_LIMIT → IsTypedFile program.names program.claim more file
+      → Plays text (setting program limits) program.claim.net file.records file.names found → Goes bytes Played found
+  told found program file accepted within typed plays = program_goes bytes Played found program accepted (Feeds.fed file found within (typed_comes program.names program.claim more file typed) plays)
+
+  refuses : (refusal : Refusal) → IsRefused (Some bytes) (Some more) refusal → Goes bytes Played (Err refusal)
+  refuses = refused_goes (Plays text) limits bytes more
+
+  pub replay_goes : (found : Found) → FindsReplay limits (Some bytes) (Some more) (Some text) found → Goes bytes Played found
+  replay_goes (Err (TooLarge Source)) f = refuses (TooLarge Source) f
+  replay_goes (Err (TooLarge InputFile)) f = refuses (TooLarge InputFile) f
+  replay_goes (Err (TooLarge TraceFile)) (program, accepted, (within, file, typed, past)) = told (Err (TooLarge TraceFile)) program file accepted within typed (Plays.long past)
+  replay_goes (Err (SourceAt fault at)) f = refuses (SourceAt fault at) f
+  replay_goes (Err NoMain) f = refuses NoMain f
+  replay_goes (Err (TooDeep at)) f = refuses (TooDeep at) f
+  replay_goes (Err (LargeTree at)) f = refuses (LargeTree at) f
+  replay_goes (Err TooManyNames) f = refuses TooManyNames f
+  replay_goes (Err (IllTyped fault at variant)) f = refuses (IllTyped fault at variant) f
+  replay_goes (Err (Variants at)) f = refuses (Variants at) f
+  replay_goes (Err (Line fault)) f = refuses (Line fault) f
+  replay_goes (Err (Trace (trace.BadLine n))) (program, accepted, (within, file, typed, (short, (run, over, is)))) =
+      told (Err (Trace (trace.BadLine n))) program file accepted within typed (Plays.said _ run (BadLine n) short over is refl)
+  replay_goes (Err (Trace (trace.NotEnabled n))) (program, accepted, (within, file, typed, (short, (run, over, is)))) =
+      told (Err (Trace (trace.NotEnabled n))) program file accepted within typed (Plays.said _ run (NotEnabled n) short over is refl)
+  replay_goes (Err (Trace trace.Unfinished)) (program, accepted, (within, file, typed, (short, (run, over, is)))) =
+      told (Err (Trace trace.Unfinished)) program file accepted within typed (Plays.said _ run Unfinished short over is refl)
+  replay_goes (Ok p) (program, accepted, (within, file, typed, (short, (run, over, is)))) =
+      told (Ok p) program file accepted within typed
+      (Plays.said (Ok p) run (Replayed is.items) short over is.replays (λ i. Ok (record { bytes = is.shown.bytes_are i; ending = is.shown.ending_is i })))
+
+pub finds_replay_once : (limits : Limits) (bytes more text : List ℕ) (source input trace : Option (List ℕ)) (found other : Found) → source ≡ Some bytes → input ≡ Some more → trace ≡ Some text →
+    FindsReplay limits source input trace found → FindsReplay limits source input trace other → found ≡ other
+finds_replay_once limits bytes more text source input trace found other s i t f g =
+    let Of : Found → Option (List ℕ) × Option (List ℕ) × Option (List ℕ) → Type 0 = λ x files. FindsReplay limits files.0 files.1 files.2 x in
+    let f' : FindsReplay limits (Some bytes) (Some more) (Some text) found = subst (Of found) (λ j. (s j, i j, t j)) f in
+    let g' : FindsReplay limits (Some bytes) (Some more) (Some text) other = subst (Of other) (λ j. (s j, i j, t j)) g in
+    goes_once bytes (Feeds (Plays text) limits more) (Feeds (Plays text) limits more) (feeds_once (Plays text) (plays_once text) limits more) found other
+    (replay_goes limits bytes more text found f') (replay_goes limits bytes more text other g')
 
 -- what is found of a program whose types are checked: the whole text of what can come out
 pub record Lists (program : Program) (found : Found) : Type 0 where
@@ -101,6 +213,8 @@ lists_once program found other a b = a.is ∙ ap (λ text. Ok (whole text)) (sam
 pub checked : (bytes : List ℕ) (found : Found) → FindsTypes (Some bytes) found → Goes bytes Lists found
 checked bytes (Err (TooLarge Source)) f = Goes.large f
 checked bytes (Err (TooLarge InputFile)) f = absurd f
+checked bytes (Err (TooLarge TraceFile)) f = absurd f
+checked bytes (Err (Trace fault)) f = absurd f
 checked bytes (Err (SourceAt fault at)) f = wrong_goes bytes Lists (SourceAt fault at) f
 checked bytes (Err NoMain) f = wrong_goes bytes Lists NoMain f
 checked bytes (Err (TooDeep at)) f = wrong_goes bytes Lists (TooDeep at) f
@@ -136,6 +250,8 @@ texts_once bytes found other (Texts.text r w f d) (Texts.text s v g e) = d ∙ a
 texts : (bytes : List ℕ) (found : Found) → FindsText (Some bytes) found → Texts bytes found
 texts bytes (Err (TooLarge Source)) f = Texts.large f
 texts bytes (Err (TooLarge InputFile)) f = absurd f
+texts bytes (Err (TooLarge TraceFile)) f = absurd f
+texts bytes (Err (Trace fault)) f = absurd f
 texts bytes (Err (SourceAt fault at)) f = Texts.text (Err (SourceAt fault at)) f.0 f.1 refl
 texts bytes (Err NoMain) f = absurd f
 texts bytes (Err (TooDeep at)) f = Texts.text (Err (TooDeep at)) f.0 f.1 refl
@@ -194,6 +310,7 @@ sampled number count (Err (Line (wrong.BadLine n))) f = absurd f.2
 sampled number count (Err (Line (wrong.Twice n kind name))) f = absurd f.2
 sampled number count (Err (Line (wrong.Untyped n))) f = program_goes source_text (Samples number count) (Err (Line (wrong.Untyped n))) f.0 f.1 (Samples.untyped n f.2)
 sampled number count (Err (Line (wrong.TooMany n))) f = absurd f.2
+sampled number count (Err (Trace fault)) f = absurd f
 sampled number count (Ok p) (program, accepted, prints) =
     let fields : p ≡ tallied program number count = λ i. record { bytes = prints.bytes_are i; ending = prints.ending_is i } in
     let tallies : Samples number count program (Ok (tallied program number count)) = Samples.tallies prints.typed in
@@ -213,6 +330,9 @@ command_once (Once source input fuel depth) file found other told f g =
     finds_once (limits_of fuel depth) told.0.bytes told.1.bytes (file source).told (file input).told found other told.0.are told.1.are f g
 command_once (Check source) file found other told f g = finds_types_once told.bytes (file source).told found other told.are f g
 command_once (Print source) file found other told f g = finds_text_once told.bytes (file source).told found other told.are f g
+command_once (ATrace source input workers fuel depth queue) file found other told f g = absurd told
+command_once (Replay source input trace fuel depth) file found other told f g =
+    finds_replay_once (limits_of fuel depth) told.0.bytes told.1.bytes told.2.bytes (file source).told (file input).told (file trace).told found other told.0.are told.1.are told.2.are f g
 command_once (Sample number count) file found other told f g = finds_sample_once number count found other f g
 
 -- and so there is one status

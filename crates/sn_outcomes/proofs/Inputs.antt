@@ -16,7 +16,7 @@ use Rattle.sn_load.specs.Load.{HasWrongLine, IsTypedFile, WhyNoRecords, is_of_ty
 use Rattle.sn_stop.specs.declared.refusal.LineFault.{LineFault}
 use Rattle.sn_stop.specs.declared.refusal.LineFault.TheVariants as line
 use Rattle.sn_stop.specs.declared.refusal.Refusal.{Refusal}
-use Rattle.sn_stop.specs.declared.refusal.Refusal.TheVariants.{TooLarge, Source, NoMain, TooDeep, LargeTree, TooManyNames, IllTyped, Variants, Line}
+use Rattle.sn_stop.specs.declared.refusal.Refusal.TheVariants.{TooLarge, Source, NoMain, TooDeep, LargeTree, TooManyNames, IllTyped, Variants, Line, Trace}
 
 -- the refusal of a record file; want of memory is none
 abbrev file_refusal : InputFault → Refusal
@@ -86,6 +86,7 @@ module _ (names : List (List ℕ)) (claim : Claim) (bytes : List ℕ) where
   refusal_comes (IllTyped fault at variant) f = absurd f
   refusal_comes (Variants at) f = absurd f
   refusal_comes (Line fault) f = line_comes fault f
+  refusal_comes (Trace fault) f = absurd f
 
   pub typed_comes : (input : Input) → IsTypedFile names claim bytes input → Comes names claim bytes (Ok input)
   typed_comes input t = record { read = Ok input; is_read = t.read; is = sym (answer_ok claim input None (none_untyped claim input t.typed)) }

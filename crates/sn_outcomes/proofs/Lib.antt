@@ -16,6 +16,7 @@ pub mod SortedTexts
 pub mod Flows
 pub mod Judging
 pub mod Runs
+pub mod Traced
 pub mod Commands
 pub mod SourceAlone
 pub mod Done

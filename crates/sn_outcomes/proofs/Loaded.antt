@@ -9,7 +9,7 @@ use Rattle.sn_label_scope.specs.declared.fault.ScopeFault.TheVariants as scope
 use Rattle.sn_load.specs.Scope.{IsProgram, WhyNoProgram}
 use Rattle.sn_load.specs.declared.load.Program.{Program}
 use Rattle.sn_stop.specs.declared.refusal.Refusal.{Refusal}
-use Rattle.sn_stop.specs.declared.refusal.Refusal.TheVariants.{TooLarge, Source as SourceAt, NoMain, TooDeep, LargeTree, TooManyNames, IllTyped, Variants, Line}
+use Rattle.sn_stop.specs.declared.refusal.Refusal.TheVariants.{TooLarge, Source as SourceAt, NoMain, TooDeep, LargeTree, TooManyNames, IllTyped, Variants, Line, Trace}
 
 -- what the bytes are found to be: refused before types are asked, or what the check of their claims finds
 pub data IsFound (bytes : List ℕ) : Result Program Refusal → Type 0 where
@@ -41,6 +41,7 @@ refused_found bytes TooManyNames w = IsFound.front TooManyNames (unresolved_part
 refused_found bytes (IllTyped fault at variant) w = IsFound.types w.parts (resolved_parts bytes w.parts w.resolved) (types_judged w.parts fault at variant w.so)
 refused_found bytes (Variants at) w = IsFound.types w.parts (resolved_parts bytes w.parts w.resolved) (variants_judged w.parts at w.so)
 refused_found bytes (Line fault) w = absurd w
+refused_found bytes (Trace fault) w = absurd w
 
 pub same_program : (bytes : List ℕ) (program other : Program) → IsProgram bytes program → IsProgram bytes other → program ≡ other
 same_program bytes program other p q =

@@ -8,8 +8,8 @@ use Rattle.sn_load.specs.Load.{Limits}
 use Rattle.sn_plain.specs.Runs.{Manner}
 use Rattle.sn_load.specs.declared.load.Program.{Program}
 use Rattle.sn_stop.specs.declared.refusal.Refusal.{Refusal}
-use Rattle.sn_stop.specs.declared.refusal.Refusal.TheVariants.{TooLarge, Source as SourceAt, NoMain, TooDeep, LargeTree, TooManyNames, IllTyped, Variants, Line}
-use Rattle.sn_stop.specs.declared.refusal.Which.TheVariants.{Source, Input}
+use Rattle.sn_stop.specs.declared.refusal.Refusal.TheVariants.{TooLarge, Source as SourceAt, NoMain, TooDeep, LargeTree, TooManyNames, IllTyped, Variants, Line, Trace}
+use Rattle.sn_stop.specs.declared.refusal.Which.TheVariants.{Source, Input, Trace as TraceFile}
 
 -- of a program anything may be found, or nothing
 abbrev Anything : Program → Found → Type 0
@@ -22,6 +22,8 @@ Nothing program found = ⊥
 judged : (shows : Manner) (limits : Limits) (bytes : List ℕ) (input : Option (List ℕ)) (found : Found) → Finds shows limits (Some bytes) input found → Goes bytes Anything found
 judged shows limits bytes input (Err (TooLarge Source)) f = Goes.large f
 judged shows limits bytes input (Err (TooLarge Input)) f = program_goes bytes Anything (Err (TooLarge Input)) f.0 f.1 tt
+judged shows limits bytes input (Err (TooLarge TraceFile)) f = absurd f
+judged shows limits bytes input (Err (Trace fault)) f = absurd f
 judged shows limits bytes input (Err (SourceAt fault at)) f = wrong_goes bytes Anything (SourceAt fault at) f
 judged shows limits bytes input (Err NoMain) f = wrong_goes bytes Anything NoMain f
 judged shows limits bytes input (Err (TooDeep at)) f = wrong_goes bytes Anything (TooDeep at) f
@@ -37,6 +39,8 @@ judged shows limits bytes input (Ok p) f = program_goes bytes Anything (Ok p) f.
 refusal_of : (shows : Manner) (limits : Limits) (bytes : List ℕ) (input : Option (List ℕ)) (refusal : Refusal) → IsOfSource refusal → Finds shows limits (Some bytes) input (Err refusal) → Goes bytes Nothing (Err refusal)
 refusal_of shows limits bytes input (TooLarge Source) o f = Goes.large f
 refusal_of shows limits bytes input (TooLarge Input) o f = absurd o
+refusal_of shows limits bytes input (TooLarge TraceFile) o f = absurd o
+refusal_of shows limits bytes input (Trace fault) o f = absurd o
 refusal_of shows limits bytes input (SourceAt fault at) o f = wrong_goes bytes Nothing (SourceAt fault at) f
 refusal_of shows limits bytes input NoMain o f = wrong_goes bytes Nothing NoMain f
 refusal_of shows limits bytes input (TooDeep at) o f = wrong_goes bytes Nothing (TooDeep at) f

@@ -13,7 +13,7 @@ use Rattle.sn_ast.specs.declared.fault.ParseFault.TheVariants as parse
 use Rattle.sn_print.specs.Declarations.{program_text}
 use Rattle.sn_load.specs.Source.{IsSource, IsRefused, IsWrong, FindsSource}
 use Rattle.sn_stop.specs.declared.refusal.Refusal.{Refusal}
-use Rattle.sn_stop.specs.declared.refusal.Refusal.TheVariants.{TooLarge, Source as SourceAt, NoMain, TooDeep, LargeTree, TooManyNames, IllTyped, Variants, Line}
+use Rattle.sn_stop.specs.declared.refusal.Refusal.TheVariants.{TooLarge, Source as SourceAt, NoMain, TooDeep, LargeTree, TooManyNames, IllTyped, Variants, Line, Trace}
 use Rattle.sn_stop.specs.declared.refusal.SourceFault.{SourceFault}
 use Rattle.sn_stop.specs.declared.refusal.SourceFault.TheVariants.{BadUtf8, BadChar, NumberTooWide, TextOpen, Unexpected, Unknown, Twice, Arity, GuardTag}
 
@@ -101,6 +101,7 @@ finds_text bytes (Err TooManyNames) f = absurd f
 finds_text bytes (Err (IllTyped fault at variant)) f = absurd f
 finds_text bytes (Err (Variants at)) f = absurd f
 finds_text bytes (Err (Line fault)) f = absurd f
+finds_text bytes (Err (Trace fault)) f = absurd f
 
 pub text_once : (bytes : List ℕ) (found other : Result (List ℕ) Refusal) → FindsSource bytes found → FindsSource bytes other → found ≡ other
 text_once bytes found other f g =

@@ -3,7 +3,7 @@
 //! Each layer is said by a relation between what is read and what comes of it. These laws say that such a relation holds of
 //! one outcome alone, so that "this is found where this is so" can be read as "and nothing else is". The last law says when
 //! that outcome is no refusal.
-ghost use Rattle.std.specs.Prelude.{◌≡◌, ◌≢◌, ◌≤◌, ℕ, List, length, Option, Some, Result, Err};
+ghost use Rattle.std.specs.Prelude.{◌≡◌, ◌≢◌, ◌≤◌, ℕ, List, length, Option, Some, Result, Ok, Err};
 ghost use Rattle.sn_ast.specs.declared.declaration.Decl.{Decl as SomeDecl};
 ghost use Rattle.sn_ast.specs.declared.declaration.Program.{Program as SomeTree};
 ghost use Rattle.sn_ast.specs.declared.measure.Measured.{Measured as SomeMeasured};
@@ -17,7 +17,7 @@ ghost use Rattle.sn_lexer.specs.declared.token.LexFault.TheVariants as lex_fault
 ghost use Rattle.sn_lexer.specs.declared.token.Token.{Token as SomeToken};
 ghost use Rattle.sn_net.specs.declared.net.Claim.{Claim as SomeClaim};
 ghost use Rattle.sn_net.specs.Item.{ModelItem};
-ghost use Rattle.sn_outcomes.specs.Told.{AreTold, IsOfSource, MergesInOrder};
+ghost use Rattle.sn_outcomes.specs.Told.{AreTold, IsOfSource, IsTold, MergesInOrder};
 ghost use Rattle.sn_output.specs.Printed.{ending};
 ghost use Rattle.sn_parser.specs.Answer.{Faults, IsFault as IsParseFault, IsProgram as IsTree, Spell, Spells};
 ghost use Rattle.sn_ast.specs.declared.fault.ParseFault.{ParseFault as SomeParseFault};
@@ -29,6 +29,10 @@ ghost use Rattle.sn_load.specs.Load.{IsTypedFile, Limits, WhyNoRecords, limits_o
 ghost use Rattle.sn_plain.specs.Sample.{AreTypedSamples, answers_to};
 ghost use Rattle.sn_load.specs.Scope.{IsProgram, WhyNoProgram};
 ghost use Rattle.sn_plain.specs.Seen.{File};
+ghost use Rattle.sn_plain.specs.Traces.{IsRunOver};
+ghost use Rattle.sn_plain.specs.declared.replaying.TheConstants.{TRACE_LIMIT};
+ghost use Rattle.sn_model.specs.declared.run.Run.{Run as SomeRun};
+ghost use Rattle.sn_replay.specs.Replays.{Replays};
 ghost use Rattle.sn_load.specs.Source.{FindsSource, HasText, IsSource};
 ghost use Rattle.sn_load.specs.declared.load.Program.{Program as SomeProgram};
 ghost use Rattle.sn_load.specs.declared.load.TheConstants.{INPUT_LIMIT, SOURCE_LIMIT};
@@ -36,7 +40,7 @@ ghost use Rattle.sn_stop.specs.declared.refusal.Refusal.{Refusal as SomeRefusal}
 ghost use Rattle.sn_stop.specs.declared.status.Status.{Status as SomeStatus};
 ghost use Rattle.sn_stop.specs.declared.status.Status.TheVariants as status;
 ghost use Rattle.sn_words.specs.declared.command.Command.{Command as SomeCommand};
-ghost use Rattle.sn_words.specs.declared.command.Command.TheVariants.{Check, Once, Print, Run, Sample};
+ghost use Rattle.sn_words.specs.declared.command.Command.TheVariants.{Check, Once, Print, Replay, Run, Sample, Trace as ATrace};
 
 /// The bytes of a source give one list of tokens, or one refusal at one place, and never both. Want of memory is said of
 /// any source, and so it is left out, here and below.
@@ -125,11 +129,20 @@ pub fn runs_in_order_are_as_on_one_thread()
         → FindsFor (Run source input workers fuel depth queue) file found → FindsFor (Once source input fuel depth) file found }
 {}
 
+/// What a run with workers writes of itself is replayed, and ends as the run did; and what comes out by any replay a run may print: records of a
+/// stream that the merges allow, up to its first fault.
+pub fn traces_are_of_runs()
+    ensures again { (file : List ℕ → File) (source input trace : List ℕ) (workers fuel depth queue : ℕ) (p : Printout) (found : Result Printout SomeRefusal) → IsTold (file source)
+        → IsTold (file input) → (file trace).told ≡ Some p.bytes → length p.bytes ≤ TRACE_LIMIT → FindsFor (ATrace source input workers fuel depth queue) file (Ok p)
+        → FindsFor (Replay source input trace fuel depth) file found → (q : Printout) × (found ≡ Ok q) × (q.ending ≡ p.ending) }
+    ensures printed { (file : List ℕ → File) (source input trace : List ℕ) (workers fuel depth queue : ℕ) (p : Printout) → IsTold (file trace)
+        → FindsFor (Replay source input trace fuel depth) file (Ok p) → FindsFor (Run source input workers fuel depth queue) file (Ok p) }
+{}
+
 /// An accepted source and a record file of its input type are enough: where their bytes are told, no answer of a command is a
-/// refusal. A run ends as its stream does, whole or at a fault, with workers as one of the streams that may come out; and so does one over
-/// stated records, where these find room for their
-/// names and are of the input type; a check ends well, and so does a printing, which needs only
-/// that the source has a text.
+/// refusal. A run ends as its stream does, whole or at a fault, with workers as one of the streams that may come out, and so does one that is
+/// traced; the replay of a trace ends as what comes out by it; a run over stated records ends as its stream does, where these find room for their
+/// names and are of the input type; a check ends well, and so does a printing, which needs only that the source has a text.
 pub fn accepted_commands_are_done()
     ensures once { (outside : Outside) (source input : List ℕ) (fuel depth : ℕ) (bytes more : List ℕ) (program : SomeProgram) (records : SomeInput) (left : SomeStatus)
         → (outside.file source).told ≡ Some bytes → (outside.file input).told ≡ Some more → IsAccepted bytes program
@@ -140,6 +153,16 @@ pub fn accepted_commands_are_done()
         → IsTypedFile program.names program.claim more records → length more ≤ INPUT_LIMIT
         → IsAnswered (Run source input workers fuel depth queue) outside left
         → ∥ ((stream : List ModelItem) × ComesOut (setting program (limits_of fuel depth)) program.claim.net records.records stream × (left ≡ ending_status (ending stream))) ∥₁ }
+    ensures trace { (outside : Outside) (source input : List ℕ) (workers fuel depth queue : ℕ) (bytes more : List ℕ) (program : SomeProgram) (records : SomeInput) (left : SomeStatus)
+        → (outside.file source).told ≡ Some bytes → (outside.file input).told ≡ Some more → IsAccepted bytes program
+        → IsTypedFile program.names program.claim more records → length more ≤ INPUT_LIMIT
+        → IsAnswered (ATrace source input workers fuel depth queue) outside left
+        → ∥ ((stream : List ModelItem) × ComesOut (setting program (limits_of fuel depth)) program.claim.net records.records stream × (left ≡ ending_status (ending stream))) ∥₁ }
+    ensures replay { (outside : Outside) (source input trace : List ℕ) (fuel depth : ℕ) (bytes more text : List ℕ) (program : SomeProgram) (records : SomeInput) (run : SomeRun) (items : List ModelItem) (left : SomeStatus)
+        → (outside.file source).told ≡ Some bytes → (outside.file input).told ≡ Some more → (outside.file trace).told ≡ Some text → IsAccepted bytes program
+        → IsTypedFile program.names program.claim more records → length more ≤ INPUT_LIMIT → length text ≤ TRACE_LIMIT
+        → IsRunOver (setting program (limits_of fuel depth)) program.claim.net records.records run → Replays run text items
+        → IsAnswered (Replay source input trace fuel depth) outside left → left ≡ ending_status (ending items) }
     ensures check { (outside : Outside) (source bytes : List ℕ) (program : SomeProgram) (left : SomeStatus) → (outside.file source).told ≡ Some bytes
         → IsAccepted bytes program → IsAnswered (Check source) outside left → left ≡ status.Ok }
     ensures print { (outside : Outside) (source bytes text : List ℕ) (left : SomeStatus) → (outside.file source).told ≡ Some bytes → length bytes ≤ SOURCE_LIMIT

@@ -3,8 +3,8 @@ use Rattle.std.proofs.Common.{◌≡◌, ℕ, List, None, refl, inl}
 use Rattle.std.specs.Prelude.{Ok, IfSome}
 use Rattle.sn_io.specs.Told.{AppendsPrefix}
 use Rattle.sn_load.specs.declared.load.Program.{Program}
-use Rattle.sn_stop.specs.declared.refusal.Which.TheVariants.{Source, Input}
-use Rattle.sn_stop.specs.declared.refusal.Refusal.TheVariants.{TooLarge, Source as SourceAt, NoMain, TooDeep, LargeTree, TooManyNames, IllTyped, Variants, Line}
+use Rattle.sn_stop.specs.declared.refusal.Which.TheVariants.{Source, Input, Trace as TraceFile}
+use Rattle.sn_stop.specs.declared.refusal.Refusal.TheVariants.{TooLarge, Source as SourceAt, NoMain, TooDeep, LargeTree, TooManyNames, IllTyped, Variants, Line, Trace}
 use Rattle.sn_stop.specs.declared.refusal.Refusal.{Refusal}
 use Rattle.sn_stop.specs.declared.stop.Stop.{Stop}
 use Rattle.sn_stop.specs.declared.stop.Stop.TheVariants.{Refused, Faulted, Unread, Memory, Write}
@@ -21,6 +21,7 @@ module _ (source : File) (out : Sink) where
   pub types_unread : out.now ≡ out.before → (why : Stop) → WhyUnread Source SOURCE_LIMIT source why → WhyUnchecked source out why
   types_unread same (Refused (TooLarge Source)) why = (why.1, same)
   types_unread same (Refused (TooLarge Input)) why = cc
+  types_unread same (Refused (TooLarge TraceFile)) why = cc
   types_unread same (Refused (SourceAt fault at)) why = absurd why
   types_unread same (Refused NoMain) why = absurd why
   types_unread same (Refused (TooDeep at)) why = absurd why
@@ -29,9 +30,11 @@ module _ (source : File) (out : Sink) where
   types_unread same (Refused (IllTyped fault at variant)) why = absurd why
   types_unread same (Refused (Variants at)) why = absurd why
   types_unread same (Refused (Line fault)) why = absurd why
+  types_unread same (Refused (Trace fault)) why = absurd why
   types_unread same (Faulted fault) why = absurd why
   types_unread same (Unread Source) why = (why.1, same)
   types_unread same (Unread Input) why = cc
+  types_unread same (Unread TraceFile) why = cc
   types_unread same Memory why = inl same
   types_unread same Write why = absurd why
 
@@ -49,6 +52,7 @@ module _ (source : File) (out : Sink) where
     not_checked same (Refused (IllTyped fault at variant)) why = (refused (IllTyped fault at variant) why, same)
     not_checked same (Refused (Variants at)) why = (refused (Variants at) why, same)
     not_checked same (Refused (Line fault)) why = absurd why
+    not_checked same (Refused (Trace fault)) why = absurd why
     not_checked same (Faulted fault) why = absurd why
     not_checked same (Unread which) why = absurd why
     not_checked same Memory why = inl same

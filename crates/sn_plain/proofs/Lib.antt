@@ -1,5 +1,6 @@
 pub mod Printing
 pub mod Serving
+pub mod Replayed
 pub mod Served
 pub mod Printed
 pub mod Told

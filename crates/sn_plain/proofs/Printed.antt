@@ -3,9 +3,9 @@ use Rattle.std.proofs.Common.{◌≡◌, ℕ, ◌≤◌, List, length, None, ref
 use Rattle.std.specs.Prelude.{Ok, Err, Result}
 use Rattle.sn_io.specs.Told.{AppendsPrefix}
 use Rattle.sn_load.specs.declared.load.TheConstants.{SOURCE_LIMIT}
-use Rattle.sn_stop.specs.declared.refusal.Which.TheVariants.{Source, Input}
+use Rattle.sn_stop.specs.declared.refusal.Which.TheVariants.{Source, Input, Trace as TraceFile}
 use Rattle.sn_stop.specs.declared.refusal.Refusal.{Refusal}
-use Rattle.sn_stop.specs.declared.refusal.Refusal.TheVariants.{TooLarge, Source as SourceAt, NoMain, TooDeep, LargeTree, TooManyNames, IllTyped, Variants, Line}
+use Rattle.sn_stop.specs.declared.refusal.Refusal.TheVariants.{TooLarge, Source as SourceAt, NoMain, TooDeep, LargeTree, TooManyNames, IllTyped, Variants, Line, Trace}
 use Rattle.sn_stop.specs.declared.stop.Stop.{Stop}
 use Rattle.sn_stop.specs.declared.stop.Stop.TheVariants.{Refused, Faulted, Unread, Memory, Write}
 use Rattle.sn_plain.specs.Answer.{FindsText, WhyUnprinted}
@@ -18,17 +18,20 @@ module _ (source : File) (out : Sink) where
   pub text_unread : out.now ≡ out.before → (why : Stop) → WhyUnread Source SOURCE_LIMIT source why → WhyUnprinted source out why
   text_unread same (Refused (TooLarge Source)) why = (why.1, same)
   text_unread same (Refused (TooLarge Input)) why = cc
+  text_unread same (Refused (TooLarge TraceFile)) why = cc
   text_unread same (Refused (SourceAt fault at)) why = absurd why
   text_unread same (Refused (TooDeep at)) why = absurd why
   text_unread same (Refused NoMain) why = absurd why
   text_unread same (Refused (LargeTree at)) why = absurd why
   text_unread same (Refused TooManyNames) why = absurd why
   text_unread same (Refused (Line fault)) why = absurd why
+  text_unread same (Refused (Trace fault)) why = absurd why
   text_unread same (Refused (IllTyped fault at variant)) why = absurd why
   text_unread same (Refused (Variants at)) why = absurd why
   text_unread same (Faulted fault) why = absurd why
   text_unread same (Unread Source) why = (why.1, same)
   text_unread same (Unread Input) why = cc
+  text_unread same (Unread TraceFile) why = cc
   text_unread same Memory why = inl same
   text_unread same Write why = absurd why
 
@@ -44,6 +47,7 @@ module _ (source : File) (out : Sink) where
     no_text same (Refused (LargeTree at)) why = absurd why
     no_text same (Refused TooManyNames) why = absurd why
     no_text same (Refused (Line fault)) why = absurd why
+    no_text same (Refused (Trace fault)) why = absurd why
     no_text same (Refused (IllTyped fault at variant)) why = absurd why
     no_text same (Refused (Variants at)) why = absurd why
     no_text same (Faulted fault) why = absurd why

@@ -1,5 +1,5 @@
 -- What a run prints, record by record.
-use Rattle.std.proofs.Common.{◌≡◌, ℕ, true, List, [], ◌∷◌, ◌++◌, map, refl, sym, ap, ◌∙◌, subst, subst₂, append-nil, append_assoc}
+use Rattle.std.proofs.Common.{◌≡◌, ℕ, true, List, [], ◌∷◌, ◌++◌, map, refl, sym, ap, ◌∙◌, subst, subst₂, append-nil, append_assoc, inr}
 use Rattle.std.specs.Prelude.{Option, None, Some, is_some, Result, Ok, Err, IfOk, IfErr, OnOk}
 use Rattle.std.specs.List.{All}
 use Rattle.std.proofs.lemmas.List.{map-append}
@@ -160,5 +160,5 @@ module _ (run : Run) (limits : Limits) (ready : Ready) (net : net_of run ≡ rea
     not_finished (Err (Refused refusal)) why = absurd why
     not_finished (Err (Faulted fault)) why = absurd why
     not_finished (Err (Unread which)) why = absurd why
-    not_finished (Err Memory) why = has_begun why
+    not_finished (Err Memory) why = inr (has_begun why)
     not_finished (Err Write) why = (why.0, has_begun why.1)

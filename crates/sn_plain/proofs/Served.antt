@@ -6,15 +6,15 @@ use Rattle.sn_io.proofs.Told.{appended_none}
 use Rattle.sn_words.specs.declared.command.Command.{Command}
 use Rattle.sn_stop.specs.declared.status.Status.{Status}
 use Rattle.sn_stop.specs.declared.status.Status.TheVariants as status
-use Rattle.sn_stop.specs.declared.refusal.Refusal.TheVariants.{TooLarge, Source as SourceAt, NoMain, TooDeep, LargeTree, TooManyNames, IllTyped, Variants, Line}
+use Rattle.sn_stop.specs.declared.refusal.Refusal.TheVariants.{TooLarge, Source as SourceAt, NoMain, TooDeep, LargeTree, TooManyNames, IllTyped, Variants, Line, Trace}
 use Rattle.sn_stop.specs.declared.stop.Stop.{Stop}
 use Rattle.sn_stop.specs.declared.stop.Stop.TheVariants.{Refused, Faulted, Unread, Memory, Write}
 use Rattle.sn_stop.specs.declared.refusal.LineFault.TheVariants as wrong
 use Rattle.sn_stop.specs.Status.{stop_status, stop_line}
-use Rattle.sn_words.specs.Command.{source_of, input_of}
-use Rattle.sn_plain.specs.Runs.{ended, whole}
+use Rattle.sn_words.specs.Command.{source_of, input_of, trace_of}
+use Rattle.sn_plain.specs.Runs.{GotPart, ended, whole}
 use Rattle.sn_plain.specs.Seen.{GotLine}
-use Rattle.sn_plain.specs.Answer.{GotEnd, Outside, end_status, FindsFor, WhyEnded, IsAnswered, HasUnread, IsCutShort, IsUnwritten, IsAnsweredFor, OfCommand, IsCutShortFor, GotPart}
+use Rattle.sn_plain.specs.Answer.{BeginsFor, GotEnd, Outside, end_status, FindsFor, WhyEnded, IsAnswered, HasUnread, IsCutShort, IsUnwritten, IsAnsweredFor, OfCommand, IsCutShortFor}
 
 module _ (command : Command) (outside : Outside) where
   -- the whole output was printed, and nothing was said on `err`
@@ -25,7 +25,7 @@ module _ (command : Command) (outside : Outside) where
   Stopped why = WhyEnded command outside.file outside.out why
 
   abbrev Told : Stop → Type 0
-  Told why = GotLine outside.err (stop_line why (source_of command) (input_of command))
+  Told why = GotLine outside.err (stop_line why (source_of command) (input_of command) (trace_of command))
 
   answered : (why : Stop) → Stopped why → Told why → stop_status why ≢ status.Read → stop_status why ≢ status.Memory → stop_status why ≢ status.Write → IsAnswered command outside (stop_status why)
   answered (Refused refusal) stopped line not_read not_memory not_write = record { found = Err refusal; finds = stopped.0; status_is = refl; out_got = stopped.1 ∙ sym (appended_none outside.out.before); err_got = line }
@@ -45,6 +45,7 @@ module _ (command : Command) (outside : Outside) where
   unread (Refused (Line (wrong.Untyped n))) stopped told is = cc
   unread (Refused (Line (wrong.Twice n kind name))) stopped told is = cc
   unread (Refused (Line (wrong.TooMany n))) stopped told is = cc
+  unread (Refused (Trace fault)) stopped told is = cc
   unread (Refused (IllTyped fault at variant)) stopped line is = cc
   unread (Refused (Variants at)) stopped line is = cc
   unread (Faulted fault) stopped line is = cc
@@ -63,6 +64,7 @@ module _ (command : Command) (outside : Outside) where
   cut_short (Refused (Line (wrong.Untyped n))) stopped told is = cc
   cut_short (Refused (Line (wrong.Twice n kind name))) stopped told is = cc
   cut_short (Refused (Line (wrong.TooMany n))) stopped told is = cc
+  cut_short (Refused (Trace fault)) stopped told is = cc
   cut_short (Refused (IllTyped fault at variant)) stopped line is = cc
   cut_short (Refused (Variants at)) stopped line is = cc
   cut_short (Faulted fault) stopped line is = cc
@@ -81,6 +83,7 @@ module _ (command : Command) (outside : Outside) where
   unwritten (Refused (Line (wrong.Untyped n))) stopped told is = cc
   unwritten (Refused (Line (wrong.Twice n kind name))) stopped told is = cc
   unwritten (Refused (Line (wrong.TooMany n))) stopped told is = cc
+  unwritten (Refused (Trace fault)) stopped told is = cc
   unwritten (Refused (IllTyped fault at variant)) stopped line is = cc
   unwritten (Refused (Variants at)) stopped line is = cc
   unwritten (Faulted fault) stopped line is = cc
@@ -133,7 +136,7 @@ module _ (command : Option Command) (found : Command) (is : command ≡ Some fou
   cut_short_for cut = record { out_got = part cut.out_got; err_got = cut.err_got }
     where
       Part : Command → Outside → Type 0
-      Part c o = GotPart (FindsFor c o.file) o.out
+      Part c o = GotPart (BeginsFor c o.file) o.out
 
       part : Part found outside → (outside.out.now ≡ outside.out.before) ⊎ OfCommand Part command outside
       part h = inr (of_command Part h)

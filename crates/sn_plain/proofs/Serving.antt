@@ -10,8 +10,8 @@ use Rattle.sn_net.specs.declared.net.Net.{Net}
 use Rattle.sn_record.specs.Record.{Entries}
 use mathlib.Core.Logic.{∥∥₁_map}
 use Rattle.sn_load.specs.declared.load.Program.{Program}
-use Rattle.sn_stop.specs.declared.refusal.Which.TheVariants.{Source, Input}
-use Rattle.sn_stop.specs.declared.refusal.Refusal.TheVariants.{TooLarge, Source as SourceAt, NoMain, TooDeep, LargeTree, TooManyNames, IllTyped, Variants, Line}
+use Rattle.sn_stop.specs.declared.refusal.Which.TheVariants.{Source, Input, Trace as TraceFile}
+use Rattle.sn_stop.specs.declared.refusal.Refusal.TheVariants.{TooLarge, Source as SourceAt, NoMain, TooDeep, LargeTree, TooManyNames, IllTyped, Variants, Line, Trace}
 use Rattle.sn_stop.specs.declared.refusal.Refusal.{Refusal}
 use Rattle.sn_stop.specs.declared.stop.Stop.{Stop}
 use Rattle.sn_stop.specs.declared.stop.Stop.TheVariants.{Refused, Faulted, Unread, Memory, Write}
@@ -23,7 +23,7 @@ use Rattle.sn_plain.specs.Ready.{IsReady, WhyNotReady, setting_at}
 use Rattle.sn_plain.specs.Runs.{HasBegun, HasPrinted, Manner, Printout, Prints, WhyUnfinished, ended}
 use Rattle.sn_plain.specs.declared.ready.Ready.{Ready}
 use Rattle.sn_load.specs.Scope.{WhyUnloaded, WhyNoProgram}
-use Rattle.sn_plain.specs.Answer.{IsAccepted, IsRefusedInput, IsRefusedSource, Finds, WhyStopped}
+use Rattle.sn_plain.specs.Answer.{IsAccepted, IsRefusedInput, IsRefusedSource, Finds, OfTyped, WhyStopped}
 
 -- what holds of the bytes that were read holds of those that are told
 pub of_told : (told : Option (List ℕ)) (bytes : List ℕ) (P : List ℕ → Type 0) → IfSome told (λ t. bytes ≡ t) → P bytes → IfSome told P
@@ -42,17 +42,20 @@ module _ (source input : File) where
   pub source_unread : (why : Stop) → WhyUnread Source SOURCE_LIMIT source why → WhyNotReady source input why
   source_unread (Refused (TooLarge Source)) why = why.1
   source_unread (Refused (TooLarge Input)) why = cc
+  source_unread (Refused (TooLarge TraceFile)) why = cc
   source_unread (Refused (SourceAt fault at)) why = absurd why
   source_unread (Refused NoMain) why = absurd why
   source_unread (Refused (TooDeep at)) why = absurd why
   source_unread (Refused (LargeTree at)) why = absurd why
   source_unread (Refused TooManyNames) why = absurd why
   source_unread (Refused (Line fault)) why = absurd why
+  source_unread (Refused (Trace fault)) why = absurd why
   source_unread (Refused (IllTyped fault at variant)) why = absurd why
   source_unread (Refused (Variants at)) why = absurd why
   source_unread (Faulted fault) why = absurd why
   source_unread (Unread Source) why = why.1
   source_unread (Unread Input) why = cc
+  source_unread (Unread TraceFile) why = cc
   source_unread Memory why = tt
   source_unread Write why = absurd why
 
@@ -71,6 +74,7 @@ module _ (source input : File) where
     not_loaded (Refused (LargeTree at)) why = refused_source (LargeTree at) why
     not_loaded (Refused TooManyNames) why = of_source (λ t. IsRefusedSource TooManyNames t ⊎ IsRefusedInput input.told HasManyNames t) (inl (read.within, why))
     not_loaded (Refused (Line fault)) why = absurd why
+    not_loaded (Refused (Trace fault)) why = absurd why
     not_loaded (Faulted fault) why = absurd why
     not_loaded (Refused (IllTyped fault at variant)) why = refused_source (IllTyped fault at variant) why
     not_loaded (Refused (Variants at)) why = refused_source (Variants at) why
@@ -83,6 +87,7 @@ module _ (source input : File) where
       pub input_unread : (between : File) → between.told ≡ input.told → input.faults_before ≤ between.faults_before → between.faults_now ≡ input.faults_now
           → (why : Stop) → WhyUnread Input INPUT_LIMIT between why → WhyNotReady source input why
       input_unread between told later now (Refused (TooLarge Source)) why = cc
+      input_unread between told later now (Refused (TooLarge TraceFile)) why = cc
       input_unread between told later now (Refused (TooLarge Input)) why =
           of_source (λ t. (p : Program) × IsAccepted t p × IfSome input.told (λ more. INPUT_LIMIT < length more))
           (program, accepted bytes program is read.within, subst (λ t. IfSome t (λ more. INPUT_LIMIT < length more)) told why.1)
@@ -92,10 +97,12 @@ module _ (source input : File) where
       input_unread between told later now (Refused (LargeTree at)) why = absurd why
       input_unread between told later now (Refused TooManyNames) why = absurd why
       input_unread between told later now (Refused (Line fault)) why = absurd why
+      input_unread between told later now (Refused (Trace fault)) why = absurd why
       input_unread between told later now (Refused (IllTyped fault at variant)) why = absurd why
       input_unread between told later now (Refused (Variants at)) why = absurd why
       input_unread between told later now (Faulted fault) why = absurd why
       input_unread between told later now (Unread Source) why = cc
+      input_unread between told later now (Unread TraceFile) why = cc
       input_unread between told later now (Unread Input) why =
           let rose : Rose input.faults_before input.faults_now = omega (arith, why.1) in
           (rose, of_source (λ t. (p : Program) × IsAccepted t p) (program, accepted bytes program is read.within))
@@ -116,6 +123,7 @@ module _ (source input : File) where
         not_read (Refused TooManyNames) why = of_source (λ t. IsRefusedSource TooManyNames t ⊎ IsRefusedInput input.told HasManyNames t) (inr (refused_input HasManyNames why))
         not_read (Refused (IllTyped fault at variant)) why = absurd why
         not_read (Refused (Variants at)) why = absurd why
+        not_read (Refused (Trace fault)) why = absurd why
         not_read (Refused (Line fault)) why = of_source (IsRefusedInput input.told (HasWrongLine fault)) (refused_input (HasWrongLine fault) why)
         not_read (Faulted fault) why = absurd why
         not_read (Unread which) why = absurd why
@@ -139,27 +147,29 @@ if_told : {A : Type 0} (told : Option A) (P Q : A → Type 0) → ((a : A) → P
 if_told None P Q f p = tt
 if_told (Some a) P Q f p = f a p
 
--- a run on a source and an input, in one manner or another
-module _ (Shows : Manner) (limits : Limits) (source input : File) (out : Sink) where
-  -- nothing was printed where there is nothing to run
-  pub not_ready : out.now ≡ out.before → (why : Stop) → WhyNotReady source input why → WhyStopped Shows limits source input out why
-  not_ready same (Refused refusal) why = (why, same)
-  not_ready same (Faulted fault) why = absurd why
-  not_ready same (Unread which) why = (why, same)
-  not_ready same Memory why = inl same
-  not_ready same Write why = absurd why
+-- what holds of what is ready, where both files are told
+module _ (source input : File) (ready : Ready) (is : IsReady source.told input.told ready) where
+  pub of_typed : (P : Program → RecordFile → Type 0) → P is.program is.file → OfTyped source.told input.told P
+  of_typed P p =
+      if_told source.told (λ bytes. IsAccepted bytes is.program)
+      (λ bytes. (program : Program) × IsAccepted bytes program × IfSome input.told (λ more. (length more ≤ INPUT_LIMIT) × (file : RecordFile) × IsTypedFile program.names program.claim more file × P program file))
+      (λ bytes accepts. (
+        is.program,
+        accepts,
+        if_told input.told (λ more. (length more ≤ INPUT_LIMIT) × IsTypedFile is.program.names is.program.claim more is.file)
+            (λ more. (length more ≤ INPUT_LIMIT) × (file : RecordFile) × IsTypedFile is.program.names is.program.claim more file × P is.program file)
+            (λ more typed. (typed.0, is.file, typed.1, p)) is.typed,
+      ))
+      is.accepted
 
-  module _ (ready : Ready) (is : IsReady source.told input.told ready) where
-    abbrev Shown : Printout → Type 0
-    Shown = Shows (setting_at ready limits) ready.net ready.records ready.names
-
-    shown_of : (p : Printout) → Shown p → Shows (setting is.program limits) is.program.claim.net is.file.records is.file.names p
+  module _ (Shows : Manner) (limits : Limits) where
+    pub shown_of : (p : Printout) → Shows (setting_at ready limits) ready.net ready.records ready.names p → Shows (setting is.program limits) is.program.claim.net is.file.records is.file.names p
     shown_of p shown =
         subst (λ (at : List BoxProgram × Net × List Entries × List (List ℕ)). Shows (record { boxes = at.0; fuel = limits.fuel; depth = limits.depth }) at.1 at.2 at.3 p)
         (λ i. (is.boxes_are i, is.net_is i, is.records_are i, is.names_are i)) shown
 
     -- what is printed then is what is found of both
-    pub finds : (p : Printout) → Shown p → Finds Shows limits source.told input.told (Ok p)
+    pub finds : (p : Printout) → Shows (setting_at ready limits) ready.net ready.records ready.names p → Finds Shows limits source.told input.told (Ok p)
     finds p shown =
         if_told source.told (λ bytes. IsAccepted bytes is.program) (λ bytes. (program : Program) × IsAccepted bytes program × IfSome input.told (λ more. Prints Shows limits program more p))
         (λ bytes accepts. (
@@ -170,17 +180,36 @@ module _ (Shows : Manner) (limits : Limits) (source input : File) (out : Sink) w
         ))
         is.accepted
 
+-- a run on a source and an input, in one manner, cut off in the same or in another
+module _ (Shows Begins : Manner) (limits : Limits) (source input : File) (out : Sink) where
+  -- nothing was printed where there is nothing to run
+  pub not_ready : out.now ≡ out.before → (why : Stop) → WhyNotReady source input why → WhyStopped Shows Begins limits source input out why
+  not_ready same (Refused refusal) why = (why, same)
+  not_ready same (Faulted fault) why = absurd why
+  not_ready same (Unread which) why = (why, same)
+  not_ready same Memory why = inl same
+  not_ready same Write why = absurd why
+
+  module _ (ready : Ready) (is : IsReady source.told input.told ready) where
+    abbrev Shown : Printout → Type 0
+    Shown = Shows (setting_at ready limits) ready.net ready.records ready.names
+
+    abbrev Begun : Printout → Type 0
+    Begun = Begins (setting_at ready limits) ready.net ready.records ready.names
+
     -- all of it, by how it ends
     pub finds_printed : (fault end : Option Fault) → HasPrinted Shown out fault → fault ≡ end
         → (p : List ℕ) × Finds Shows limits source.told input.told (Ok (ended p end)) × (out.now ≡ appended out.before p)
-    finds_printed fault end printed is_end = (printed.0, finds (ended printed.0 end) (subst (λ f. Shown (ended printed.0 f)) is_end printed.1), printed.2)
+    finds_printed fault end printed is_end =
+        (printed.0, finds source input ready is Shows limits (ended printed.0 end) (subst (λ f. Shown (ended printed.0 f)) is_end printed.1), printed.2)
 
-    begun : HasBegun Shown out → HasBegun (λ p. Finds Shows limits source.told input.told (Ok p)) out
-    begun has = ∥∥₁_map has (λ some. (some.0, finds some.0 some.1, some.2))
+    begun : HasBegun Begun out → HasBegun (λ p. Finds Begins limits source.told input.told (Ok p)) out
+    begun has = ∥∥₁_map has (λ some. (some.0, finds source input ready is Begins limits some.0 some.1, some.2))
 
-    pub not_finished : (why : Stop) → WhyUnfinished Shown out why → WhyStopped Shows limits source input out why
+    pub not_finished : (why : Stop) → WhyUnfinished Begun out why → WhyStopped Shows Begins limits source input out why
     not_finished (Refused refusal) why = absurd why
     not_finished (Faulted fault) why = absurd why
     not_finished (Unread which) why = absurd why
-    not_finished Memory why = inr (begun why)
+    not_finished Memory (inl same) = inl same
+    not_finished Memory (inr has) = inr (begun has)
     not_finished Write why = (why.0, begun why.1)

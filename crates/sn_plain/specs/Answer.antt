@@ -1,26 +1,29 @@
 -- What a command may leave: its status, and what it appends to `out` and to `err`.
 use Rattle.std.specs.Prelude.{◌≡◌, ◌⊎◌, ◌≤◌, ◌<◌, ℕ, List, [], length, codes, Option, None, Some, Result, Ok, Err, IfSome, Bool, false, true}
 use Rattle.sn_io.specs.Told.{appended}
-use Rattle.sn_words.specs.Command.{usage_text, source_of, input_of}
+use Rattle.sn_words.specs.Command.{usage_text, source_of, input_of, trace_of}
 use Rattle.sn_words.specs.declared.command.Command.{Command}
-use Rattle.sn_words.specs.declared.command.Command.TheVariants.{Run, Once, Check, Print, Sample}
+use Rattle.sn_words.specs.declared.command.Command.TheVariants.{Run, Once, Check, Print, Trace, Replay, Sample}
 use Rattle.sn_stop.specs.declared.status.Status.{Status}
 use Rattle.sn_stop.specs.declared.status.Status.TheVariants as status
 use Rattle.sn_stop.specs.declared.refusal.Which.{Which}
-use Rattle.sn_stop.specs.declared.refusal.Which.TheVariants.{Source, Input}
+use Rattle.sn_stop.specs.declared.refusal.Which.TheVariants.{Source, Input, Trace as TraceFile}
 use Rattle.sn_stop.specs.declared.refusal.Refusal.{Refusal}
-use Rattle.sn_stop.specs.declared.refusal.Refusal.TheVariants.{TooLarge, Source as SourceAt, NoMain, TooDeep, LargeTree, TooManyNames, IllTyped, Variants, Line}
+use Rattle.sn_stop.specs.declared.refusal.Refusal.TheVariants.{TooLarge, Source as SourceAt, NoMain, TooDeep, LargeTree, TooManyNames, IllTyped, Variants, Line, Trace as TraceAt}
 use Rattle.sn_stop.specs.declared.stop.Stop.{Stop}
 use Rattle.sn_stop.specs.declared.stop.Stop.TheVariants as stop
 use Rattle.sn_load.specs.declared.load.TheConstants.{SOURCE_LIMIT, INPUT_LIMIT}
 use Rattle.sn_load.specs.Source.{FindsSource}
 use Rattle.sn_stop.specs.Status.{refusal_status, stop_line, stop_status}
-use Rattle.sn_plain.specs.Seen.{Sink, File, seen_sink, seen_file, SinkFailed, FileFailed, GotLine}
+use Rattle.sn_plain.specs.Seen.{Sink, File, seen_sink, seen_file, FileFailed, GotLine}
 use Rattle.sn_record.specs.declared.item.Fault.{Fault}
 use Rattle.sn_net.specs.declared.net.Claim.{Claim}
 use Rattle.sn_output.specs.Printed.{ending}
-use Rattle.sn_load.specs.Load.{Limits, limits_of, HasManyNames, HasWrongLine}
-use Rattle.sn_plain.specs.Runs.{Manner, Printout, Prints, OnOneThread, WithWorkers, HasBegun, ended}
+use Rattle.sn_input.specs.declared.input.Input.{Input as RecordFile}
+use Rattle.sn_load.specs.Load.{IsTypedFile, Limits, limits_of, setting, HasManyNames, HasWrongLine}
+use Rattle.sn_plain.specs.Runs.{Manner, Printout, Prints, OnOneThread, WithWorkers, GotPart, HasFailed, ended}
+use Rattle.sn_plain.specs.Traces.{BegunTrace, IsRefusedTrace, PlayedFrom, Traced}
+use Rattle.sn_plain.specs.declared.replaying.TheConstants.{TRACE_LIMIT}
 use Rattle.sn_load.specs.Flows.{HasFlows}
 use Rattle.sn_plain.specs.Sample.{AreTypedSamples, HasNoRoom, IsWrongSample, answers_to, names_with}
 use Rattle.sn_sample.specs.Source.{source_text}
@@ -54,16 +57,40 @@ IsRefused source input (Line fault) = IfSome source (IsRefusedInput input (HasWr
 IsRefused source input (IllTyped fault at variant) = IfSome source (IsRefusedSource (IllTyped fault at variant))
 IsRefused source input (Variants at) = IfSome source (IsRefusedSource (Variants at))
 IsRefused source input (TooLarge Input) = IfSome source (λ bytes. (program : Program) × IsAccepted bytes program × IfSome input (λ more. INPUT_LIMIT < length more))
+IsRefused source input (TooLarge TraceFile) = ⊥
+IsRefused source input (TraceAt fault) = ⊥
 
 -- what the checks and then the run find of them
 abbrev pub Finds : Manner → Limits → Option (List ℕ) → Option (List ℕ) → Result Printout Refusal → Type 0
 Finds Shows limits source input (Err refusal) = IsRefused source input refusal
 Finds Shows limits source input (Ok p) = IfSome source (λ bytes. (program : Program) × IsAccepted bytes program × IfSome input (λ more. Prints Shows limits program more p))
 
+-- the source is accepted, and the input is within the limit and of its input type, where their bytes are told; and this holds of both
+abbrev pub OfTyped : Option (List ℕ) → Option (List ℕ) → (Program → RecordFile → Type 0) → Type 0
+OfTyped source input P = IfSome source (λ bytes. (program : Program) × IsAccepted bytes program
+    × IfSome input (λ more. (length more ≤ INPUT_LIMIT) × (file : RecordFile) × IsTypedFile program.names program.claim more file × P program file))
+
+-- The same of a trace that is read behind both: it is of a run over the input, and what comes out by it is printed.
+abbrev pub FindsReplay : Limits → Option (List ℕ) → Option (List ℕ) → Option (List ℕ) → Result Printout Refusal → Type 0
+FindsReplay limits source input trace (Err (TooLarge Source)) = IsRefused source input (TooLarge Source)
+FindsReplay limits source input trace (Err (TooLarge Input)) = IsRefused source input (TooLarge Input)
+FindsReplay limits source input trace (Err (TooLarge TraceFile)) = OfTyped source input (λ program file. IfSome trace (λ text. TRACE_LIMIT < length text))
+FindsReplay limits source input trace (Err (SourceAt fault at)) = IsRefused source input (SourceAt fault at)
+FindsReplay limits source input trace (Err NoMain) = IsRefused source input NoMain
+FindsReplay limits source input trace (Err (TooDeep at)) = IsRefused source input (TooDeep at)
+FindsReplay limits source input trace (Err (LargeTree at)) = IsRefused source input (LargeTree at)
+FindsReplay limits source input trace (Err TooManyNames) = IsRefused source input TooManyNames
+FindsReplay limits source input trace (Err (IllTyped fault at variant)) = IsRefused source input (IllTyped fault at variant)
+FindsReplay limits source input trace (Err (Variants at)) = IsRefused source input (Variants at)
+FindsReplay limits source input trace (Err (Line fault)) = IsRefused source input (Line fault)
+FindsReplay limits source input trace (Err (TraceAt fault)) = OfTyped source input (λ program file. IsRefusedTrace fault trace (setting program limits) program.claim.net file.records)
+FindsReplay limits source input trace (Ok p) = OfTyped source input (λ program file. PlayedFrom trace (setting program limits) program.claim.net file.records file.names p)
+
 -- the same of a source alone, which is within the limit where more than its size is found
 abbrev pub FindsText : Option (List ℕ) → Result Printout Refusal → Type 0
 FindsText source (Err (TooLarge Source)) = IfSome source (λ bytes. SOURCE_LIMIT < length bytes)
 FindsText source (Err (TooLarge Input)) = ⊥
+FindsText source (Err (TooLarge TraceFile)) = ⊥
 FindsText source (Err (SourceAt fault at)) = IfSome source (λ bytes. (length bytes ≤ SOURCE_LIMIT) × FindsSource bytes (Err (SourceAt fault at)))
 FindsText source (Err NoMain) = ⊥
 FindsText source (Err (TooDeep at)) = IfSome source (λ bytes. (length bytes ≤ SOURCE_LIMIT) × FindsSource bytes (Err (TooDeep at)))
@@ -72,12 +99,14 @@ FindsText source (Err TooManyNames) = ⊥
 FindsText source (Err (IllTyped fault at variant)) = ⊥
 FindsText source (Err (Variants at)) = ⊥
 FindsText source (Err (Line fault)) = ⊥
+FindsText source (Err (TraceAt fault)) = ⊥
 FindsText source (Ok p) = IfSome source (λ bytes. (length bytes ≤ SOURCE_LIMIT) × FindsSource bytes (Ok p.bytes) × (p.ending ≡ None))
 
 -- The same of a source whose types are checked: what can come out for each variant of the input is printed.
 abbrev pub FindsTypes : Option (List ℕ) → Result Printout Refusal → Type 0
 FindsTypes source (Err (TooLarge Source)) = IfSome source (λ bytes. SOURCE_LIMIT < length bytes)
 FindsTypes source (Err (TooLarge Input)) = ⊥
+FindsTypes source (Err (TooLarge TraceFile)) = ⊥
 FindsTypes source (Err (SourceAt fault at)) = IfSome source (IsRefusedSource (SourceAt fault at))
 FindsTypes source (Err NoMain) = IfSome source (IsRefusedSource NoMain)
 FindsTypes source (Err (TooDeep at)) = IfSome source (IsRefusedSource (TooDeep at))
@@ -86,6 +115,7 @@ FindsTypes source (Err TooManyNames) = IfSome source (IsRefusedSource TooManyNam
 FindsTypes source (Err (IllTyped fault at variant)) = IfSome source (IsRefusedSource (IllTyped fault at variant))
 FindsTypes source (Err (Variants at)) = IfSome source (IsRefusedSource (Variants at))
 FindsTypes source (Err (Line fault)) = ⊥
+FindsTypes source (Err (TraceAt fault)) = ⊥
 FindsTypes source (Ok p) = IfSome source (λ bytes. (program : Program) × IsAccepted bytes program × HasFlows program program.claim.input p.bytes × (p.ending ≡ None))
 
 -- what the program prints for the records of a number: the line of the counters of what it answers
@@ -109,6 +139,7 @@ FindsSample number count (Err TooManyNames) = IsRefusedSource TooManyNames sourc
 FindsSample number count (Err (IllTyped fault at variant)) = IsRefusedSource (IllTyped fault at variant) source_text
 FindsSample number count (Err (Variants at)) = IsRefusedSource (Variants at) source_text
 FindsSample number count (Err (Line fault)) = OfBuiltIn (λ program. IsWrongSample fault program.names program.claim number count)
+FindsSample number count (Err (TraceAt fault)) = ⊥
 FindsSample number count (Ok p) = OfBuiltIn (λ program. PrintsSample program number count p)
 
 -- the bytes on `out`, the status and the line on `err` for what was found
@@ -124,13 +155,13 @@ abbrev pub found_status : Result Printout Refusal → Status
 found_status (Ok p) = ending_status p.ending
 found_status (Err refusal) = refusal_status refusal
 
-abbrev pub ending_line : Option Fault → List ℕ → List ℕ → List ℕ
-ending_line None source input = []
-ending_line (Some fault) source input = stop_line (stop.Faulted fault) source input
+abbrev pub ending_line : Option Fault → List ℕ → List ℕ → List ℕ → List ℕ
+ending_line None source input trace = []
+ending_line (Some fault) source input trace = stop_line (stop.Faulted fault) source input trace
 
-abbrev pub found_line : Result Printout Refusal → List ℕ → List ℕ → List ℕ
-found_line (Ok p) source input = ending_line p.ending source input
-found_line (Err refusal) source input = stop_line (stop.Refused refusal) source input
+abbrev pub found_line : Result Printout Refusal → List ℕ → List ℕ → List ℕ → List ℕ
+found_line (Ok p) source input trace = ending_line p.ending source input trace
+found_line (Err refusal) source input trace = stop_line (stop.Refused refusal) source input trace
 
 -- the outside, as a call found it and as it left it: the file of each name, `out` and `err`
 pub record Outside : Type 0 where
@@ -151,7 +182,14 @@ FindsFor (Run source input workers fuel depth queue) file found = Finds WithWork
 FindsFor (Once source input fuel depth) file found = Finds OnOneThread (limits_of fuel depth) (file source).told (file input).told found
 FindsFor (Check source) file found = FindsTypes (file source).told found
 FindsFor (Print source) file found = FindsText (file source).told found
+FindsFor (Trace source input workers fuel depth queue) file found = Finds Traced (limits_of fuel depth) (file source).told (file input).told found
+FindsFor (Replay source input trace fuel depth) file found = FindsReplay (limits_of fuel depth) (file source).told (file input).told (file trace).told found
 FindsFor (Sample number count) file found = FindsSample number count found
+
+-- What a command prints begins so, where it is cut off. A trace may be cut off at any event.
+abbrev pub BeginsFor : Command → (List ℕ → File) → Printout → Type 0
+BeginsFor (Trace source input workers fuel depth queue) file p = Finds BegunTrace (limits_of fuel depth) (file source).told (file input).told (Ok p)
+BeginsFor command file p = FindsFor command file (Ok p)
 
 -- the whole answer: what is found decides the bytes, the status and the line
 pub record IsAnswered (command : Command) (outside : Outside) (s : Status) : Type 0 where
@@ -159,22 +197,31 @@ pub record IsAnswered (command : Command) (outside : Outside) (s : Status) : Typ
   pub finds : FindsFor command outside.file found
   pub status_is : s ≡ found_status found
   pub out_got : outside.out.now ≡ appended outside.out.before (found_bytes found)
-  pub err_got : GotLine outside.err (found_line found (source_of command) (input_of command))
+  pub err_got : GotLine outside.err (found_line found (source_of command) (input_of command) (trace_of command))
 
 -- the count of that file's faults rose, and no check before its read refuses
 abbrev pub IsUnread : Which → File → File → Type 0
 IsUnread Source source input = FileFailed source
 IsUnread Input source input = FileFailed input × IfSome source.told (λ bytes. (program : Program) × IsAccepted bytes program)
+IsUnread TraceFile source input = ⊥
 
 abbrev pub IsSourceUnread : Which → File → Type 0
 IsSourceUnread Source source = FileFailed source
 IsSourceUnread Input source = ⊥
+IsSourceUnread TraceFile source = ⊥
+
+abbrev pub IsReplayUnread : Which → File → File → File → Type 0
+IsReplayUnread Source source input trace = IsUnread Source source input
+IsReplayUnread Input source input trace = IsUnread Input source input
+IsReplayUnread TraceFile source input trace = FileFailed trace × OfTyped source.told input.told (λ program file. Unit {0})
 
 abbrev pub UnreadFor : Command → (List ℕ → File) → Which → Type 0
 UnreadFor (Run source input workers fuel depth queue) file which = IsUnread which (file source) (file input)
 UnreadFor (Once source input fuel depth) file which = IsUnread which (file source) (file input)
 UnreadFor (Check source) file which = IsSourceUnread which (file source)
 UnreadFor (Print source) file which = IsSourceUnread which (file source)
+UnreadFor (Trace source input workers fuel depth queue) file which = IsUnread which (file source) (file input)
+UnreadFor (Replay source input trace fuel depth) file which = IsReplayUnread which (file source) (file input) (file trace)
 UnreadFor (Sample number count) file which = ⊥
 
 -- nothing was printed, and the line names the file
@@ -182,47 +229,47 @@ pub record HasUnread (command : Command) (outside : Outside) : Type 0 where
   pub which : Which
   pub why : UnreadFor command outside.file which
   pub out_same : outside.out.now ≡ outside.out.before
-  pub err_got : GotLine outside.err (stop_line (stop.Unread which) (source_of command) (input_of command))
+  pub err_got : GotLine outside.err (stop_line (stop.Unread which) (source_of command) (input_of command) (trace_of command))
 
 -- `out` got nothing, or some first bytes of what it would get
-abbrev pub GotPart : (Result Printout Refusal → Type 0) → Sink → Type 0
-GotPart finds out = (out.now ≡ out.before) ⊎ HasBegun (λ p. finds (Ok p)) out
-
 pub record IsCutShort (command : Command) (outside : Outside) : Type 0 where
-  pub out_got : GotPart (FindsFor command outside.file) outside.out
+  pub out_got : GotPart (BeginsFor command outside.file) outside.out
   pub err_got : GotLine outside.err (codes "memory\n")
 
 -- the count of `out` rose, and it got some first bytes of what it would get
-abbrev pub HasFailed : (Result Printout Refusal → Type 0) → Sink → Type 0
-HasFailed finds out = SinkFailed out × HasBegun (λ p. finds (Ok p)) out
-
 pub record IsUnwritten (command : Command) (outside : Outside) : Type 0 where
-  pub out_failed : HasFailed (FindsFor command outside.file) outside.out
+  pub out_failed : HasFailed (BeginsFor command outside.file) outside.out
   pub err_got : GotLine outside.err (codes "write\n")
 
 -- why a run ended otherwise than with its whole output, and what `out` holds then
-abbrev pub StoppedFor : (Result Printout Refusal → Type 0) → (Which → Type 0) → Sink → Stop → Type 0
-StoppedFor finds unread out (stop.Refused refusal) = finds (Err refusal) × (out.now ≡ out.before)
-StoppedFor finds unread out (stop.Faulted fault) = (p : List ℕ) × finds (Ok (ended p (Some fault))) × (out.now ≡ appended out.before p)
-StoppedFor finds unread out (stop.Unread which) = unread which × (out.now ≡ out.before)
-StoppedFor finds unread out stop.Memory = GotPart finds out
-StoppedFor finds unread out stop.Write = HasFailed finds out
+abbrev pub StoppedFor : (Result Printout Refusal → Type 0) → (Printout → Type 0) → (Which → Type 0) → Sink → Stop → Type 0
+StoppedFor finds Begins unread out (stop.Refused refusal) = finds (Err refusal) × (out.now ≡ out.before)
+StoppedFor finds Begins unread out (stop.Faulted fault) = (p : List ℕ) × finds (Ok (ended p (Some fault))) × (out.now ≡ appended out.before p)
+StoppedFor finds Begins unread out (stop.Unread which) = unread which × (out.now ≡ out.before)
+StoppedFor finds Begins unread out stop.Memory = GotPart Begins out
+StoppedFor finds Begins unread out stop.Write = HasFailed Begins out
 
--- a run on a source and an input
-abbrev pub WhyStopped : Manner → Limits → File → File → Sink → Stop → Type 0
-WhyStopped Shows limits source input out why = StoppedFor (Finds Shows limits source.told input.told) (λ which. IsUnread which source input) out why
+-- a run on a source and an input, which prints in one manner, and is cut off in the same or in another
+abbrev pub WhyStopped : Manner → Manner → Limits → File → File → Sink → Stop → Type 0
+WhyStopped Shows Begins limits source input out why =
+    StoppedFor (Finds Shows limits source.told input.told) (λ p. Finds Begins limits source.told input.told (Ok p)) (λ which. IsUnread which source input) out why
+
+-- the replay of a trace
+abbrev pub WhyUnplayed : Limits → File → File → File → Sink → Stop → Type 0
+WhyUnplayed limits source input trace out why =
+    StoppedFor (FindsReplay limits source.told input.told trace.told) (λ p. FindsReplay limits source.told input.told trace.told (Ok p)) (λ which. IsReplayUnread which source input trace) out why
 
 -- the printing of a source
 abbrev pub WhyUnprinted : File → Sink → Stop → Type 0
-WhyUnprinted source out why = StoppedFor (FindsText source.told) (λ which. IsSourceUnread which source) out why
+WhyUnprinted source out why = StoppedFor (FindsText source.told) (λ p. FindsText source.told (Ok p)) (λ which. IsSourceUnread which source) out why
 
 -- the check of a source
 abbrev pub WhyUnchecked : File → Sink → Stop → Type 0
-WhyUnchecked source out why = StoppedFor (FindsTypes source.told) (λ which. IsSourceUnread which source) out why
+WhyUnchecked source out why = StoppedFor (FindsTypes source.told) (λ p. FindsTypes source.told (Ok p)) (λ which. IsSourceUnread which source) out why
 
 -- a run on the records of a number
 abbrev pub WhyUncounted : ℕ → ℕ → Sink → Stop → Type 0
-WhyUncounted number count out why = StoppedFor (FindsSample number count) (λ which. ⊥) out why
+WhyUncounted number count out why = StoppedFor (FindsSample number count) (λ p. FindsSample number count (Ok p)) (λ which. ⊥) out why
 
 -- the calling thread does the command alone
 abbrev pub is_plain : Command → Bool
@@ -230,6 +277,8 @@ is_plain (Run source input workers fuel depth queue) = false
 is_plain (Once source input fuel depth) = true
 is_plain (Check source) = true
 is_plain (Print source) = true
+is_plain (Trace source input workers fuel depth queue) = false
+is_plain (Replay source input trace fuel depth) = true
 is_plain (Sample number count) = false
 
 -- the command needs other threads, and nothing was written
@@ -245,11 +294,11 @@ end_status (Err why) = stop_status why
 
 abbrev pub GotEnd : Sink → Result (Unit {0}) Stop → Command → Type 0
 GotEnd err (Ok done) command = err.now ≡ err.before
-GotEnd err (Err why) command = GotLine err (stop_line why (source_of command) (input_of command))
+GotEnd err (Err why) command = GotLine err (stop_line why (source_of command) (input_of command) (trace_of command))
 
 -- any command
 abbrev pub WhyEnded : Command → (List ℕ → File) → Sink → Stop → Type 0
-WhyEnded command file out why = StoppedFor (FindsFor command file) (UnreadFor command file) out why
+WhyEnded command file out why = StoppedFor (FindsFor command file) (BeginsFor command file) (UnreadFor command file) out why
 
 -- The clauses for words, which may be no command.
 pub record HasNoCommand (outside : Outside) (s : Status) : Type 0 where
@@ -268,5 +317,5 @@ OfCommand P (Some command) outside = P command outside
 
 -- want of memory may come before the words are read
 pub record IsCutShortFor (command : Option Command) (outside : Outside) : Type 0 where
-  pub out_got : (outside.out.now ≡ outside.out.before) ⊎ OfCommand (λ c o. GotPart (FindsFor c o.file) o.out) command outside
+  pub out_got : (outside.out.now ≡ outside.out.before) ⊎ OfCommand (λ c o. GotPart (BeginsFor c o.file) o.out) command outside
   pub err_got : GotLine outside.err (codes "memory\n")

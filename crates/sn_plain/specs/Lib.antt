@@ -4,3 +4,5 @@ pub mod Sample
 pub mod Answer
 pub mod Ready
 pub mod Runs
+pub mod Traces
+pub mod Stopping

@@ -1,5 +1,5 @@
 -- What a run prints, and why it stops.
-use Rattle.std.specs.Prelude.{◌≡◌, ◌≤◌, ℕ, List, length, map, Option, None, IsTrue, false}
+use Rattle.std.specs.Prelude.{◌≡◌, ◌⊎◌, ◌≤◌, ℕ, List, length, map, Option, None, IsTrue, false}
 use Rattle.sn_io.specs.Told.{appended, AppendsPrefix}
 use Rattle.sn_record.specs.Record.{Entries}
 use Rattle.sn_record.specs.declared.item.Fault.{Fault}
@@ -76,10 +76,18 @@ HasPrinted Is out fault = (bytes : List ℕ) × Is (ended bytes fault) × (out.n
 abbrev pub HasBegun : (Printout → Type 0) → Sink → Type 0
 HasBegun Is out = ∥ ((p : Printout) × Is p × AppendsPrefix out.before out.now p.bytes) ∥₁
 
+-- `out` got nothing, or some first bytes of it
+abbrev pub GotPart : (Printout → Type 0) → Sink → Type 0
+GotPart Begins out = (out.now ≡ out.before) ⊎ HasBegun Begins out
+
+-- the count of `out` rose, and it got some first bytes
+abbrev pub HasFailed : (Printout → Type 0) → Sink → Type 0
+HasFailed Begins out = SinkFailed out × HasBegun Begins out
+
 -- why it was not all printed
 abbrev pub WhyUnfinished : (Printout → Type 0) → Sink → Stop → Type 0
 WhyUnfinished Is out (stop.Refused refusal) = ⊥
 WhyUnfinished Is out (stop.Faulted fault) = ⊥
 WhyUnfinished Is out (stop.Unread which) = ⊥
-WhyUnfinished Is out stop.Memory = HasBegun Is out
-WhyUnfinished Is out stop.Write = SinkFailed out × HasBegun Is out
+WhyUnfinished Is out stop.Memory = GotPart Is out
+WhyUnfinished Is out stop.Write = HasFailed Is out

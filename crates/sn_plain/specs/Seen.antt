@@ -5,7 +5,7 @@ use Rattle.sn_io.specs.Told.{appended, AppendsPrefix}
 use Rattle.sn_stop.specs.declared.refusal.Which.{Which}
 use Rattle.sn_stop.specs.declared.stop.Stop.{Stop}
 use Rattle.sn_stop.specs.declared.stop.Stop.TheVariants as stop
-use Rattle.sn_stop.specs.declared.refusal.Refusal.TheVariants.{TooLarge, Source as SourceAt, NoMain, TooDeep, LargeTree, TooManyNames, IllTyped, Variants, Line}
+use Rattle.sn_stop.specs.declared.refusal.Refusal.TheVariants.{TooLarge, Source as SourceAt, NoMain, TooDeep, LargeTree, TooManyNames, IllTyped, Variants, Line, Trace}
 
 -- a sink: what it holds, where it is told, and its count of faults
 pub record Sink : Type 0 where
@@ -48,6 +48,7 @@ WhyUnread which limit file (stop.Refused TooManyNames) = ⊥
 WhyUnread which limit file (stop.Refused (IllTyped fault at variant)) = ⊥
 WhyUnread which limit file (stop.Refused (Variants at)) = ⊥
 WhyUnread which limit file (stop.Refused (Line fault)) = ⊥
+WhyUnread which limit file (stop.Refused (Trace fault)) = ⊥
 WhyUnread which limit file (stop.Faulted fault) = ⊥
 WhyUnread which limit file (stop.Unread w) = (w ≡ which) × FileFailed file
 WhyUnread which limit file stop.Memory = Unit {0}

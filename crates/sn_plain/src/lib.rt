@@ -4,8 +4,10 @@
 
 mod outside;
 mod ready;
+mod replaying;
 mod serve;
 mod transcript;
 
-pub use ready::{Ready, prepare};
+pub use ready::{Ready, Started, prepare, share, start};
+pub use replaying::TRACE_LIMIT;
 pub use serve::{conclude, is_plain, serve_alone, serve_plain, tell_memory, tell_usage};

@@ -1,20 +1,25 @@
 //! From the files of a run to what is run.
 ghost use Rattle.std.specs.Prelude.{◌≡◌, ◌≤◌, ℕ, List, IfOk, IfErr};
 ghost use Rattle.sn_net.specs.WellFormed.{FitsBoxes};
-ghost use Rattle.sn_plain.specs.Ready.{IsReady, WhyNotReady};
-ghost use Rattle.sn_load.specs.Load.{AreTypedRecords};
+ghost use Rattle.sn_model.specs.Ranges.{IsWithin};
+ghost use Rattle.sn_model.specs.declared.run.TheConstants.{LONGEST_QUEUE};
+ghost use Rattle.sn_plain.specs.Ready.{IsReady, WhyNotReady, setting_at};
+ghost use Rattle.sn_load.specs.Load.{AreLimits, AreTypedRecords, limits_of};
 ghost use Rattle.sn_plain.specs.Seen.{seen_file};
+ghost use Rattle.sn_plain.specs.Traces.{IsRunOver};
 
 use crate::outside::read_file;
 use sn_input::Input;
 use sn_io::Files;
-use sn_list::{Held, Seq};
-use sn_load::{INPUT_LIMIT, Program, SOURCE_LIMIT, load_source, read_input};
+use sn_list::{Held, Memory, Seq};
+use sn_load::{INPUT_LIMIT, Program, SOURCE_LIMIT, items_of, load_source, read_input};
+use sn_model::Run;
 use sn_names::Names;
 use sn_net::{Boxes, Claim, Net};
 use sn_record::Record;
 use sn_stop::{Stop, Which};
 use std::alloc::Global;
+use std::sync::Arc;
 
 /// The main network of a source with its boxes, and the records of an input with the names of their labels.
 #[derive(Drop)]
@@ -67,4 +72,55 @@ pub fn prepare<F: Files>(
         records,
         names,
     })
+}
+
+/// A run that threads may share, and the names of its labels.
+#[derive(Drop)]
+pub struct Started {
+    pub run: Arc<Run>,
+    pub names: Names,
+}
+
+/// The value, so that threads may share it. For want of memory it is given up.
+pub fn share<T: Drop>(alloc: Global, value: T) -> Result<Arc<T>, Memory>
+    ensures { IfOk result (λ shared. shared.value ≡ value) }
+{
+    match Arc::new(alloc, value) {
+        Ok(shared) => Ok(shared),
+        Err(_) => Err(Memory),
+    }
+}
+
+/// Makes a run of what is ready: `fuel` for each call of a box, at most `depth` replicas of a star, and at most `queue` entries in a queue between
+/// two threads.
+pub fn start(
+    alloc: Global,
+    ready: Ready,
+    fuel: u64,
+    depth: u32,
+    queue: u32,
+) -> Result<Started, Memory>
+    requires limits { AreLimits (limits_of fuel depth) }
+    requires queue { IsWithin queue LONGEST_QUEUE }
+    requires formed { FitsBoxes ready.boxes ready.net }
+    requires typed { AreTypedRecords ready.boxes ready.net ready.records }
+    ensures run { IfOk result (λ started. IsRunOver (setting_at ready (limits_of fuel depth)) ready.net ready.records started.run.value) }
+    ensures names { IfOk result (λ started. started.names ≡ ready.names) }
+{
+    let Ready {
+        net,
+        boxes,
+        records,
+        names,
+    } = ready;
+    let parts = Held {
+        value: (net, boxes),
+    };
+    let names = Held { value: names };
+    let items = items_of(alloc, records)?;
+    let (net, boxes) = parts.into_inner();
+    let run = Run::new(net, boxes, fuel, depth, queue, items);
+    let run = share(alloc, run)?;
+    let names = names.into_inner();
+    Ok(Started { run, names })
 }

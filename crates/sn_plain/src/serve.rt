@@ -5,13 +5,14 @@ ghost use Rattle.sn_io.specs.Told.{appended};
 ghost use Rattle.sn_load.specs.Load.{AreLimits, limits_of};
 ghost use Rattle.sn_plain.specs.Seen.{GotLine, seen_file, seen_sink};
 ghost use Rattle.sn_stop.specs.Status.{stop_line};
-ghost use Rattle.sn_plain.specs.Answer.{GotEnd, end_status, is_plain, seen, Finds, FindsFor, FindsText, FindsTypes, WhyEnded, WhyStopped, WhyUnchecked, WhyUnprinted, IsAnswered, HasUnread, IsCutShort, IsUnwritten, IsAnsweredFor, IsCutShortFor, NeedsOthers, OfCommand};
+ghost use Rattle.sn_plain.specs.Answer.{GotEnd, end_status, is_plain, seen, Finds, FindsFor, FindsReplay, FindsText, FindsTypes, WhyEnded, WhyStopped, WhyUnchecked, WhyUnplayed, WhyUnprinted, IsAnswered, HasUnread, IsCutShort, IsUnwritten, IsAnsweredFor, IsCutShortFor, NeedsOthers, OfCommand};
 ghost use Rattle.sn_plain.specs.Runs.{OnOneThread, whole};
-ghost use Rattle.sn_words.specs.Command.{IsInRange, input_of, source_of, usage_text};
+ghost use Rattle.sn_words.specs.Command.{IsInRange, input_of, source_of, trace_of, usage_text};
 ghost use Rattle.sn_words.specs.Words.{command_of};
 
 use crate::outside::{read_file, write_line};
 use crate::ready::prepare;
+use crate::replaying::{TRACE_LIMIT, print_replay};
 use crate::transcript::print_once;
 use itoa::Buffer;
 use sn_io::{Files, Sink, write_whole};
@@ -35,7 +36,7 @@ fn run_once<F: Files, O: Sink>(
     ensures done { OnOk result ((p : List ℕ)
         × Finds OnOneThread (limits_of fuel depth) (F.bytes_of files.old source_name.now) (F.bytes_of files.old input_name.now) (Ok (whole p))
         × (O.held out.new ≡ appended (O.held out.old) p)) }
-    ensures stopped { IfErr result (WhyStopped OnOneThread (limits_of fuel depth)
+    ensures stopped { IfErr result (WhyStopped OnOneThread OnOneThread (limits_of fuel depth)
         (seen_file F.bytes_of F.faults files.old files.new source_name.now)
         (seen_file F.bytes_of F.faults files.old files.new input_name.now)
         (seen_sink O.held O.faults out.old out.new)) }
@@ -98,13 +99,49 @@ fn run_print<F: Files, O: Sink>(
     Ok(())
 }
 
+/// Checks a text as a trace of a run over the records of an input, and prints the records that come out by it.
+fn run_replay<F: Files, O: Sink>(
+    alloc: Global,
+    source_name: &[u8],
+    input_name: &[u8],
+    trace_name: &[u8],
+    fuel: u64,
+    depth: u32,
+    files: &mut F,
+    out: &mut O,
+) -> Result<(), Stop>
+    requires { AreLimits (limits_of fuel depth) }
+    ensures done { OnOk result ((p : List ℕ)
+        × FindsReplay (limits_of fuel depth) (F.bytes_of files.old source_name.now) (F.bytes_of files.old input_name.now) (F.bytes_of files.old trace_name.now) (Ok (whole p))
+        × (O.held out.new ≡ appended (O.held out.old) p)) }
+    ensures stopped { IfErr result (WhyUnplayed (limits_of fuel depth)
+        (seen_file F.bytes_of F.faults files.old files.new source_name.now)
+        (seen_file F.bytes_of F.faults files.old files.new input_name.now)
+        (seen_file F.bytes_of F.faults files.old files.new trace_name.now)
+        (seen_sink O.held O.faults out.old out.new)) }
+    ensures same { (name : List ℕ) → F.bytes_of files.new name ≡ F.bytes_of files.old name }
+    ensures later { (name : List ℕ) → F.faults files.old name ≤ F.faults files.new name }
+    ensures out_later { O.faults out.old ≤ O.faults out.new }
+{
+    let ready = prepare(alloc, source_name, input_name, files)?;
+    let ready = Held { value: ready };
+    let text = read_file(alloc, files, Which::Trace, trace_name, TRACE_LIMIT)?;
+    match print_replay(alloc, ready.into_inner(), text.as_slice(), fuel, depth, out)? {
+        None => Ok(()),
+        Some(fault) => Err(Stop::Faulted(fault)),
+    }
+}
+
 /// Whether the calling thread does the command alone.
 pub fn is_plain(command: &Command) -> bool
     ensures { result ≡ is_plain command.now }
 {
     match command {
-        Command::Run { .. } | Command::Sample { .. } => false,
-        Command::Once { .. } | Command::Check { .. } | Command::Print { .. } => true,
+        Command::Run { .. } | Command::Trace { .. } | Command::Sample { .. } => false,
+        Command::Once { .. }
+        | Command::Check { .. }
+        | Command::Print { .. }
+        | Command::Replay { .. } => true,
     }
 }
 
@@ -144,18 +181,34 @@ fn work_alone<F: Files, O: Sink>(
         ),
         Command::Check { source } => run_check(alloc, source.as_slice(), files, out),
         Command::Print { source } => run_print(alloc, source.as_slice(), files, out),
-        Command::Run { .. } | Command::Sample { .. } => unreachable!(),
+        Command::Replay {
+            source,
+            input,
+            trace,
+            fuel,
+            depth,
+        } => run_replay(
+            alloc,
+            source.as_slice(),
+            input.as_slice(),
+            trace.as_slice(),
+            *fuel,
+            *depth,
+            files,
+            out,
+        ),
+        Command::Run { .. } | Command::Trace { .. } | Command::Sample { .. } => unreachable!(),
     }
 }
 
 /// Writes the line that tells why a command stopped.
 fn tell<E: Sink>(command: &Command, stop: &Stop, err: &mut E)
-    ensures got { GotLine (seen_sink E.held E.faults err.old err.new) (stop_line stop.now (source_of command.now) (input_of command.now)) }
+    ensures got { GotLine (seen_sink E.held E.faults err.old err.new) (stop_line stop.now (source_of command.now) (input_of command.now) (trace_of command.now)) }
     ensures err_later { E.faults err.old ≤ E.faults err.new }
 {
     let mut buffer = Buffer::new();
     let place = buffer.format(stop.place()).as_bytes();
-    let name = stop.name(command.source(), command.input(), place);
+    let name = stop.name(command.source(), command.input(), command.trace(), place);
     write_line(err, stop.label(), name, stop.detail());
 }
 

@@ -74,7 +74,12 @@ impl Transcript {
 }
 
 /// The transcript of some items, in the room of a text.
-fn shown_in(alloc: Global, room: Text, names: &Names, items: Items) -> Result<Transcript, Memory>
+pub(crate) fn shown_in(
+    alloc: Global,
+    room: Text,
+    names: &Names,
+    items: Items,
+) -> Result<Transcript, Memory>
     ensures { IfOk result (Shows names.now (map modelled items)) }
 {
     let mut shown = Transcript::in_room(room);

@@ -7,12 +7,14 @@ use Rattle.sn_output.specs.Line.{printed_label}
 use Rattle.sn_stop.specs.declared.status.Status.{Status}
 use Rattle.sn_stop.specs.declared.status.Status.TheVariants as status
 use Rattle.sn_stop.specs.declared.refusal.Which.{Which}
-use Rattle.sn_stop.specs.declared.refusal.Which.TheVariants.{Source, Input}
+use Rattle.sn_stop.specs.declared.refusal.Which.TheVariants.{Source, Input, Trace as TraceFile}
 use Rattle.sn_stop.specs.declared.refusal.Refusal.{Refusal}
-use Rattle.sn_stop.specs.declared.refusal.Refusal.TheVariants.{TooLarge, Source as SourceAt, NoMain, TooDeep, LargeTree, TooManyNames, IllTyped, Variants, Line}
+use Rattle.sn_stop.specs.declared.refusal.Refusal.TheVariants.{TooLarge, Source as SourceAt, NoMain, TooDeep, LargeTree, TooManyNames, IllTyped, Variants, Line, Trace}
 use Rattle.sn_stop.specs.declared.refusal.LineFault.{LineFault}
 use Rattle.sn_stop.specs.declared.refusal.LineFault.TheVariants as line
 use Rattle.sn_stop.specs.declared.refusal.SourceFault.{SourceFault}
+use Rattle.sn_stop.specs.declared.refusal.TraceRefusal.{TraceRefusal}
+use Rattle.sn_stop.specs.declared.refusal.TraceRefusal.TheVariants as trace
 use Rattle.sn_stop.specs.declared.refusal.TypeFault.{TypeFault}
 use Rattle.sn_stop.specs.declared.refusal.TypeFault.TheVariants as type
 use Rattle.sn_stop.specs.declared.refusal.SourceFault.TheVariants.{BadUtf8, BadChar, NumberTooWide, TextOpen, Unexpected, Unknown, Twice, Arity, GuardTag}
@@ -31,6 +33,7 @@ status_code status.Memory = 8
 status_code status.Write = 9
 status_code status.TooLarge = 10
 status_code status.Limit = 11
+status_code status.Trace = 13
 
 -- a line that is wrong, a record that is not of the input type, and one that is one too many
 abbrev pub line_status : LineFault → Status
@@ -49,6 +52,7 @@ refusal_status TooManyNames = status.Limit
 refusal_status (IllTyped fault at variant) = status.IllTyped
 refusal_status (Variants at) = status.Limit
 refusal_status (Line fault) = line_status fault
+refusal_status (Trace fault) = status.Trace
 
 abbrev pub stop_status : Stop → Status
 stop_status (stop.Refused refusal) = refusal_status refusal
@@ -57,9 +61,10 @@ stop_status (stop.Unread which) = status.Read
 stop_status stop.Memory = status.Memory
 stop_status stop.Write = status.Write
 
-abbrev pub name_of : Which → List ℕ → List ℕ → List ℕ
-name_of Source source input = source
-name_of Input source input = input
+abbrev pub name_of : Which → List ℕ → List ℕ → List ℕ → List ℕ
+name_of Source source input text = source
+name_of Input source input text = input
+name_of TraceFile source input text = text
 
 abbrev pub fault_label : SourceFault → List ℕ
 fault_label BadUtf8 = codes "source: BadUtf8 at "
@@ -82,6 +87,11 @@ line_label (line.Twice n kind name) = codes "input: Twice "
 line_label (line.Untyped n) = codes "input: Untyped "
 line_label (line.TooMany n) = codes "limit: Records at line "
 
+abbrev pub trace_label : TraceRefusal → List ℕ
+trace_label (trace.BadLine n) = codes "trace: BadLine "
+trace_label (trace.NotEnabled n) = codes "trace: NotEnabled "
+trace_label trace.Unfinished = codes "trace: Unfinished"
+
 abbrev pub ending_label : FaultKind → List ℕ
 ending_label kind.Fuel = codes "fault: Fuel at "
 ending_label kind.Overflow = codes "fault: Overflow at "
@@ -100,6 +110,7 @@ refusal_label TooManyNames = codes "limit: Names"
 refusal_label (IllTyped fault at variant) = type_label fault
 refusal_label (Variants at) = codes "limit: Variants at "
 refusal_label (Line fault) = line_label fault
+refusal_label (Trace fault) = trace_label fault
 
 abbrev pub stop_label : Stop → List ℕ
 stop_label (stop.Refused refusal) = refusal_label refusal
@@ -115,25 +126,36 @@ line_number (line.Twice n kind name) = n
 line_number (line.Untyped n) = n
 line_number (line.TooMany n) = n
 
-abbrev pub refusal_name : Refusal → List ℕ → List ℕ → List ℕ
-refusal_name (TooLarge which) source input = name_of which source input
-refusal_name (SourceAt fault at) source input = decimal at
-refusal_name NoMain source input = []
-refusal_name (TooDeep at) source input = decimal at
-refusal_name (LargeTree at) source input = decimal at
-refusal_name TooManyNames source input = []
-refusal_name (IllTyped fault at variant) source input = decimal at
-refusal_name (Variants at) source input = decimal at
-refusal_name (Line fault) source input = decimal (line_number fault)
+abbrev pub trace_number : TraceRefusal → ℕ
+trace_number (trace.BadLine n) = n
+trace_number (trace.NotEnabled n) = n
+trace_number trace.Unfinished = 0
 
-abbrev pub stop_name : Stop → List ℕ → List ℕ → List ℕ
-stop_name (stop.Refused refusal) source input = refusal_name refusal source input
-stop_name (stop.Faulted fault) source input = decimal fault.place
-stop_name (stop.Unread which) source input = name_of which source input
-stop_name stop.Memory source input = []
-stop_name stop.Write source input = []
+abbrev pub trace_place : TraceRefusal → List ℕ
+trace_place (trace.BadLine n) = decimal n
+trace_place (trace.NotEnabled n) = decimal n
+trace_place trace.Unfinished = []
 
--- the place in the source, or the number of the input's line, that the line on `err` speaks of
+abbrev pub refusal_name : Refusal → List ℕ → List ℕ → List ℕ → List ℕ
+refusal_name (TooLarge which) source input text = name_of which source input text
+refusal_name (SourceAt fault at) source input text = decimal at
+refusal_name NoMain source input text = []
+refusal_name (TooDeep at) source input text = decimal at
+refusal_name (LargeTree at) source input text = decimal at
+refusal_name TooManyNames source input text = []
+refusal_name (IllTyped fault at variant) source input text = decimal at
+refusal_name (Variants at) source input text = decimal at
+refusal_name (Line fault) source input text = decimal (line_number fault)
+refusal_name (Trace fault) source input text = trace_place fault
+
+abbrev pub stop_name : Stop → List ℕ → List ℕ → List ℕ → List ℕ
+stop_name (stop.Refused refusal) source input text = refusal_name refusal source input text
+stop_name (stop.Faulted fault) source input text = decimal fault.place
+stop_name (stop.Unread which) source input text = name_of which source input text
+stop_name stop.Memory source input text = []
+stop_name stop.Write source input text = []
+
+-- the place in the source, or the number of the input's or the trace's line, that the line on `err` speaks of
 abbrev pub refusal_place : Refusal → ℕ
 refusal_place (TooLarge which) = 0
 refusal_place (SourceAt fault at) = at
@@ -144,6 +166,7 @@ refusal_place TooManyNames = 0
 refusal_place (IllTyped fault at variant) = at
 refusal_place (Variants at) = at
 refusal_place (Line fault) = line_number fault
+refusal_place (Trace fault) = trace_number fault
 
 abbrev pub stop_place : Stop → ℕ
 stop_place (stop.Refused refusal) = refusal_place refusal
@@ -170,5 +193,5 @@ stop_detail (stop.Refused refusal) = refusal_detail refusal
 stop_detail why = []
 
 -- the line on `err`, which names a file by its word
-abbrev pub stop_line : Stop → List ℕ → List ℕ → List ℕ
-stop_line why source input = stop_label why ++ (stop_name why source input ++ (stop_detail why ++ codes "\n"))
+abbrev pub stop_line : Stop → List ℕ → List ℕ → List ℕ → List ℕ
+stop_line why source input text = stop_label why ++ (stop_name why source input text ++ (stop_detail why ++ codes "\n"))

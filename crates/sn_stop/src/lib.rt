@@ -5,6 +5,6 @@ mod refusal;
 mod status;
 mod stop;
 
-pub use refusal::{LineFault, Refusal, SourceFault, TypeFault, Which};
+pub use refusal::{LineFault, Refusal, SourceFault, TraceRefusal, TypeFault, Which};
 pub use status::Status;
 pub use stop::Stop;

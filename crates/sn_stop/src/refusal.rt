@@ -1,6 +1,6 @@
 //! What the checks of a command refuse.
 ghost use Rattle.std.specs.Prelude.{◌≡◌};
-ghost use Rattle.sn_stop.specs.Status.{fault_label, line_label, line_number, line_status, type_label};
+ghost use Rattle.sn_stop.specs.Status.{fault_label, line_label, line_number, line_status, trace_label, trace_number, type_label};
 
 use crate::status::Status;
 use sn_record::{Kind, Text};
@@ -10,6 +10,7 @@ use sn_record::{Kind, Text};
 pub enum Which {
     Source,
     Input,
+    Trace,
 }
 
 /// What is wrong in a source.
@@ -116,6 +117,40 @@ impl LineFault {
     }
 }
 
+/// What is wrong in a trace. Lines are counted from 1.
+#[derive(Clone, Copy)]
+pub enum TraceRefusal {
+    /// The line is none of a trace, or stands behind the fault that ends it.
+    BadLine(u32),
+    /// The line names no event that may happen.
+    NotEnabled(u32),
+    /// Behind the last line the run has not come to its end.
+    Unfinished,
+}
+
+impl TraceRefusal {
+    /// The number of the line, or 0.
+    pub(crate) fn number(&self) -> u32
+        ensures { result ≡ trace_number self.now }
+    {
+        match self {
+            TraceRefusal::BadLine(n) | TraceRefusal::NotEnabled(n) => *n,
+            TraceRefusal::Unfinished => 0,
+        }
+    }
+
+    /// What the line on `err` says before the number.
+    pub(crate) fn label(&self) -> &'static [u8]
+        ensures { result.now ≡ trace_label self.now }
+    {
+        match self {
+            TraceRefusal::BadLine(_) => b"trace: BadLine ",
+            TraceRefusal::NotEnabled(_) => b"trace: NotEnabled ",
+            TraceRefusal::Unfinished => b"trace: Unfinished",
+        }
+    }
+}
+
 /// What the checks of a command refuse. A place is an offset in the source's bytes.
 #[derive(Drop)]
 pub enum Refusal {
@@ -134,4 +169,6 @@ pub enum Refusal {
     Variants(u32),
     /// A line of the input is wrong.
     Line(LineFault),
+    /// The trace is none of the run.
+    Trace(TraceRefusal),
 }

@@ -27,6 +27,8 @@ pub enum Status {
     TooLarge,
     /// Another limit is passed.
     Limit,
+    /// The trace is none of the run.
+    Trace,
 }
 
 impl Status {
@@ -46,6 +48,7 @@ impl Status {
             Status::Write => 9,
             Status::TooLarge => 10,
             Status::Limit => 11,
+            Status::Trace => 13,
         }
     }
 }

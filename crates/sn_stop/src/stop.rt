@@ -3,7 +3,7 @@ ghost use Rattle.std.specs.Prelude.{◌≡◌, ◌++◌};
 ghost use Rattle.std.specs.Fmt.{decimal};
 ghost use Rattle.sn_stop.specs.Status.{ending_label, stop_detail, stop_label, stop_name, stop_place, stop_status};
 
-use crate::refusal::{LineFault, Refusal, SourceFault, Which};
+use crate::refusal::{LineFault, Refusal, SourceFault, TraceRefusal, Which};
 use crate::status::Status;
 use sn_ast::ParseFault;
 use sn_input::InputFault;
@@ -164,6 +164,7 @@ impl Stop {
             Stop::Refused(Refusal::IllTyped(_, _, _)) => Status::IllTyped,
             Stop::Refused(Refusal::Variants(_)) => Status::Limit,
             Stop::Refused(Refusal::Line(fault)) => fault.status(),
+            Stop::Refused(Refusal::Trace(_)) => Status::Trace,
             Stop::Faulted(_) => Status::Fault,
             Stop::Unread(_) => Status::Read,
             Stop::Memory => Status::Memory,
@@ -171,7 +172,7 @@ impl Stop {
         }
     }
 
-    /// The place in the source or the number of the input's line that the line on `err` speaks of, or 0.
+    /// The place in the source, or the number of the input's or the trace's line, that the line on `err` speaks of, or 0.
     pub fn place(&self) -> u32
         ensures { result ≡ stop_place self.now }
     {
@@ -182,6 +183,7 @@ impl Stop {
             Stop::Refused(Refusal::IllTyped(_, at, _)) => *at,
             Stop::Refused(Refusal::Variants(at)) => *at,
             Stop::Refused(Refusal::Line(fault)) => fault.number(),
+            Stop::Refused(Refusal::Trace(fault)) => fault.number(),
             Stop::Faulted(fault) => fault.place,
             _ => 0,
         }
@@ -201,6 +203,7 @@ impl Stop {
             Stop::Refused(Refusal::IllTyped(fault, _, _)) => fault.label(),
             Stop::Refused(Refusal::Variants(_)) => b"limit: Variants at ",
             Stop::Refused(Refusal::Line(fault)) => fault.label(),
+            Stop::Refused(Refusal::Trace(fault)) => fault.label(),
             Stop::Faulted(fault) => ending_label(fault.kind),
             Stop::Unread(_) => b"read: ",
             Stop::Memory => b"memory",
@@ -209,19 +212,28 @@ impl Stop {
     }
 
     /// What the line speaks of: the name of a file, or the digits of the place, or nothing.
-    pub fn name<'a>(&self, source: &'a [u8], input: &'a [u8], place: &'a [u8]) -> &'a [u8]
+    pub fn name<'a>(
+        &self,
+        source: &'a [u8],
+        input: &'a [u8],
+        trace: &'a [u8],
+        place: &'a [u8],
+    ) -> &'a [u8]
         requires { place.now ≡ decimal (stop_place self.now) }
-        ensures { result.now ≡ stop_name self.now source.now input.now }
+        ensures { result.now ≡ stop_name self.now source.now input.now trace.now }
     {
         match self {
             Stop::Refused(Refusal::TooLarge(Which::Source)) | Stop::Unread(Which::Source) => source,
             Stop::Refused(Refusal::TooLarge(Which::Input)) | Stop::Unread(Which::Input) => input,
+            Stop::Refused(Refusal::TooLarge(Which::Trace)) | Stop::Unread(Which::Trace) => trace,
             Stop::Refused(Refusal::Source(_, _))
             | Stop::Refused(Refusal::TooDeep(_))
             | Stop::Refused(Refusal::LargeTree(_))
             | Stop::Refused(Refusal::IllTyped(_, _, _))
             | Stop::Refused(Refusal::Variants(_))
             | Stop::Refused(Refusal::Line(_))
+            | Stop::Refused(Refusal::Trace(TraceRefusal::BadLine(_)))
+            | Stop::Refused(Refusal::Trace(TraceRefusal::NotEnabled(_)))
             | Stop::Faulted(_) => place,
             _ => &source[..0],
         }

@@ -1,3 +1,4 @@
 pub mod Working
+mod Traced
 pub mod Counting
 mod Printing

@@ -1,5 +1,5 @@
 -- What a run with workers printed.
-use Rattle.std.proofs.Common.{◌≡◌, ℕ, List, map, refl, sym, subst}
+use Rattle.std.proofs.Common.{ℕ, List, map, refl, subst}
 use Rattle.std.specs.Prelude.{Option}
 use mathlib.Core.Bool.{Bool-set}
 use mathlib.Core.Logic.{∥∥₁_elim, ∥∥₁_map, ∥∥₁_prop}
@@ -9,13 +9,11 @@ use Rattle.sn_net.specs.declared.expr.BoxProgram.{BoxProgram}
 use Rattle.sn_net.specs.declared.net.Net.{Net}
 use Rattle.sn_net.specs.Item.{ModelItem, Rec}
 use Rattle.sn_io.specs.Told.{AppendsPrefix}
-use Rattle.sn_io.proofs.Told.{prefix_none}
 use Rattle.sn_model.specs.declared.run.Run.{Run}
-use Rattle.sn_model.specs.Meaning.{MayAnswerList, Setting, one_list}
+use Rattle.sn_model.specs.Meaning.{MayAnswerList, Setting}
 use Rattle.sn_net.specs.WellFormed.{FitsBoxes}
 use Rattle.sn_sound.proofs.Items.{typed_list_never_stuck}
-use Rattle.sn_model.specs.Run.{MayGive, boxes_of, depth_of, fuel_of, input_of, net_of}
-use Rattle.sn_model.proofs.Lists.{one_list-allowed}
+use Rattle.sn_model.specs.Run.{MayGive}
 use Rattle.sn_output.specs.Printed.{ending, printed}
 use Rattle.sn_farm.specs.Farmed.{HasPrinted as FarmHasPrinted}
 use Rattle.sn_load.specs.Load.{AreTypedRecords, Limits}
@@ -23,6 +21,7 @@ use Rattle.sn_plain.specs.Ready.{setting_at}
 use Rattle.sn_plain.specs.Runs.{ComesOut, HasBegun, HasPrinted, IsOfStream, Printout, WithWorkers, ended}
 use Rattle.sn_top.proofs.Counting.{only_one}
 use Rattle.sn_plain.specs.Seen.{Sink}
+use Rattle.sn_plain.specs.Traces.{IsRunOver}
 use Rattle.sn_plain.specs.declared.ready.Ready.{Ready}
 
 -- what comes out of a network for typed records
@@ -41,23 +40,12 @@ module _ (limits : Limits) (ready : Ready) (out : Sink) (formed : FitsBoxes read
   shown : (stream : List ModelItem) (p : Printout) → MayAnswerList (setting_at ready limits) ready.net (map Rec ready.records) stream → IsOfStream ready.names stream p → Shown p
   shown stream p may is = ∣ (stream, comes_out (setting_at ready limits) ready.net ready.records stream formed typed may, is) ∣₁
 
-  -- nothing was printed
-  pub nothing_begun : out.now ≡ out.before → HasBegun Shown out
-  nothing_begun same =
-      let stream = one_list (setting_at ready limits) ready.net (map Rec ready.records) in
-      let p : Printout = ended (printed ready.names stream) (ending stream) in
-      ∣ (
-        p,
-        shown stream p (one_list-allowed (setting_at ready limits) ready.net (map Rec ready.records)) (record { bytes_are = refl; ending_is = refl }),
-        subst (λ now. AppendsPrefix out.before now p.bytes) (sym same) (prefix_none out.before p.bytes),
-      ) ∣₁
-
   -- a run made of what is ready
-  module _ (run : Run) (net : net_of run ≡ ready.net) (boxes : boxes_of run ≡ ready.boxes) (fuel : fuel_of run ≡ limits.fuel) (depth : depth_of run ≡ limits.depth) (input : input_of run ≡ map Rec ready.records) where
+  module _ (run : Run) (over : IsRunOver (setting_at ready limits) ready.net ready.records run) where
     may_answer : (ys : List ModelItem) → MayGive run ys → MayAnswerList (setting_at ready limits) ready.net (map Rec ready.records) ys
     may_answer ys may =
         subst (λ (at : List BoxProgram × ℕ × ℕ × Net × List ModelItem). MayAnswerList (record { boxes = at.0; fuel = at.1; depth = at.2 }) at.3 at.4 ys)
-        (λ i. (boxes i, fuel i, depth i, net i, input i)) may
+        (λ i. (over.boxes_are i, over.fuel_is i, over.depth_is i, over.net_is i, over.input_is i)) may
 
     pub farm_printed : (end : Option Fault) → FarmHasPrinted ready.names run end out.before out.now → HasPrinted Shown out end
     farm_printed end has = (

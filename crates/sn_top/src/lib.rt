@@ -5,7 +5,7 @@
 mod engines;
 mod sample;
 mod serve;
-mod shared;
+mod tracing;
 mod workers;
 
 pub use serve::serve_words;

@@ -9,7 +9,6 @@ ghost use Rattle.sn_net.specs.Net.{all_deterministic};
 ghost use Rattle.sn_model.specs.Run.{given, net_of};
 ghost use Rattle.sn_counts.specs.Samples.{HasCounted, WhyNoSamples};
 
-use crate::shared::share;
 use sn_counts::{Samples, count_alone, count_items, make_samples};
 use sn_farm::farm_drive;
 use sn_graph::Graph;
@@ -20,6 +19,7 @@ use sn_model::{Outcome, Run};
 use sn_names::Names;
 use sn_net::{Claim, all_det};
 use sn_output::LineSink;
+use sn_plain::share;
 use sn_record::Fault;
 use sn_sample::Tally;
 use sn_stop::Stop;

@@ -6,12 +6,14 @@ ghost use Rattle.sn_load.specs.Load.{AreLimits, limits_of};
 ghost use Rattle.sn_plain.specs.Seen.{seen_file, seen_sink};
 ghost use Rattle.sn_plain.specs.Answer.{is_plain, seen, Finds, FindsFor, FindsSample, WhyEnded, WhyStopped, WhyUncounted, IsAnswered, HasUnread, IsCutShort, IsUnwritten, IsAnsweredFor, OfCommand, IsCutShortFor};
 ghost use Rattle.sn_plain.specs.Runs.{WithWorkers, whole};
+ghost use Rattle.sn_plain.specs.Traces.{BegunTrace, Traced};
 ghost use Rattle.sn_words.specs.Command.{IsInRange};
 ghost use Rattle.sn_words.specs.Words.{command_of};
 ghost use Rattle.sn_model.specs.Ranges.{IsWithin};
 ghost use Rattle.sn_model.specs.declared.run.TheConstants.{LONGEST_QUEUE};
 
 use crate::sample::count_sample;
+use crate::tracing::trace_with_workers;
 use crate::workers::{Setup, print_with_workers};
 use sn_io::{Files, Gate, Sink, write_whole};
 use sn_list::Seq;
@@ -41,7 +43,7 @@ fn run_with_workers<R: Threads + Wait + Sync, F: Files, O: Sink, G: Gate>(
     ensures done { OnOk result ((p : List ℕ)
         × Finds WithWorkers (limits_of setup.fuel setup.depth) (F.bytes_of files.old source_name.now) (F.bytes_of files.old input_name.now) (Ok (whole p))
         × (O.held out.new ≡ appended (O.held out.old) p)) }
-    ensures stopped { IfErr result (WhyStopped WithWorkers (limits_of setup.fuel setup.depth)
+    ensures stopped { IfErr result (WhyStopped WithWorkers WithWorkers (limits_of setup.fuel setup.depth)
         (seen_file F.bytes_of F.faults files.old files.new source_name.now)
         (seen_file F.bytes_of F.faults files.old files.new input_name.now)
         (seen_sink O.held O.faults out.old out.new)) }
@@ -51,6 +53,38 @@ fn run_with_workers<R: Threads + Wait + Sync, F: Files, O: Sink, G: Gate>(
 {
     let ready = prepare(alloc, source_name, input_name, files)?;
     match print_with_workers(rt, alloc, ready, setup, gate, out)? {
+        None => Ok(()),
+        Some(fault) => Err(Stop::Faulted(fault)),
+    }
+}
+
+/// Runs a source over the records of an input with workers, and prints the line of each event of its graph.
+fn run_traced<R: Threads + Wait + Sync, F: Files, O: Sink, G: Gate>(
+    rt: &R,
+    alloc: Global,
+    source_name: &[u8],
+    input_name: &[u8],
+    setup: Setup,
+    gate: &G,
+    files: &mut F,
+    out: &mut O,
+) -> Result<(), Stop>
+    requires limits { AreLimits (limits_of setup.fuel setup.depth) }
+    requires workers { (1 ≤ setup.workers) × (setup.workers ≤ 64) }
+    requires queue { IsWithin setup.queue LONGEST_QUEUE }
+    ensures done { OnOk result ((p : List ℕ)
+        × Finds Traced (limits_of setup.fuel setup.depth) (F.bytes_of files.old source_name.now) (F.bytes_of files.old input_name.now) (Ok (whole p))
+        × (O.held out.new ≡ appended (O.held out.old) p)) }
+    ensures stopped { IfErr result (WhyStopped Traced BegunTrace (limits_of setup.fuel setup.depth)
+        (seen_file F.bytes_of F.faults files.old files.new source_name.now)
+        (seen_file F.bytes_of F.faults files.old files.new input_name.now)
+        (seen_sink O.held O.faults out.old out.new)) }
+    ensures same { (name : List ℕ) → F.bytes_of files.new name ≡ F.bytes_of files.old name }
+    ensures later { (name : List ℕ) → F.faults files.old name ≤ F.faults files.new name }
+    ensures out_later { O.faults out.old ≤ O.faults out.new }
+{
+    let ready = prepare(alloc, source_name, input_name, files)?;
+    match trace_with_workers(rt, alloc, ready, setup, gate, out)? {
         None => Ok(()),
         Some(fault) => Err(Stop::Faulted(fault)),
     }
@@ -129,8 +163,36 @@ fn work_together<R: Threads + Wait + Sync, F: Files, O: Sink, G: Gate>(
                 out,
             )
         }
+        Command::Trace {
+            source,
+            input,
+            workers,
+            fuel,
+            depth,
+            queue,
+        } => {
+            let setup = Setup {
+                fuel: *fuel,
+                depth: *depth,
+                workers: *workers,
+                queue: *queue,
+            };
+            run_traced(
+                rt,
+                alloc,
+                source.as_slice(),
+                input.as_slice(),
+                setup,
+                gate,
+                files,
+                out,
+            )
+        }
         Command::Sample { number, count } => run_sample(rt, alloc, *number, *count, gate, out),
-        Command::Once { .. } | Command::Check { .. } | Command::Print { .. } => unreachable!(),
+        Command::Once { .. }
+        | Command::Check { .. }
+        | Command::Print { .. }
+        | Command::Replay { .. } => unreachable!(),
     }
 }
 

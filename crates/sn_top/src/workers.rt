@@ -9,12 +9,10 @@ ghost use Rattle.sn_plain.specs.Runs.{HasPrinted, WhyUnfinished, WithWorkers};
 ghost use Rattle.sn_plain.specs.Seen.{seen_sink};
 
 use crate::engines::run_together;
-use crate::shared::share;
 use sn_io::{Gate, Sink};
 use sn_list::Held;
-use sn_load::items_of;
-use sn_model::{Outcome, Run};
-use sn_plain::Ready;
+use sn_model::Outcome;
+use sn_plain::{Ready, Started, start};
 use sn_record::Fault;
 use sn_stop::Stop;
 use std::alloc::Global;
@@ -50,21 +48,9 @@ pub fn print_with_workers<R: Threads + Wait + Sync, O: Sink, G: Gate>(
     ensures ended { IfErr result (WhyUnfinished (WithWorkers (setting_at ready (limits_of setup.fuel setup.depth)) ready.net ready.records ready.names) (seen_sink O.held O.faults out.old out.new)) }
     ensures later { O.faults out.old ≤ O.faults out.new }
 {
-    let Ready {
-        net,
-        boxes,
-        records,
-        names,
-    } = ready;
-    let parts = Held {
-        value: (net, boxes),
-    };
+    let Started { run, names } = start(alloc, ready, setup.fuel, setup.depth, setup.queue)?;
     let names = Held { value: names };
-    let items = items_of(alloc, records)?;
-    let (net, boxes) = parts.into_inner();
-    let run = Run::new(net, boxes, setup.fuel, setup.depth, setup.queue, items);
-    let shared = share(alloc, run)?;
-    match run_together(rt, alloc, shared, &names.value, setup.workers, gate, out) {
+    match run_together(rt, alloc, run, &names.value, setup.workers, gate, out) {
         Outcome::Whole => Ok(None),
         Outcome::Faulted(fault) => Ok(Some(fault)),
         Outcome::WriteFault => Err(Stop::Write),

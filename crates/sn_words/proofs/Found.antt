@@ -1,6 +1,7 @@
 -- The command of what `clap` found.
-use Rattle.std.proofs.Common.{◌≡◌, ◌≢◌, ◌∙◌, ◌⊎◌, refl, sym, ap, List, [], ◌∷◌, map, Bool, true, false, true≢false, inl, inr, find, ⊎_elim}
+use Rattle.std.proofs.Common.{◌≡◌, ◌≢◌, ◌∙◌, ◌⊎◌, refl, sym, ap, List, [], ◌∷◌, map, Bool, true, false, cond, true≢false, inl, inr, find, ⊎_elim}
 use Rattle.std.specs.Prelude.{Option, Some, None, Result, Ok, Err, option_map, String, string_bytes}
+use Rattle.std.specs.Str.{bytes_eq}
 use Rattle.std.proofs.lemmas.Str.{IsUtf8-string_bytes}
 use Rattle.clap.specs.Walk.{Row, first_of, rows_of}
 use Rattle.std.specs.Box.{box_value}
@@ -15,9 +16,9 @@ use Rattle.clap.specs.declared.ArgMatches.{ArgMatches}
 use Rattle.clap.specs.declared.Error.{Error}
 use Rattle.clap.specs.declared.error.ErrorKind.TheVariants.{OutOfMemory}
 use Rattle.clap.proofs.WalkLemmas.{first_value-rows}
-use Rattle.sn_words.specs.Words.{Text, Form, Given, asked_by, command_of, need}
+use Rattle.sn_words.specs.Words.{Text, Form, Given, asked_by, command_of, forms, need}
 use Rattle.sn_words.specs.Clap.{asked_as, asked_in, look_of, program}
-use Rattle.sn_words.proofs.Leaf.{some≢none}
+use Rattle.sn_words.proofs.Leaf.{same_text, some≢none}
 use Rattle.sn_words.proofs.Rows.{rows_of_given, text_there}
 use Rattle.sn_words.proofs.Walks.{AreTexts}
 use Rattle.sn_words.proofs.Program.{Outcome, Taken, outcome, refused, taken}
@@ -61,6 +62,22 @@ none_is words e u other h = go (outcome words u)
     go : Outcome words → command_of words ≡ None
     go (taken form given t) = never (Rattle.std.proofs.Common.subst (λ kinds. HasKind kinds e) t.fine h)
     go (refused r) = r.gives
+
+-- none of the forms has the name
+abbrev pub AreOthers : Text → List Form → Type 0
+AreOthers name [] = Unit {0}
+AreOthers name (form ∷ fs) = (name ≢ form.name) × AreOthers name fs
+
+not_found : (name : Text) (fs : List Form) → AreOthers name fs → find (λ form. bytes_eq form.name name) fs ≡ None
+not_found name [] others = refl
+not_found name (form ∷ fs) others = go (bytes_eq form.name name) refl (not_found name fs others.1)
+  where
+    go : (b : Bool) → bytes_eq form.name name ≡ b → find (λ f. bytes_eq f.name name) fs ≡ None → cond b (Some form) (find (λ f. bytes_eq f.name name) fs) ≡ None
+    go true is rest = absurd (others.0 (sym (same_text form.name name is)))
+    go false is rest = rest
+
+pub none_asked : (name : Text) (look : Text → Option Text) → AreOthers name forms → asked_as name look ≡ None
+none_asked name look others = ap (λ o. need o (λ form. asked_by form look)) (not_found name forms others)
 
 pub simple : is_simple program ≡ true
 simple = refl

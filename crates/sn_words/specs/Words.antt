@@ -4,7 +4,7 @@ use Rattle.std.specs.List.{list_all, list_any, before_first, after_first}
 use Rattle.std.specs.Str.{bytes_eq, all_ascii_digits}
 use Rattle.std.specs.Str.Parse.{digits_value}
 use Rattle.sn_words.specs.declared.command.Command.{Command}
-use Rattle.sn_words.specs.declared.command.Command.TheVariants.{Run, Once, Check, Print, Sample}
+use Rattle.sn_words.specs.declared.command.Command.TheVariants.{Run, Once, Check, Print, Trace, Replay, Sample}
 
 abbrev pub Text : Type 0
 Text = List ℕ
@@ -167,6 +167,14 @@ abbrev pub makes_print : List Text → List ℕ → Option Command
 makes_print (source ∷ []) [] = Some (Print source)
 makes_print _ _ = None
 
+abbrev pub makes_trace : List Text → List ℕ → Option Command
+makes_trace (source ∷ input ∷ []) (workers ∷ fuel ∷ depth ∷ queue ∷ []) = Some (Trace source input workers fuel depth queue)
+makes_trace _ _ = None
+
+abbrev pub makes_replay : List Text → List ℕ → Option Command
+makes_replay (source ∷ input ∷ trace ∷ []) (fuel ∷ depth ∷ []) = Some (Replay source input trace fuel depth)
+makes_replay _ _ = None
+
 abbrev pub makes_sample : List Text → List ℕ → Option Command
 makes_sample (seed ∷ count ∷ []) [] =
     need (within 0 2_147_483_647 (number_of seed)) (λ n. need (within 0 50_000 (number_of count)) (λ m. Some (Sample n m)))
@@ -177,6 +185,9 @@ source_word = codes "SOURCE"
 
 abbrev pub input_word : Text
 input_word = codes "INPUT"
+
+abbrev pub trace_word : Text
+trace_word = codes "TRACE"
 
 abbrev pub seed_word : Text
 seed_word = codes "SEED"
@@ -196,11 +207,17 @@ check_form = record { name = codes "check"; words = source_word ∷ []; settings
 abbrev pub print_form : Form
 print_form = record { name = codes "print"; words = source_word ∷ []; settings = []; makes = makes_print }
 
+abbrev pub trace_form : Form
+trace_form = record { name = codes "trace"; words = source_word ∷ input_word ∷ []; settings = workers ∷ fuel ∷ depth ∷ queue ∷ []; makes = makes_trace }
+
+abbrev pub replay_form : Form
+replay_form = record { name = codes "replay"; words = source_word ∷ input_word ∷ trace_word ∷ []; settings = fuel ∷ depth ∷ []; makes = makes_replay }
+
 abbrev pub sample_form : Form
 sample_form = record { name = codes "sample"; words = seed_word ∷ count_word ∷ []; settings = []; makes = makes_sample }
 
 abbrev pub forms : List Form
-forms = run_form ∷ once_form ∷ check_form ∷ print_form ∷ sample_form ∷ []
+forms = run_form ∷ once_form ∷ check_form ∷ print_form ∷ trace_form ∷ replay_form ∷ sample_form ∷ []
 
 abbrev pub options_of : Form → List Text
 options_of form = map (λ setting. setting.name) form.settings

@@ -1,6 +1,6 @@
 //! What the words ask for.
 ghost use Rattle.std.specs.Prelude.{◌≡◌};
-ghost use Rattle.sn_words.specs.Command.{input_of, source_of};
+ghost use Rattle.sn_words.specs.Command.{input_of, source_of, trace_of};
 
 use sn_list::Memory;
 use sn_record::Text;
@@ -36,6 +36,23 @@ pub enum Command {
     Print {
         source: Text,
     },
+    /// Run the net of a source over the records of an input with workers, and print one line for each event of its graph.
+    Trace {
+        source: Text,
+        input: Text,
+        workers: u32,
+        fuel: u64,
+        depth: u32,
+        queue: u32,
+    },
+    /// Check the text of a trace event by event, and print the records that come out by it.
+    Replay {
+        source: Text,
+        input: Text,
+        trace: Text,
+        fuel: u64,
+        depth: u32,
+    },
     /// Run the built-in net over so many records that are made from a number, and print counters of what comes out.
     Sample {
         number: u32,
@@ -53,6 +70,8 @@ impl Command {
             Command::Once { source, .. } => source.as_slice(),
             Command::Check { source } => source.as_slice(),
             Command::Print { source } => source.as_slice(),
+            Command::Trace { source, .. } => source.as_slice(),
+            Command::Replay { source, .. } => source.as_slice(),
             Command::Sample { .. } => &[],
         }
     }
@@ -64,7 +83,24 @@ impl Command {
         match self {
             Command::Run { input, .. } => input.as_slice(),
             Command::Once { input, .. } => input.as_slice(),
+            Command::Trace { input, .. } => input.as_slice(),
+            Command::Replay { input, .. } => input.as_slice(),
             Command::Check { .. } | Command::Print { .. } | Command::Sample { .. } => &[],
+        }
+    }
+
+    /// The name of the trace's file, or nothing where the command reads none.
+    pub fn trace(&self) -> &[u8]
+        ensures { result.now ≡ trace_of self.now }
+    {
+        match self {
+            Command::Replay { trace, .. } => trace.as_slice(),
+            Command::Run { .. }
+            | Command::Once { .. }
+            | Command::Check { .. }
+            | Command::Print { .. }
+            | Command::Trace { .. }
+            | Command::Sample { .. } => &[],
         }
     }
 }

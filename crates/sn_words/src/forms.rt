@@ -14,6 +14,8 @@ pub(crate) const SOURCE: &str = "SOURCE";
 
 pub(crate) const INPUT: &str = "INPUT";
 
+pub(crate) const TRACE: &str = "TRACE";
+
 pub(crate) const SEED: &str = "SEED";
 
 pub(crate) const COUNT: &str = "COUNT";
@@ -110,5 +112,19 @@ pub(crate) fn program_form<'a>(alloc: Global) -> Result<Boxed<clap::Command<'a>>
     )?;
     let form = with_command(alloc, form, "check", &[SOURCE], &[])?;
     let form = with_command(alloc, form, "print", &[SOURCE], &[])?;
+    let form = with_command(
+        alloc,
+        form,
+        "trace",
+        &[SOURCE, INPUT],
+        &[WORKERS.name, FUEL.name, DEPTH.name, QUEUE.name],
+    )?;
+    let form = with_command(
+        alloc,
+        form,
+        "replay",
+        &[SOURCE, INPUT, TRACE],
+        &[FUEL.name, DEPTH.name],
+    )?;
     with_command(alloc, form, "sample", &[SEED, COUNT], &[])
 }

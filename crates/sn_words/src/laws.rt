@@ -5,7 +5,7 @@ ghost use Rattle.sn_words.specs.Command.{IsInRange};
 ghost use Rattle.sn_words.specs.Spelling.{dashed, with_value, words_of, HasNames};
 ghost use Rattle.sn_words.specs.Words.{command_by, command_of, is_equals, option, parts_of, positional, Form, Part, Text};
 ghost use Rattle.sn_words.specs.declared.command.Command.{Command as ACommand};
-ghost use Rattle.sn_words.specs.declared.command.Command.TheVariants.{Run as ARun, Once as AnOnce, Sample as ASample};
+ghost use Rattle.sn_words.specs.declared.command.Command.TheVariants.{Run as ARun, Once as AnOnce, Trace as ATrace, Replay as AReplay, Sample as ASample};
 ghost use Rattle.std.specs.Prelude.{List};
 
 /// Each command whose numbers are in range, and whose names are not empty, is the command of some words.
@@ -35,6 +35,8 @@ pub fn some_words()
     ensures given { command_of (codes "run" ∷ codes "--workers=8" ∷ codes "s" ∷ codes "--" ∷ codes "i" ∷ []) ≡ Some (ARun (codes "s") (codes "i") 8 1_000_000 1_000 16) }
     ensures between { command_of (codes "once" ∷ codes "-" ∷ codes "--fuel" ∷ codes "0000000005" ∷ codes "i" ∷ []) ≡ Some (AnOnce (codes "-") (codes "i") 5 1_000) }
     ensures dashed { command_of (codes "once" ∷ codes "--" ∷ codes "--fuel" ∷ codes "--" ∷ []) ≡ Some (AnOnce (codes "--fuel") (codes "--") 1_000_000 1_000) }
+    ensures traced { command_of (codes "trace" ∷ codes "--queue" ∷ codes "1" ∷ codes "s" ∷ codes "i" ∷ []) ≡ Some (ATrace (codes "s") (codes "i") 4 1_000_000 1_000 1) }
+    ensures replayed { command_of (codes "replay" ∷ codes "s" ∷ codes "i" ∷ codes "t" ∷ []) ≡ Some (AReplay (codes "s") (codes "i") (codes "t") 1_000_000 1_000) }
     ensures seed { command_of (codes "sample" ∷ codes "2147483647" ∷ codes "0" ∷ []) ≡ Some (ASample 2_147_483_647 0) }
 {}
 
@@ -54,4 +56,6 @@ pub fn some_other_words()
     ensures help { command_of (codes "help" ∷ []) ≡ None }
     ensures few { command_of (codes "check" ∷ []) ≡ None }
     ensures many { command_of (codes "check" ∷ codes "s" ∷ codes "t" ∷ []) ≡ None }
+    ensures untraced { command_of (codes "replay" ∷ codes "s" ∷ codes "i" ∷ []) ≡ None }
+    ensures alone { command_of (codes "replay" ∷ codes "--workers" ∷ codes "2" ∷ codes "s" ∷ codes "i" ∷ codes "t" ∷ []) ≡ None }
 {}

@@ -1,17 +1,19 @@
 //! The command of what `clap` found.
-ghost use Rattle.std.specs.Prelude.{◌≡◌, ◌≢◌, ◌≤◌, Some, None, IfOk, IfSome, map, option_map};
+ghost use Rattle.std.specs.Prelude.{◌≡◌, ◌≢◌, ◌≤◌, ◌∷◌, [], Some, None, IfOk, IfSome, map, option_map};
 ghost use Rattle.std.specs.String.{string_bytes};
 ghost use Rattle.clap.specs.Words.{kind_of, subcommand_rows_of};
 ghost use Rattle.sn_words.specs.Command.{IsInRange};
-ghost use Rattle.sn_words.specs.Words.{asked_by, command_of, number_or, positional_in, check_form, once_form, print_form, run_form, sample_form};
-ghost use Rattle.sn_words.specs.Clap.{asked_as, asked_in, look_of};
+ghost use Rattle.sn_words.specs.Words.{asked_by, command_of, number_or, positional_in, check_form, once_form, print_form, replay_form, run_form, sample_form, trace_form};
+ghost use Rattle.sn_words.specs.Clap.{asked_as, asked_in, look_of, run_arguments_in};
+ghost use Rattle.sn_words.specs.declared.command.Command.TheVariants.{Run as ARun};
 
 use crate::command::{Command, WordsFault};
-use crate::forms::{COUNT, INPUT, SEED, SOURCE, program_form};
+use crate::forms::{COUNT, INPUT, SEED, SOURCE, TRACE, program_form};
 use crate::numbers::{DEPTH, FUEL, QUEUE, Setting, WORKERS, read_number};
 use clap::ArgMatches;
 use clap::error::ErrorKind;
 use sn_list::Seq;
+use sn_record::Text;
 use std::alloc::Global;
 
 /// The most that the number of a sample may be.
@@ -44,11 +46,21 @@ fn number(given: &ArgMatches, setting: &Setting) -> Option<u64>
     }
 }
 
-/// The command `run` of what was given.
-fn make_run(alloc: Global, given: &ArgMatches) -> Result<Command, WordsFault>
-    ensures ok { IfOk result (λ command. asked_by run_form (look_of given.now) ≡ Some command) }
-    ensures usage { result ≡ Err WordsFault.Usage → asked_by run_form (look_of given.now) ≡ None }
-    ensures in_range { IfOk result IsInRange }
+/// What `run` is given, and `trace` as well.
+struct RunArguments {
+    source: Text,
+    input: Text,
+    workers: u32,
+    fuel: u64,
+    depth: u32,
+    queue: u32,
+}
+
+/// What `run` or `trace` was given.
+fn run_arguments(alloc: Global, given: &ArgMatches) -> Result<RunArguments, WordsFault>
+    ensures ok { IfOk result (λ run. run_arguments_in (look_of given.now) ≡ Some (run.source ∷ run.input ∷ [], run.workers ∷ run.fuel ∷ run.depth ∷ run.queue ∷ [])) }
+    ensures usage { result ≡ Err WordsFault.Usage → run_arguments_in (look_of given.now) ≡ None }
+    ensures in_range { IfOk result (λ run. IsInRange (ARun run.source run.input run.workers run.fuel run.depth run.queue)) }
 {
     let Some(source) = positional(given, SOURCE) else {
         return Err(WordsFault::Usage);
@@ -70,13 +82,37 @@ fn make_run(alloc: Global, given: &ArgMatches) -> Result<Command, WordsFault>
     };
     let source = Seq::from_slice(alloc, source.as_bytes())?;
     let input = Seq::from_slice(alloc, input.as_bytes())?;
-    Ok(Command::Run {
+    Ok(RunArguments {
         source,
         input,
         workers: workers as u32,
         fuel,
         depth: depth as u32,
         queue: queue as u32,
+    })
+}
+
+/// The command `run` of what was given.
+fn make_run(alloc: Global, given: &ArgMatches) -> Result<Command, WordsFault>
+    ensures ok { IfOk result (λ command. asked_by run_form (look_of given.now) ≡ Some command) }
+    ensures usage { result ≡ Err WordsFault.Usage → asked_by run_form (look_of given.now) ≡ None }
+    ensures in_range { IfOk result IsInRange }
+{
+    let RunArguments {
+        source,
+        input,
+        workers,
+        fuel,
+        depth,
+        queue,
+    } = run_arguments(alloc, given)?;
+    Ok(Command::Run {
+        source,
+        input,
+        workers,
+        fuel,
+        depth,
+        queue,
     })
 }
 
@@ -134,6 +170,63 @@ fn make_print(alloc: Global, given: &ArgMatches) -> Result<Command, WordsFault>
     Ok(Command::Print { source })
 }
 
+/// The command `trace` of what was given.
+fn make_trace(alloc: Global, given: &ArgMatches) -> Result<Command, WordsFault>
+    ensures ok { IfOk result (λ command. asked_by trace_form (look_of given.now) ≡ Some command) }
+    ensures usage { result ≡ Err WordsFault.Usage → asked_by trace_form (look_of given.now) ≡ None }
+    ensures in_range { IfOk result IsInRange }
+{
+    let RunArguments {
+        source,
+        input,
+        workers,
+        fuel,
+        depth,
+        queue,
+    } = run_arguments(alloc, given)?;
+    Ok(Command::Trace {
+        source,
+        input,
+        workers,
+        fuel,
+        depth,
+        queue,
+    })
+}
+
+/// The command `replay` of what was given.
+fn make_replay(alloc: Global, given: &ArgMatches) -> Result<Command, WordsFault>
+    ensures ok { IfOk result (λ command. asked_by replay_form (look_of given.now) ≡ Some command) }
+    ensures usage { result ≡ Err WordsFault.Usage → asked_by replay_form (look_of given.now) ≡ None }
+    ensures in_range { IfOk result IsInRange }
+{
+    let Some(source) = positional(given, SOURCE) else {
+        return Err(WordsFault::Usage);
+    };
+    let Some(input) = positional(given, INPUT) else {
+        return Err(WordsFault::Usage);
+    };
+    let Some(trace) = positional(given, TRACE) else {
+        return Err(WordsFault::Usage);
+    };
+    let Some(fuel) = number(given, &FUEL) else {
+        return Err(WordsFault::Usage);
+    };
+    let Some(depth) = number(given, &DEPTH) else {
+        return Err(WordsFault::Usage);
+    };
+    let source = Seq::from_slice(alloc, source.as_bytes())?;
+    let input = Seq::from_slice(alloc, input.as_bytes())?;
+    let trace = Seq::from_slice(alloc, trace.as_bytes())?;
+    Ok(Command::Replay {
+        source,
+        input,
+        trace,
+        fuel,
+        depth: depth as u32,
+    })
+}
+
 /// The command `sample` of what was given.
 fn make_sample(given: &ArgMatches) -> Result<Command, WordsFault>
     ensures ok { IfOk result (λ command. asked_by sample_form (look_of given.now) ≡ Some command) }
@@ -169,6 +262,8 @@ fn make_named(alloc: Global, name: &str, given: &ArgMatches) -> Result<Command, 
         "once" => make_once(alloc, given),
         "check" => make_check(alloc, given),
         "print" => make_print(alloc, given),
+        "trace" => make_trace(alloc, given),
+        "replay" => make_replay(alloc, given),
         "sample" => make_sample(given),
         _ => Err(WordsFault::Usage),
     }

@@ -1,4 +1,4 @@
-use Rattle.sn_outcomes.proofs.Done.{once_done, run_done, check_done, print_done, sample_done}
+use Rattle.sn_outcomes.proofs.Done.{once_done, run_done, trace_done, replay_done, check_done, print_done, sample_done}
 use Rattle.sn_outcomes.proofs.laws.accepted_commands_are_done.Goals as goal
 
 pub returns-clause-once : goal.returns-clause-once
@@ -15,3 +15,9 @@ returns-clause-print c = print_done
 
 pub returns-clause-sample : goal.returns-clause-sample
 returns-clause-sample c = sample_done
+
+pub returns-clause-trace : goal.returns-clause-trace
+returns-clause-trace c = trace_done
+
+pub returns-clause-replay : goal.returns-clause-replay
+returns-clause-replay c = replay_done

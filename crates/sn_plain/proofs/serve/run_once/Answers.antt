@@ -12,7 +12,7 @@ returns-in_err-ready-clause-stopped g c =
     let source : File = seen_file g.F.Files.bytes_of g.F.Files.faults c.args.files.now c.prepare.new.files c.args.source_name.now in
     let input : File = seen_file g.F.Files.bytes_of g.F.Files.faults c.args.files.now c.prepare.new.files c.args.input_name.now in
     let out : Sink = seen_sink g.O.Sink.held g.O.Sink.faults c.args.out.now c.args.out.now in
-    rw (p.1, p.2) (not_ready OnOneThread (limits_of c.args.fuel c.args.depth) source input out refl c.in_err-ready.field-0.0 c.in_err-ready.ensures.stopped)
+    rw (p.1, p.2) (not_ready OnOneThread OnOneThread (limits_of c.args.fuel c.args.depth) source input out refl c.in_err-ready.field-0.0 c.in_err-ready.ensures.stopped)
 
 pub returns-in_err-print_once-clause-stopped : goal.returns-in_err-print_once-clause-stopped
 returns-in_err-print_once-clause-stopped g c =
@@ -20,18 +20,18 @@ returns-in_err-print_once-clause-stopped g c =
     let source : File = seen_file g.F.Files.bytes_of g.F.Files.faults c.args.files.now c.prepare.new.files c.args.source_name.now in
     let input : File = seen_file g.F.Files.bytes_of g.F.Files.faults c.args.files.now c.prepare.new.files c.args.input_name.now in
     let out : Sink = seen_sink g.O.Sink.held g.O.Sink.faults c.args.out.now c.print_once.new.out in
-    rw (p.1, p.2) (not_finished OnOneThread (limits_of c.args.fuel c.args.depth) source input out c.in_ok-ready.ready c.in_ok-ready.ensures.ready c.in_err-print_once.field-0.0 c.in_err-print_once.ensures.ended)
+    rw (p.1, p.2) (not_finished OnOneThread OnOneThread (limits_of c.args.fuel c.args.depth) source input out c.in_ok-ready.ready c.in_ok-ready.ensures.ready c.in_err-print_once.field-0.0 c.in_err-print_once.ensures.ended)
 
 pub returns-in-None-clause-done : goal.returns-in-None-clause-done
 returns-in-None-clause-done g c =
     let source : File = seen_file g.F.Files.bytes_of g.F.Files.faults c.args.files.now c.prepare.new.files c.args.source_name.now in
     let input : File = seen_file g.F.Files.bytes_of g.F.Files.faults c.args.files.now c.prepare.new.files c.args.input_name.now in
     let out : Sink = seen_sink g.O.Sink.held g.O.Sink.faults c.args.out.now c.print_once.new.out in
-    finds_printed OnOneThread (limits_of c.args.fuel c.args.depth) source input out c.in_ok-ready.ready c.in_ok-ready.ensures.ready c.in_ok-print_once.field-0 None c.in_ok-print_once.ensures.done c.in-None.is
+    finds_printed OnOneThread OnOneThread (limits_of c.args.fuel c.args.depth) source input out c.in_ok-ready.ready c.in_ok-ready.ensures.ready c.in_ok-print_once.field-0 None c.in_ok-print_once.ensures.done c.in-None.is
 
 pub returns-in-Some-clause-stopped : goal.returns-in-Some-clause-stopped
 returns-in-Some-clause-stopped g c =
     let source : File = seen_file g.F.Files.bytes_of g.F.Files.faults c.args.files.now c.prepare.new.files c.args.source_name.now in
     let input : File = seen_file g.F.Files.bytes_of g.F.Files.faults c.args.files.now c.prepare.new.files c.args.input_name.now in
     let out : Sink = seen_sink g.O.Sink.held g.O.Sink.faults c.args.out.now c.print_once.new.out in
-    finds_printed OnOneThread (limits_of c.args.fuel c.args.depth) source input out c.in_ok-ready.ready c.in_ok-ready.ensures.ready c.in_ok-print_once.field-0 (Some c.in-Some.fault) c.in_ok-print_once.ensures.done c.in-Some.is
+    finds_printed OnOneThread OnOneThread (limits_of c.args.fuel c.args.depth) source input out c.in_ok-ready.ready c.in_ok-ready.ensures.ready c.in_ok-print_once.field-0 (Some c.in-Some.fault) c.in_ok-print_once.ensures.done c.in-Some.is

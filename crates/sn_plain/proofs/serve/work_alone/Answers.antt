@@ -28,3 +28,15 @@ returns-in-Print-clause-stopped g c =
     let file : List ℕ → File = seen_file g.F.Files.bytes_of g.F.Files.faults c.args.files.now c.run_print.new.files in
     let out : Sink = seen_sink g.O.Sink.held g.O.Sink.faults c.args.out.now c.run_print.new.out in
     subst (λ (command : Command). IfErr c.run_print.result (WhyEnded command file out)) (sym c.in-Print.is) (rw c.as_slice-in-Print.ensures at c.run_print.ensures.stopped)
+
+pub run_replay-requires : goal.run_replay-requires
+run_replay-requires g c =
+    let numbers = subst IsInRange c.in-Replay.is c.requires.numbers in
+    record { fuel = record { some = numbers.0; few = numbers.1 }; depth = record { some = numbers.2; few = numbers.3 } }
+
+pub returns-in-Replay-clause-stopped : goal.returns-in-Replay-clause-stopped
+returns-in-Replay-clause-stopped g c =
+    let file : List ℕ → File = seen_file g.F.Files.bytes_of g.F.Files.faults c.args.files.now c.run_replay.new.files in
+    let out : Sink = seen_sink g.O.Sink.held g.O.Sink.faults c.args.out.now c.run_replay.new.out in
+    subst (λ (command : Command). IfErr c.run_replay.result (WhyEnded command file out)) (sym c.in-Replay.is)
+    (rw (c.as_slice-in-Replay.ensures, c.as_slice-in-Replay-2.ensures, c.as_slice-in-Replay-3.ensures) at c.run_replay.ensures.stopped)

@@ -23,6 +23,21 @@ run_with_workers-requires-clause-queue g c κs within =
     let numbers = subst IsInRange c.in-Run.is c.requires.numbers in
     record { some = numbers.6; few = numbers.7 }
 
+pub run_traced-requires-clause-limits : goal.run_traced-requires-clause-limits
+run_traced-requires-clause-limits g c κs within =
+    let numbers = subst IsInRange c.in-Trace.is c.requires.numbers in
+    record { fuel = record { some = numbers.2; few = numbers.3 }; depth = record { some = numbers.4; few = numbers.5 } }
+
+pub run_traced-requires-clause-workers : goal.run_traced-requires-clause-workers
+run_traced-requires-clause-workers g c κs within =
+    let numbers = subst IsInRange c.in-Trace.is c.requires.numbers in
+    (numbers.0, numbers.1)
+
+pub run_traced-requires-clause-queue : goal.run_traced-requires-clause-queue
+run_traced-requires-clause-queue g c κs within =
+    let numbers = subst IsInRange c.in-Trace.is c.requires.numbers in
+    record { some = numbers.6; few = numbers.7 }
+
 pub returns-in-Sample-clause-done : goal.returns-in-Sample-clause-done
 returns-in-Sample-clause-done g c =
     let file : List ℕ → File = seen_file g.F.Files.bytes_of g.F.Files.faults c.args.files.now c.args.files.now in
@@ -40,3 +55,9 @@ returns-in-Run-clause-stopped g c =
     let file : List ℕ → File = seen_file g.F.Files.bytes_of g.F.Files.faults c.args.files.now c.run_with_workers.new.files in
     let out : Sink = seen_sink g.O.Sink.held g.O.Sink.faults c.args.out.now c.run_with_workers.new.out in
     subst (λ (command : Command). IfErr c.run_with_workers.result (WhyEnded command file out)) (sym c.in-Run.is) (rw (c.as_slice.ensures, c.as_slice-in-Run.ensures) at c.run_with_workers.ensures.stopped)
+
+pub returns-in-Trace-clause-stopped : goal.returns-in-Trace-clause-stopped
+returns-in-Trace-clause-stopped g c =
+    let file : List ℕ → File = seen_file g.F.Files.bytes_of g.F.Files.faults c.args.files.now c.run_traced.new.files in
+    let out : Sink = seen_sink g.O.Sink.held g.O.Sink.faults c.args.out.now c.run_traced.new.out in
+    subst (λ (command : Command). IfErr c.run_traced.result (WhyEnded command file out)) (sym c.in-Trace.is) (rw (c.as_slice-in-Trace.ensures, c.as_slice-in-Trace-2.ensures) at c.run_traced.ensures.stopped)
