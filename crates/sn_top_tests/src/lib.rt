@@ -15,4 +15,6 @@ mod together;
 #[cfg(test)]
 mod top;
 #[cfg(test)]
+mod traced;
+#[cfg(test)]
 mod words;
