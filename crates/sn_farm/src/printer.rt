@@ -48,9 +48,11 @@ impl<S: Sink> Watcher for Printer<'_, S> {
         }
     }
 
-    ghost stays = { watching.stays S.held S.faults };
+    fn idle(&mut self, _alloc: Global) -> Turn {
+        Turn::Idle
+    }
 
-    ghost waits = { watching.waits S.held S.faults };
+    ghost stays = { watching.stays S.held S.faults };
 
     ghost gives_up = { watching.gives_up S.held S.faults };
 

@@ -20,7 +20,7 @@ use std::alloc::Global;
 use std::sync::Wait;
 use std::thread::Threads;
 
-/// Runs a network over its records with workers, of which the calling thread is one. It prints the line of each event of its graph as it happens,
+/// Runs a network over its records with workers, of which the calling thread is one. It prints the line of each event of its graph,
 /// and answers the fault that ends the run.
 pub fn trace_with_workers<R: Threads + Wait + Sync, O: Sink, G: Gate>(
     rt: &R,

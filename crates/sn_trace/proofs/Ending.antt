@@ -5,7 +5,7 @@ use Rattle.std.specs.List.{list_any}
 use Rattle.sn_record.specs.Record.{Entries}
 use Rattle.sn_record.specs.declared.item.Fault.{Fault as FaultAt}
 use Rattle.sn_net.specs.Item.{Rec, Fault}
-use Rattle.sn_io.specs.Told.{appended}
+use Rattle.sn_io.specs.Told.{AppendsPrefix, appended}
 use Rattle.sn_io.proofs.Told.{prefix_none}
 use Rattle.sn_output.specs.Printed.{ending}
 use Rattle.sn_model.specs.declared.run.Run.{Run}
@@ -18,7 +18,7 @@ use Rattle.sn_replay.specs.Replays.{Accepts}
 use Rattle.sn_turns.specs.declared.turn.Turn.TheVariants.{Ended}
 use Rattle.sn_model.specs.declared.outcome.Outcome.{Outcome}
 use Rattle.sn_model.specs.declared.outcome.Outcome.TheVariants.{Whole, Faulted, WriteFault, Memory}
-use Rattle.sn_trace.specs.Traced.{AreRecords, Goes, Held, WritesPart}
+use Rattle.sn_trace.specs.Traced.{AreRecords, Carries, Goes, Held}
 use Rattle.sn_trace.specs.Written.{HasTrace, HasTracePart}
 
 none_ends : (records : List Entries) → ending (map Rec records) ≡ None
@@ -33,7 +33,16 @@ faulty : (records : List Entries) (fault : FaultAt) → list_any is_fault (map R
 faulty [] fault = refl
 faulty (r ∷ records) fault = faulty records fault
 
-module _ (run : Run) (g : View) (a : Held) (h : View) (b : Held) (start : g ≡ start_view run) where
+-- nothing was kept at first
+module _ (a b : Held) (text : List ℕ) (none : a.kept ≡ []) where
+  part_of : (rest : List ℕ) → Carries a b text rest → AppendsPrefix a.bytes b.bytes text
+  part_of rest carries = record { piece = carries.piece; rest = b.kept ++ rest; whole = carries.whole ∙ ap (λ xs. xs ++ text) none; held = carries.held }
+
+  -- and at last
+  all_of : b.kept ≡ [] → Carries a b text [] → b.bytes ≡ appended a.bytes text
+  all_of last carries = carries.held ∙ ap (appended a.bytes) (sym (append-nil carries.piece) ∙ ap (λ xs. carries.piece ++ (xs ++ [])) (sym last) ∙ carries.whole ∙ ap (λ xs. xs ++ text) none)
+
+module _ (run : Run) (g : View) (a : Held) (h : View) (b : Held) (start : g ≡ start_view run) (none : a.kept ≡ []) where
   fresh : AreRecords g.out
   fresh = ([], ap (λ (v : View). v.out) start)
 
@@ -43,39 +52,35 @@ module _ (run : Run) (g : View) (a : Held) (h : View) (b : Held) (start : g ≡ 
   accepts : (lines : List Line) → AreLines lines → Leads g lines h → Accepts run (texts_of lines) lines [] h
   accepts lines are leads = record { front = record { are_lines = are; text_is = sym (append-nil (texts_of lines)) }; leads = from_start lines leads }
 
-  part_of : WritesPart g a h b → HasTracePart run a.bytes b.bytes
-  part_of w = record { lines = w.lines; are_lines = w.are_lines; last = h; leads = from_start w.lines w.leads; part = w.held }
-
-  whole_part : (lines : List Line) → AreLines lines → Leads g lines h → b.bytes ≡ appended a.bytes (texts_of lines) → HasTracePart run a.bytes b.bytes
-  whole_part lines are leads held =
-      record { lines = lines; are_lines = are; last = h; leads = from_start lines leads; part = record { piece = texts_of lines; rest = []; whole = append-nil (texts_of lines); held = held } }
+  part : (lines : List Line) (rest : List ℕ) → AreLines lines → Leads g lines h → Carries a b (texts_of lines) rest → HasTracePart run a.bytes b.bytes
+  part lines rest are leads carries = record { lines = lines; are_lines = are; last = h; leads = from_start lines leads; part = part_of a b (texts_of lines) none rest carries }
 
   pub trace_part : (outcome : Outcome) → Goes g a h b (Ended outcome) → HasTracePart run a.bytes b.bytes
-  trace_part Whole goes = let w = (goes.turns fresh).1 in whole_part w.lines w.are_lines w.leads w.held
-  trace_part (Faulted fault) goes = let w = goes.turns fresh in whole_part w.lines w.are_lines w.leads w.held
-  trace_part WriteFault goes = part_of (goes.turns fresh).1
-  trace_part Memory goes = part_of (goes.turns fresh)
+  trace_part Whole goes = let w = (goes.turns fresh).1 in part w.lines [] w.are_lines w.leads w.carries
+  trace_part (Faulted fault) goes = let w = goes.turns fresh in part w.lines [] w.are_lines w.leads w.carries
+  trace_part WriteFault goes = let w = (goes.turns fresh).1 in part w.lines w.rest w.are_lines w.leads w.carries
+  trace_part Memory goes = let w = goes.turns fresh in part w.lines w.rest w.are_lines w.leads w.carries
 
-  pub trace_whole : (outcome : Outcome) → outcome ≡ Whole → Goes g a h b (Ended outcome) → HasTrace run a.bytes b.bytes None
-  trace_whole outcome is goes =
+  pub trace_whole : b.kept ≡ [] → (outcome : Outcome) → outcome ≡ Whole → Goes g a h b (Ended outcome) → HasTrace run a.bytes b.bytes None
+  trace_whole last outcome is goes =
       let (over, w) = (subst (λ (o : Outcome). Goes g a h b (Ended o)) is goes).turns fresh in
       record {
         text = texts_of w.lines;
         items = h.out;
         replays = record { lines = w.lines; last = h; accepts = accepts w.lines w.are_lines w.leads; ends = inl over.rest; out = refl };
         ends = ap ending w.records.1 ∙ none_ends w.records.0;
-        all = w.held;
+        all = all_of a b (texts_of w.lines) none last w.carries;
       }
 
-  pub trace_faulted : (outcome : Outcome) (fault : FaultAt) → outcome ≡ Faulted fault → Goes g a h b (Ended outcome) → HasTrace run a.bytes b.bytes (Some fault)
-  trace_faulted outcome fault is goes =
+  pub trace_faulted : b.kept ≡ [] → (outcome : Outcome) (fault : FaultAt) → outcome ≡ Faulted fault → Goes g a h b (Ended outcome) → HasTrace run a.bytes b.bytes (Some fault)
+  trace_faulted last outcome fault is goes =
       let w = (subst (λ (o : Outcome). Goes g a h b (Ended o)) is goes).turns fresh in
       record {
         text = texts_of w.lines;
         items = h.out;
         replays = record { lines = w.lines; last = h; accepts = accepts w.lines w.are_lines w.leads; ends = inr (ap (list_any is_fault) w.out ∙ faulty w.records fault); out = refl };
         ends = ap ending w.out ∙ fault_ends w.records fault;
-        all = w.held;
+        all = all_of a b (texts_of w.lines) none last w.carries;
       }
 
 pub untraced : (run : Run) (held : Option (List ℕ)) → HasTracePart run held held

@@ -4,7 +4,7 @@ use Rattle.sn_record.specs.Record.{Entries}
 use Rattle.sn_record.specs.declared.item.Fault.{Fault as FaultAt}
 use Rattle.sn_net.specs.Item.{ModelItem, Rec, Fault}
 use Rattle.sn_io.specs.Causes.{Rose}
-use Rattle.sn_io.specs.Told.{AppendsPrefix, appended}
+use Rattle.sn_io.specs.Told.{appended}
 use Rattle.sn_view.specs.View.{View}
 use Rattle.sn_trace_lines.specs.Lines.{AreLines, texts_of}
 use Rattle.sn_trace_lines.specs.declared.line.Line.{Line}
@@ -19,19 +19,26 @@ use Rattle.sn_model.specs.declared.outcome.Outcome.TheVariants.{Whole, Faulted, 
 abbrev pub AreRecords : List ModelItem → Type 0
 AreRecords items = (records : List Entries) × (items ≡ map Rec records)
 
--- what a sink holds, and its count of faults
+-- what a sink holds, the lines that are kept for it, and its count of faults
 pub record Held : Type 0 where
   pub bytes : Option (List ℕ)
+  pub kept : List ℕ
   pub faults : ℕ
 
+-- Of what was kept and then of a text a first piece went to the sink, the next is kept, and the rest is neither written nor kept.
+pub record Carries (before now : Held) (text rest : List ℕ) : Type 0 where
+  pub piece : List ℕ
+  pub held : now.bytes ≡ appended before.bytes piece
+  pub whole : piece ++ (now.kept ++ rest) ≡ before.kept ++ text
+
 module _ (old : View) (before : Held) (new : View) (now : Held) where
-  -- lines lead there, and were written
+  -- lines lead there, and each was written or is kept
   pub record Writes : Type 0 where
     pub lines : List Line
     pub are_lines : AreLines lines
     pub leads : Leads old lines new
     pub records : AreRecords new.out
-    pub held : now.bytes ≡ appended before.bytes (texts_of lines)
+    pub carries : Carries before now (texts_of lines) []
 
   -- by the last of them this fault came out
   pub record WritesUpTo (fault : FaultAt) : Type 0 where
@@ -40,14 +47,15 @@ module _ (old : View) (before : Held) (new : View) (now : Held) where
     pub leads : Leads old lines new
     pub records : List Entries
     pub out : new.out ≡ map Rec records ++ Fault fault ∷ []
-    pub held : now.bytes ≡ appended before.bytes (texts_of lines)
+    pub carries : Carries before now (texts_of lines) []
 
-  -- of them some first bytes were written
+  -- of them some first bytes were written or are kept
   pub record WritesPart : Type 0 where
     pub lines : List Line
     pub are_lines : AreLines lines
     pub leads : Leads old lines new
-    pub held : AppendsPrefix before.bytes now.bytes (texts_of lines)
+    pub rest : List ℕ
+    pub carries : Carries before now (texts_of lines) rest
 
   abbrev pub EndsAs : Outcome → Type 0
   EndsAs Whole = IsOver new × Writes

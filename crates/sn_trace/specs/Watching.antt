@@ -1,12 +1,12 @@
 -- How turns of a run that is traced follow each other.
-use Rattle.std.proofs.Common.{◌≡◌, ◌≤◌, ℕ, List, [], ◌∷◌, ◌++◌, refl, sym, ap, ◌∙◌, subst, arith, append_assoc}
+use Rattle.std.proofs.Common.{◌≡◌, ◌≤◌, ℕ, List, [], ◌∷◌, ◌++◌, refl, sym, ap, ◌∙◌, subst, arith, append-nil, append_assoc}
 use Rattle.std.specs.Prelude.{Option}
 use Rattle.sn_record.specs.declared.item.Fault.{Fault as FaultAt}
 use Rattle.sn_record.specs.declared.item.Item.{Item}
 use Rattle.sn_record.specs.declared.item.Item.TheVariants as item
 use Rattle.sn_io.specs.Causes.{Rose}
-use Rattle.sn_io.specs.Told.{AppendsPrefix, appended}
-use Rattle.sn_io.proofs.Told.{appended_none, appended_twice, prefix_after}
+use Rattle.sn_io.specs.Told.{appended}
+use Rattle.sn_io.proofs.Told.{appended_none, appended_twice}
 use Rattle.sn_view.specs.Placed.{AtRest}
 use Rattle.sn_view.specs.View.{View}
 use Rattle.sn_graph.specs.declared.event.Effect.{Effect}
@@ -19,7 +19,7 @@ use Rattle.sn_turns.specs.declared.turn.Turn.{Turn}
 use Rattle.sn_turns.specs.declared.turn.Turn.TheVariants.{Went, Idle, Ended}
 use Rattle.sn_model.specs.declared.outcome.Outcome.{Outcome}
 use Rattle.sn_model.specs.declared.outcome.Outcome.TheVariants.{Whole, Faulted, WriteFault, Memory}
-use Rattle.sn_trace.specs.Traced.{AreRecords, EndsAs, Goes, Held, TurnsAs, Writes, WritesPart, WritesUpTo}
+use Rattle.sn_trace.specs.Traced.{AreRecords, Carries, EndsAs, Goes, Held, TurnsAs, Writes, WritesPart, WritesUpTo}
 use Rattle.sn_trace.specs.declared.sink.TraceSink.{TraceSink}
 
 -- what comes of an event whose line was written: a fault ends the run
@@ -45,11 +45,24 @@ pub are_then : (ls ks : List Line) → AreLines ls → AreLines ks → AreLines 
 are_then [] ks a b = b
 are_then (l ∷ ls) ks a b = (a.0, are_then ls ks a.1 b)
 
+-- what is carried behind what was carried whole
+pub carries_then : (a b c : Held) (xs ys rest : List ℕ) → Carries a b xs [] → Carries b c ys rest → Carries a c (xs ++ ys) rest
+carries_then a b c xs ys rest first second = record {
+  piece = first.piece ++ second.piece;
+  held = second.held ∙ ap (λ bytes. appended bytes second.piece) first.held ∙ appended_twice a.bytes first.piece second.piece;
+  whole =
+      append_assoc first.piece second.piece (c.kept ++ rest)
+      ∙ ap (λ zs. first.piece ++ zs) second.whole
+      ∙ sym (append_assoc first.piece b.kept ys)
+      ∙ ap (λ zs. (first.piece ++ zs) ++ ys) (sym (append-nil b.kept))
+      ∙ ap (λ zs. zs ++ ys) first.whole
+      ∙ append_assoc a.kept xs ys;
+}
+
 -- one turn more
 module _ (g : View) (a : Held) (h : View) (b : Held) (i : View) (c : Held) (w : Writes g a h b) where
-  held_then : (ks : List Line) → c.bytes ≡ appended b.bytes (texts_of ks) → c.bytes ≡ appended a.bytes (texts_of (w.lines ++ ks))
-  held_then ks held =
-      held ∙ ap (λ bytes. appended bytes (texts_of ks)) w.held ∙ appended_twice a.bytes (texts_of w.lines) (texts_of ks) ∙ ap (appended a.bytes) (sym (texts_then w.lines ks))
+  held_then : (ks : List Line) (rest : List ℕ) → Carries b c (texts_of ks) rest → Carries a c (texts_of (w.lines ++ ks)) rest
+  held_then ks rest more = subst (λ text. Carries a c text rest) (sym (texts_then w.lines ks)) (carries_then a b c (texts_of w.lines) (texts_of ks) rest w.carries more)
 
   writes_then : Writes h b i c → Writes g a i c
   writes_then v = record {
@@ -57,7 +70,7 @@ module _ (g : View) (a : Held) (h : View) (b : Held) (i : View) (c : Held) (w : 
     are_lines = are_then w.lines v.lines w.are_lines v.are_lines;
     leads = leads_then w.lines v.lines g h i w.leads v.leads;
     records = v.records;
-    held = held_then v.lines v.held;
+    carries = held_then v.lines [] v.carries;
   }
 
   up_to_then : (fault : FaultAt) → WritesUpTo h b i c fault → WritesUpTo g a i c fault
@@ -67,7 +80,7 @@ module _ (g : View) (a : Held) (h : View) (b : Held) (i : View) (c : Held) (w : 
     leads = leads_then w.lines v.lines g h i w.leads v.leads;
     records = v.records;
     out = v.out;
-    held = held_then v.lines v.held;
+    carries = held_then v.lines [] v.carries;
   }
 
   part_then : WritesPart h b i c → WritesPart g a i c
@@ -75,7 +88,8 @@ module _ (g : View) (a : Held) (h : View) (b : Held) (i : View) (c : Held) (w : 
     lines = w.lines ++ v.lines;
     are_lines = are_then w.lines v.lines w.are_lines v.are_lines;
     leads = leads_then w.lines v.lines g h i w.leads v.leads;
-    held = subst (AppendsPrefix a.bytes c.bytes) (sym (texts_then w.lines v.lines)) (prefix_after a.bytes b.bytes c.bytes (texts_of w.lines) (texts_of v.lines) w.held v.held);
+    rest = v.rest;
+    carries = held_then v.lines v.rest v.carries;
   }
 
   ends_then : a.faults ≤ b.faults → (outcome : Outcome) → EndsAs h b i c outcome → EndsAs g a i c outcome
@@ -93,15 +107,29 @@ module _ (g : View) (a : Held) (h : View) (b : Held) (i : View) (c : Held) (w : 
   turns_then later (Ended outcome) v = ends_then later outcome v
 
 module _ (g : View) (a : Held) where
+  none : Carries a a [] []
+  none = record { piece = []; held = sym (appended_none a.bytes); whole = refl }
+
   silent : AreRecords g.out → Writes g a g a
-  silent records = record { lines = []; are_lines = tt; leads = refl; records = records; held = sym (appended_none a.bytes) }
+  silent records = record { lines = []; are_lines = tt; leads = refl; records = records; carries = none }
 
   silent_part : WritesPart g a g a
-  silent_part = record { lines = []; are_lines = tt; leads = refl; held = record { piece = []; rest = []; whole = refl; held = sym (appended_none a.bytes) } }
+  silent_part = record { lines = []; are_lines = tt; leads = refl; rest = []; carries = none }
+
+  -- WHAT WAS KEPT IS WRITTEN
+  module _ (b : Held) where
+    flushed : AreRecords g.out → Carries a b [] [] → Writes g a g b
+    flushed records carries = record { lines = []; are_lines = tt; leads = refl; records = records; carries = carries }
+
+    flushed_part : ((rest : List ℕ) × Carries a b [] rest) → WritesPart g a g b
+    flushed_part (rest, carries) = record { lines = []; are_lines = tt; leads = refl; rest = rest; carries = carries }
 
 -- WHAT THE WATCHER KEEPS
 abbrev pub state : {S : Type 0} → (S → Option (List ℕ)) → (S → ℕ) → TraceSink S → Held
-state held faults w = record { bytes = held w.sink.now; faults = faults w.sink.now }
+state held faults w = record { bytes = held w.sink.now; kept = w.kept.now; faults = faults w.sink.now }
+
+abbrev pub Took : {S : Type 0} → (S → Option (List ℕ)) → (S → ℕ) → TraceSink S → TraceSink S → List ℕ → List ℕ → Type 0
+Took held faults w v text rest = Carries (state held faults w) (state held faults v) text rest
 
 pub record Watched {S : Type 0} (held : S → Option (List ℕ)) (faults : S → ℕ) (g : View) (w : TraceSink S) (h : View) (v : TraceSink S) (turn : Turn) : Type 0 where
   pub turns : Goes g (state held faults w) h (state held faults v) turn
@@ -117,8 +145,12 @@ module _ {S : Type 0} (held : S → Option (List ℕ)) (faults : S → ℕ) wher
   pub stays : (g : View) (w : TraceSink S) → Watched held faults g w g w Went
   stays g w = record { turns = record { later = even (faults w.sink.now); turns = silent g (state held faults w) }; same_sink = refl }
 
-  pub waits : (g : View) (w : TraceSink S) → Watched held faults g w g w Idle
-  waits g w = record { turns = record { later = even (faults w.sink.now); turns = silent g (state held faults w) }; same_sink = refl }
+  pub waits : (g : View) (w v : TraceSink S) → Took held faults w v [] [] → faults w.sink.now ≤ faults v.sink.now → v.sink.ghost_name ≡ w.sink.ghost_name → Watched held faults g w g v Idle
+  waits g w v took later same = record { turns = record { later = later; turns = λ records. flushed g (state held faults w) (state held faults v) records took }; same_sink = same }
+
+  pub waits_no_more : (g : View) (w v : TraceSink S) → ((rest : List ℕ) × Took held faults w v [] rest) → faults w.sink.now ≤ faults v.sink.now → Rose (faults w.sink.now) (faults v.sink.now) → v.sink.ghost_name ≡ w.sink.ghost_name
+      → Watched held faults g w g v (Ended WriteFault)
+  waits_no_more g w v took later rose same = record { turns = record { later = later; turns = λ records. (rose, flushed_part g (state held faults w) (state held faults v) took) }; same_sink = same }
 
   pub gives_up : (g : View) (w : TraceSink S) → (AtRest g → ⊥) → Watched held faults g w g w (Ended Memory)
   gives_up g w unrested = record { turns = record { later = even (faults w.sink.now); turns = λ records. silent_part g (state held faults w) }; same_sink = refl }

@@ -1,4 +1,4 @@
-//! Traces of runs with workers: a line for each event, as it happens.
+//! Traces of runs with workers: a line for each event, in the order in which they happened.
 #![tactic(auto)]
 
 mod sink;

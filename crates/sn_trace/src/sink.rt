@@ -1,13 +1,15 @@
 //! Lines of events, written to a sink.
-ghost use Rattle.std.specs.Prelude.{◌≡◌, ◌≤◌, IfErr, OnOk};
-ghost use Rattle.sn_io.specs.Causes.{Rose};
-ghost use Rattle.sn_io.specs.Told.{AppendsPrefix, appended};
+ghost use Rattle.std.specs.Prelude.{◌≡◌, ◌≤◌, ℕ, List, [], IfErr, OnErr, OnOk};
+ghost use Rattle.sn_io.specs.Causes.{HasCause, Rose};
 ghost use Rattle.sn_output.specs.declared.line_sink.LineFault.TheVariants as cause;
+ghost use Rattle.sn_turns.specs.declared.turn.Turn.TheVariants as turn;
 ghost use Rattle.sn_trace_lines.specs.Lines.{text_of};
-ghost use Rattle.sn_trace.specs.Watching.{ends_as};
+ghost use Rattle.sn_view.specs.View.{View};
+ghost use Rattle.sn_trace.specs.Traced.{Goes, Held};
+ghost use Rattle.sn_trace.specs.Watching.{Took, ends_as, state};
 
 use sn_graph::Effect;
-use sn_io::{Sink, write_whole};
+use sn_io::{Sink, WriteFault, write_whole};
 use sn_list::Seq;
 use sn_model::Outcome;
 use sn_output::LineFault;
@@ -17,38 +19,79 @@ use sn_turns::{Turn, Watcher};
 use std::alloc::Global;
 use std::mem::replace;
 
-/// A sink to which the line of each event is written.
+/// How many bytes of lines are kept before they are written.
+pub const ROOM: usize = 8192;
+
+/// The longest line merges from a child: two numbers of twenty digits.
+const LONGEST_LINE: usize = 48;
+
+/// A sink to which the lines of events are written, many at a time.
 #[derive(Drop)]
 pub struct TraceSink<'a, S> {
     pub sink: &'a mut S,
-    /// The line that was written last, in whose room the next one is made.
-    pub line: &'a mut Seq<u8>,
+    /// The lines that are not written yet, in room for `ROOM` bytes.
+    pub kept: &'a mut Seq<u8>,
 }
 
 impl<S: Sink> TraceSink<'_, S> {
-    /// Writes a line, which is made whole before any of it is written.
-    fn write(&mut self, alloc: Global, line: Line) -> Result<(), LineFault>
-        ensures whole { OnOk result (S.held self.new.sink.now ≡ appended (S.held self.old.sink.now) (text_of line)) }
-        ensures part { IfErr result (λ fault. fault ≡ cause.WriteFault → AppendsPrefix (S.held self.old.sink.now) (S.held self.new.sink.now) (text_of line)) }
+    /// Keeps no line any more.
+    fn forget(&mut self, alloc: Global)
+        ensures none { self.new.kept.now ≡ [] }
+        ensures sink { self.new.sink ≡ self.old.sink }
+    {
+        let mut room = replace(self.kept, Seq::new(alloc)).into_vec();
+        room.clear();
+        *self.kept = Seq::from_vec(room);
+    }
+
+    /// Writes the lines that are kept. Then none are, whether they were written or not.
+    fn flush(&mut self, alloc: Global) -> Result<(), WriteFault>
+        ensures whole { OnOk result (Took S.held S.faults self.old self.new [] []) }
+        ensures part { OnErr result ((rest : List ℕ) × Took S.held S.faults self.old self.new [] rest) }
+        ensures none { self.new.kept.now ≡ [] }
+        ensures cause { HasCause (S.faults self.old.sink.now) (S.faults self.new.sink.now) result }
+        ensures same_sink { self.new.sink.ghost_name ≡ self.old.sink.ghost_name }
+    {
+        let written = write_whole(self.sink, self.kept.as_slice());
+        self.forget(alloc);
+        written
+    }
+
+    /// Keeps a line. Where the next might not fit, those that are kept are written. As there is room for a line, memory is not wanted.
+    fn keep(&mut self, alloc: Global, line: Line) -> Result<(), LineFault>
+        ensures whole { OnOk result (Took S.held S.faults self.old self.new (text_of line) []) }
+        ensures part { OnErr result ((rest : List ℕ) × Took S.held S.faults self.old self.new (text_of line) rest) }
         ensures rose { IfErr result (λ fault. fault ≡ cause.WriteFault → Rose (S.faults self.old.sink.now) (S.faults self.new.sink.now)) }
-        ensures nothing { IfErr result (λ fault. fault ≡ cause.Memory → S.held self.new.sink.now ≡ S.held self.old.sink.now) }
         ensures later { S.faults self.old.sink.now ≤ S.faults self.new.sink.now }
         ensures same_sink { self.new.sink.ghost_name ≡ self.old.sink.ghost_name }
     {
-        let mut room = replace(self.line, Seq::new(alloc)).into_vec();
-        room.clear();
-        *self.line = Seq::from_vec(room);
-        if push_line(self.line, line).is_err() {
+        if push_line(self.kept, line).is_err() {
+            self.forget(alloc);
             return Err(LineFault::Memory);
         }
-        match write_whole(self.sink, self.line.as_slice()) {
+        if self.kept.len() <= ROOM - LONGEST_LINE {
+            return Ok(());
+        }
+        match self.flush(alloc) {
             Ok(()) => Ok(()),
-            Err(_) => Err(LineFault::WriteFault),
+            Err(WriteFault) => Err(LineFault::WriteFault),
+        }
+    }
+
+    /// Writes the lines that are kept at the end of a run, and answers how it ended then.
+    pub fn end(&mut self, alloc: Global, outcome: Outcome) -> Outcome
+        ensures ends { (g h : View) (a : Held) → Goes g a h (state S.held S.faults self.old) (turn.Ended outcome) → Goes g a h (state S.held S.faults self.new) (turn.Ended result) }
+        ensures none { self.new.kept.now ≡ [] }
+        ensures same_sink { self.new.sink.ghost_name ≡ self.old.sink.ghost_name }
+    {
+        match self.flush(alloc) {
+            Ok(()) => outcome,
+            Err(WriteFault) => Outcome::WriteFault,
         }
     }
 }
 
-/// What comes of an event whose line was written: a fault ends the run.
+/// What comes of an event whose line is kept: a fault ends the run.
 fn after(effect: &Effect) -> Turn
     ensures { result ≡ ends_as effect.now }
 {
@@ -64,16 +107,21 @@ impl<S: Sink> Watcher for TraceSink<'_, S> {
     ghost goes = { λ g w h v turn. watching.Watched S.held S.faults g w h v turn };
 
     fn tell(&mut self, alloc: Global, line: Line, effect: &Effect) -> Turn {
-        match self.write(alloc, line) {
+        match self.keep(alloc, line) {
             Ok(()) => after(effect),
             Err(LineFault::WriteFault) => Turn::Ended(Outcome::WriteFault),
             Err(LineFault::Memory) => Turn::Ended(Outcome::Memory),
         }
     }
 
-    ghost stays = { watching.stays S.held S.faults };
+    fn idle(&mut self, alloc: Global) -> Turn {
+        match self.flush(alloc) {
+            Ok(()) => Turn::Idle,
+            Err(WriteFault) => Turn::Ended(Outcome::WriteFault),
+        }
+    }
 
-    ghost waits = { watching.waits S.held S.faults };
+    ghost stays = { watching.stays S.held S.faults };
 
     ghost gives_up = { watching.gives_up S.held S.faults };
 

@@ -5,7 +5,7 @@ ghost use Rattle.sn_io.specs.Causes.{Rose};
 ghost use Rattle.sn_model.specs.declared.outcome.Outcome.TheVariants as outcome;
 ghost use Rattle.sn_trace.specs.Written.{HasTrace, HasTracePart};
 
-use crate::sink::TraceSink;
+use crate::sink::{ROOM, TraceSink};
 use sn_graph::Graph;
 use sn_io::{Gate, Sink};
 use sn_list::Seq;
@@ -15,7 +15,8 @@ use std::alloc::Global;
 use std::sync::{Arc, Wait};
 use std::thread::Threads;
 
-/// Starts a graph of the run and drives it to its end with workers. The line of each event is written as it happens.
+/// Starts a graph of the run and drives it to its end with workers. Each event has its line. Lines are written where they fill their room, where there is
+/// nothing to do until a call is answered, and at the end.
 pub fn trace_run<R: Threads + Wait + Sync, S: Sink, G: Gate>(
     rt: &R,
     alloc: Global,
@@ -34,10 +35,13 @@ pub fn trace_run<R: Threads + Wait + Sync, S: Sink, G: Gate>(
     let Ok(mut graph) = Graph::start(alloc, run) else {
         return Outcome::Memory;
     };
-    let mut line = Seq::new(alloc);
+    let Ok(mut kept) = Seq::with_capacity(alloc, ROOM) else {
+        return Outcome::Memory;
+    };
     let mut sink = TraceSink {
         sink: out,
-        line: &mut line,
+        kept: &mut kept,
     };
-    drive_watched(rt, alloc, run, &mut graph, workers, gate, &mut sink)
+    let outcome = drive_watched(rt, alloc, run, &mut graph, workers, gate, &mut sink);
+    sink.end(alloc, outcome)
 }

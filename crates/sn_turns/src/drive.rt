@@ -69,14 +69,14 @@ fn happen<R: Wait, G: Gate, W: Watcher>(
 }
 
 /// The end of the run where the graph is at rest, and else nothing to do until an answer comes.
-fn rest_or_wait<G: Gate, W: Watcher>(shared: &Shared<G>, graph: &Graph, watcher: &W) -> Turn
+fn rest_or_wait<G: Gate, W: Watcher>(shared: &Shared<G>, graph: &Graph, watcher: &mut W) -> Turn
     requires { IsGraphOf graph.now shared.now.run.now.value }
-    ensures { W.goes (seen graph.now) watcher.now (seen graph.now) watcher.now result }
+    ensures { W.goes (seen graph.now) watcher.old (seen graph.now) watcher.new result }
 {
     if graph.at_rest(shared.run) {
         return Turn::Ended(Outcome::Whole);
     }
-    Turn::Idle
+    watcher.idle(shared.alloc)
 }
 
 /// Applies an answer that has come, or else the next event. Where there is none a call is taken back, if one is left. Where a worker was refused

@@ -21,9 +21,11 @@ pub trait Watcher {
     fn tell(&mut self, alloc: Global, line: Line, effect: &Effect) -> Turn
         ensures { (old new : View) → Came line (came_out effect.now) old new → goes old self.old new self.new result };
 
-    ghost stays: { (g : View) (w : Self) → goes g w g w turn.Went };
+    /// There is nothing to do until an answer comes.
+    fn idle(&mut self, alloc: Global) -> Turn
+        ensures { (g : View) → goes g self.old g self.new result };
 
-    ghost waits: { (g : View) (w : Self) → goes g w g w turn.Idle };
+    ghost stays: { (g : View) (w : Self) → goes g w g w turn.Went };
 
     ghost gives_up: { (g : View) (w : Self) → (AtRest g → ⊥) → goes g w g w (turn.Ended outcome.Memory) };
 
