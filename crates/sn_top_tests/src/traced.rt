@@ -90,8 +90,8 @@ fn other_texts_are_refused(rt: HostRuntime) {
 #[test]
 fn devices_of_traces_may_fail(rt: HostRuntime) {
     let words = ["trace", "s", "i", "--workers", "1"];
-    let mut out = sink(&rt, rt.alloc(), 64);
-    out.fail_at(3).expect(&rt, "memory");
+    let mut out = sink(&rt, rt.alloc(), 13);
+    out.fail_at(2).expect(&rt, "memory");
     let stored = files(&rt, rt.alloc(), RENAMES, b"{a=1}\n");
     let traced = serve_files(&rt, rt.alloc(), &words, stored, out, &OpenGate);
     assert!(rt; traced.is(Status::Write, b"take\nlocal 0\n", b"write\n"));
