@@ -5,6 +5,7 @@ use Rattle.std.specs.List.{list_any}
 use Rattle.sn_record.specs.Record.{Entries}
 use Rattle.sn_record.specs.declared.item.Fault.{Fault as FaultAt}
 use Rattle.sn_net.specs.Item.{Rec, Fault}
+use Rattle.sn_io.specs.Causes.{Rose}
 use Rattle.sn_io.specs.Told.{AppendsPrefix, appended}
 use Rattle.sn_io.proofs.Told.{prefix_none}
 use Rattle.sn_output.specs.Printed.{ending}
@@ -60,6 +61,9 @@ module _ (run : Run) (g : View) (a : Held) (h : View) (b : Held) (start : g ≡ 
   trace_part (Faulted fault) goes = let w = goes.turns fresh in part w.lines [] w.are_lines w.leads w.carries
   trace_part WriteFault goes = let w = (goes.turns fresh).1 in part w.lines w.rest w.are_lines w.leads w.carries
   trace_part Memory goes = let w = goes.turns fresh in part w.lines w.rest w.are_lines w.leads w.carries
+
+  pub trace_rose : (outcome : Outcome) → outcome ≡ WriteFault → Goes g a h b (Ended outcome) → Rose a.faults b.faults
+  trace_rose outcome is goes = ((subst (λ (o : Outcome). Goes g a h b (Ended o)) is goes).turns fresh).0
 
   pub trace_whole : b.kept ≡ [] → (outcome : Outcome) → outcome ≡ Whole → Goes g a h b (Ended outcome) → HasTrace run a.bytes b.bytes None
   trace_whole last outcome is goes =

@@ -8,7 +8,7 @@ use Rattle.sn_view.specs.View.{View}
 use Rattle.sn_turns.specs.declared.turn.Turn.TheVariants.{Ended}
 use Rattle.sn_model.specs.declared.outcome.Outcome.{Outcome}
 use Rattle.sn_model.specs.declared.outcome.Outcome.TheVariants.{Whole, Faulted, WriteFault, Memory}
-use Rattle.sn_trace.specs.Traced.{AreRecords, Carries, EndsAs, Goes, Held, WritesPart}
+use Rattle.sn_trace.specs.Traced.{Carries, EndsAs, Goes, Held, WritesPart}
 use Rattle.sn_trace.specs.Watching.{carries_then}
 
 pub ok_then : {T E A B : Type 0} (result : Result T E) → (A → B) → OnOk result A → OnOk result B

@@ -1,5 +1,5 @@
 use Rattle.std.proofs.Common.{ap, ◌∙◌}
-use Rattle.sn_io.specs.Told.{AppendsPrefix, appended}
+use Rattle.sn_io.specs.Told.{appended}
 use Rattle.sn_trace.specs.Watching.{state}
 use Rattle.sn_trace.proofs.Keeping.{err_then, ok_then, prefix_same, writes, writes_some}
 use Rattle.sn_trace.proofs.sink.TraceSink.flush.Goals as goal
