@@ -116,6 +116,18 @@ fn run_sample<R: Threads + Wait + Sync, O: Sink, G: Gate>(
     }
 }
 
+/// The numbers of a run's options.
+fn set_up(fuel: u64, depth: u32, workers: u32, queue: u32) -> Setup
+    ensures { result ≡ record { fuel = fuel; depth = depth; workers = workers; queue = queue } }
+{
+    Setup {
+        fuel,
+        depth,
+        workers,
+        queue,
+    }
+}
+
 /// Does a command with workers.
 fn work_together<R: Threads + Wait + Sync, F: Files, O: Sink, G: Gate>(
     rt: &R,
@@ -145,24 +157,16 @@ fn work_together<R: Threads + Wait + Sync, F: Files, O: Sink, G: Gate>(
             fuel,
             depth,
             queue,
-        } => {
-            let setup = Setup {
-                fuel: *fuel,
-                depth: *depth,
-                workers: *workers,
-                queue: *queue,
-            };
-            run_with_workers(
-                rt,
-                alloc,
-                source.as_slice(),
-                input.as_slice(),
-                setup,
-                gate,
-                files,
-                out,
-            )
-        }
+        } => run_with_workers(
+            rt,
+            alloc,
+            source.as_slice(),
+            input.as_slice(),
+            set_up(*fuel, *depth, *workers, *queue),
+            gate,
+            files,
+            out,
+        ),
         Command::Trace {
             source,
             input,
@@ -170,24 +174,16 @@ fn work_together<R: Threads + Wait + Sync, F: Files, O: Sink, G: Gate>(
             fuel,
             depth,
             queue,
-        } => {
-            let setup = Setup {
-                fuel: *fuel,
-                depth: *depth,
-                workers: *workers,
-                queue: *queue,
-            };
-            run_traced(
-                rt,
-                alloc,
-                source.as_slice(),
-                input.as_slice(),
-                setup,
-                gate,
-                files,
-                out,
-            )
-        }
+        } => run_traced(
+            rt,
+            alloc,
+            source.as_slice(),
+            input.as_slice(),
+            set_up(*fuel, *depth, *workers, *queue),
+            gate,
+            files,
+            out,
+        ),
         Command::Sample { number, count } => run_sample(rt, alloc, *number, *count, gate, out),
         Command::Once { .. }
         | Command::Check { .. }
