@@ -1,0 +1,9 @@
+pub mod Alike
+pub mod Flat
+pub mod Slim
+pub mod Short
+pub mod Trimmed
+pub mod Refined
+pub mod Mirrored
+pub mod Planned
+pub mod Height
