@@ -1,6 +1,6 @@
 -- Lines that are kept, written and dropped.
 use Rattle.std.proofs.Common.{◌≡◌, ◌≤◌, ℕ, List, [], ◌++◌, sym, ap, ◌∙◌, subst, subst₂, arith, append-nil, append_assoc}
-use Rattle.std.specs.Prelude.{Option, Result, Ok, Err, OnOk, OnErr}
+use Rattle.std.specs.Prelude.{Option}
 use Rattle.sn_io.specs.Causes.{Rose}
 use Rattle.sn_io.specs.Told.{AppendsPrefix, appended}
 use Rattle.sn_io.proofs.Told.{appended_none, appended_twice}
@@ -10,14 +10,6 @@ use Rattle.sn_model.specs.declared.outcome.Outcome.{Outcome}
 use Rattle.sn_model.specs.declared.outcome.Outcome.TheVariants.{Whole, Faulted, WriteFault, Memory}
 use Rattle.sn_trace.specs.Traced.{Carries, EndsAs, Goes, Held, WritesPart}
 use Rattle.sn_trace.specs.Watching.{carries_then}
-
-pub ok_then : {T E A B : Type 0} (result : Result T E) → (A → B) → OnOk result A → OnOk result B
-ok_then (Ok t) f is = f is
-ok_then (Err e) f is = tt
-
-pub err_then : {T E A B : Type 0} (result : Result T E) → (A → B) → OnErr result A → OnErr result B
-err_then (Ok t) f is = tt
-err_then (Err e) f is = f is
 
 -- a beginning of a text, which is told by other names
 pub prefix_same : (before now now' : Option (List ℕ)) (text text' : List ℕ) → now' ≡ now → text ≡ text' → AppendsPrefix before now text → AppendsPrefix before now' text'
