@@ -64,6 +64,39 @@ impl Graph {
         self.arena.enabled(run, event)
     }
 
+    /// Takes nodes at which nothing may happen off the end of what is listed. Takes no memory.
+    fn settle(&mut self, run: &Run)
+        requires { IsGraphOf self.old run.now }
+        ensures view { seen self.new ≡ seen self.old }
+        ensures of { IsGraphOf self.new run.now }
+    {
+        self.arena.settle(run);
+    }
+
+    /// `apply` for those who are given the events of a run and do not ask what may happen next, as where a trace is replayed: that is
+    /// not looked for behind the event.
+    pub fn apply_given(
+        &mut self,
+        alloc: Global,
+        run: &Run,
+        event: Event,
+    ) -> Result<Effect, ApplyFault>
+        requires of { IsGraphOf self.old run.now }
+        requires few { (seen self.old).applied < 2 ^ 62 }
+        requires done { IsEventOf run.now event }
+        ensures enabled { OnOk result (IsEnabled (seen self.old) (happening_of event)) }
+        ensures next { OnOk result (seen self.new ≡ Next (seen self.old) (happening_of event)) }
+        ensures comes { IfOk result (λ effect. ComesOf run.now (happening_of event) effect (seen self.old) (seen self.new)) }
+        ensures labels { IfOk result (HasCallLabels run.now) }
+        ensures refused { IfErr result (λ fault. fault.cause ≡ cause.NotEnabled → IsEnabled (seen self.old) (happening_of event) → ⊥) }
+        ensures back { IfErr result (λ fault. fault.event ≡ event) }
+        ensures unchanged { OnErr result (seen self.new ≡ seen self.old) }
+        ensures before { (ys : List ModelItem) → MayCome (seen self.new) ys → MayCome (seen self.old) ys }
+        ensures of { IsGraphOf self.new run.now }
+    {
+        self.arena.apply(alloc, run, event)
+    }
+
     /// Does the event, if it may happen: the graph is then what comes next, and nothing can come that could not before. Start answers the
     /// call that is to be made, and Emit the item that left. An event that may not happen comes back, and so does one for want of memory;
     /// then nothing has changed.
@@ -81,7 +114,9 @@ impl Graph {
         ensures before { (ys : List ModelItem) → MayCome (seen self.new) ys → MayCome (seen self.old) ys }
         ensures of { IsGraphOf self.new run.now }
     {
-        self.arena.apply(alloc, run, event)
+        let answer = self.apply_given(alloc, run, event);
+        self.settle(run);
+        answer
     }
 
     /// What may happen, and is no answer to a call, if there is such an event. Takes no memory.

@@ -134,7 +134,7 @@ impl Arena {
     }
 
     /// An event, if it may happen. Else, or for want of memory, it comes back, and nothing has changed. The nodes that it writes to are
-    /// listed before, and those at which nothing may happen are taken off the end of the list behind it.
+    /// listed before.
     pub(crate) fn apply(
         &mut self,
         alloc: Global,
@@ -153,8 +153,6 @@ impl Arena {
         ensures of { IsOf self.new run.now }
     {
         self.note(run, &event);
-        let answer = self.happen(alloc, run, event);
-        self.settle(run);
-        answer
+        self.happen(alloc, run, event)
     }
 }

@@ -159,7 +159,7 @@ impl Played {
         ensures refused { IfErr result (λ why. why ≡ cause.NotEnabled → (e : Happening) → Names line e → IsEnabled (view_of self.old) e → ⊥) }
     {
         let event = self.event_of(alloc, run, line)?;
-        match self.graph.apply(alloc, run, event) {
+        match self.graph.apply_given(alloc, run, event) {
             Ok(effect) => self.note(effect),
             Err(fault) => Err(fault.cause),
         }

@@ -37,6 +37,16 @@ fn moves(alloc: Global, run: &Run, graph: &mut Graph, event: Event) -> bool
     matches!(does(alloc, run, graph, event), Some(Effect::Moved))
 }
 
+/// The same for an event that is given, as by a line of a trace.
+fn moves_as_given(alloc: Global, run: &Run, graph: &mut Graph, event: Event) -> bool
+    requires of { IsGraphOf graph.old run.now }
+    requires event { IsEventOf run.now event }
+    ensures { IsGraphOf graph.new run.now }
+{
+    graph.applied() < MOST_EVENTS
+        && matches!(graph.apply_given(alloc, run, event), Ok(Effect::Moved))
+}
+
 /// Whether the event may not happen to a graph to which none has, and is answered so, and then the input may still be taken.
 fn refuses(alloc: Global, run: &Run, graph: &mut Graph, event: Event) -> bool
     requires of { IsGraphOf graph.old run.now }
@@ -71,7 +81,7 @@ fn has_one(names: &Names, name: &[u8], item: &Item) -> bool {
     }
 }
 
-/// Whether a record and then the end go through one filter, by three events each.
+/// Whether a record and then the end go through one filter, by three events each, of which those of the end are given.
 fn goes_through_a_filter(alloc: Global, run: &Run, names: &Names, graph: &mut Graph) -> bool
     requires { IsGraphOf graph.old run.now }
 {
@@ -86,10 +96,12 @@ fn goes_through_a_filter(alloc: Global, run: &Run, names: &Names, graph: &mut Gr
         None => false,
     };
     let local = Event::Local { node: 0 };
-    if !moves(alloc, run, graph, Event::Take) || !moves(alloc, run, graph, local) {
+    if !moves_as_given(alloc, run, graph, Event::Take)
+        || !moves_as_given(alloc, run, graph, local)
+    {
         return false;
     }
-    is_out && moves(alloc, run, graph, Event::Emit) && graph.at_rest(run)
+    is_out && moves_as_given(alloc, run, graph, Event::Emit) && graph.at_rest(run)
 }
 
 #[test]

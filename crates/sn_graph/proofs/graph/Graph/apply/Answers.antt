@@ -1,30 +1,25 @@
 use Rattle.std.proofs.Common.{subst, sym}
-use Rattle.sn_model.specs.declared.run.Run.{Run}
-use Rattle.sn_view.specs.Chains.{Comes}
-use Rattle.sn_graph.specs.Arena.{view_of}
-use Rattle.sn_graph.proofs.Applying.{may_come_before, nodes_of_own, still_came}
-use Rattle.sn_graph.proofs.Known.{applied_known}
+use Rattle.std.specs.Prelude.{◌≡◌, IfOk, List, OnErr, OnOk}
+use Rattle.sn_net.specs.Item.{ModelItem}
+use Rattle.sn_view.specs.Coming.{MayCome}
+use Rattle.sn_view.specs.Next.{Next}
+use Rattle.sn_view.specs.View.{View}
+use Rattle.sn_graph.specs.Event.{ComesOf, happening_of}
+use Rattle.sn_graph.specs.Graph.{seen}
 use Rattle.sn_graph.proofs.graph.Graph.apply.Goals as goal
 
-pub invariant_of-self : goal.invariant_of-self
-invariant_of-self c =
-    let came : ∥ Comes c.args.run.now (view_of c.args.self.now.arena) ∥₁ = subst (λ (r : Run). ∥ Comes r (view_of c.args.self.now.arena) ∥₁) c.requires.of c.args.self.now.came in
-    record {
-      came =
-          subst (λ (r : Run). ∥ Comes r (view_of c.apply.new.self) ∥₁) (sym c.apply.ensures.of.made)
-          (still_came c.args.run.now c.args.event (view_of c.args.self.now.arena) (view_of c.apply.new.self) c.apply.result c.apply.ensures.applies came);
-      of = nodes_of_own c.apply.new.self c.args.run.now c.apply.ensures.of;
-      tabled = c.apply.ensures.tabled;
-      listed = c.apply.ensures.listed;
-    }
+pub returns-clause-next : goal.returns-clause-next
+returns-clause-next c =
+    subst (λ (g : View). OnOk c.apply_given-answer.result (g ≡ Next (seen c.args.self.now) (happening_of c.args.event))) (sym c.settle.ensures.view) c.apply_given-answer.ensures.next
+
+pub returns-clause-comes : goal.returns-clause-comes
+returns-clause-comes c =
+    subst (λ (g : View). IfOk c.apply_given-answer.result (λ effect. ComesOf c.args.run.now (happening_of c.args.event) effect (seen c.args.self.now) g))
+    (sym c.settle.ensures.view) c.apply_given-answer.ensures.comes
+
+pub returns-clause-unchanged : goal.returns-clause-unchanged
+returns-clause-unchanged c = subst (λ (g : View). OnErr c.apply_given-answer.result (g ≡ seen c.args.self.now)) (sym c.settle.ensures.view) c.apply_given-answer.ensures.unchanged
 
 pub returns-clause-before : goal.returns-clause-before
-returns-clause-before c =
-    let came : ∥ Comes c.args.run.now (view_of c.args.self.now.arena) ∥₁ = subst (λ (r : Run). ∥ Comes r (view_of c.args.self.now.arena) ∥₁) c.requires.of c.args.self.now.came in
-    may_come_before c.args.run.now c.args.event (view_of c.args.self.now.arena) (view_of c.apply.new.self) c.apply.result c.apply.ensures.applies came
-
-pub returns-clause-labels : goal.returns-clause-labels
-returns-clause-labels c =
-    let came : ∥ Comes c.args.run.now (view_of c.args.self.now.arena) ∥₁ = subst (λ (r : Run). ∥ Comes r (view_of c.args.self.now.arena) ∥₁) c.requires.of c.args.self.now.came in
-    applied_known c.args.run.now c.args.event (view_of c.args.self.now.arena) (view_of c.apply.new.self) c.apply.result
-    (still_came c.args.run.now c.args.event (view_of c.args.self.now.arena) (view_of c.apply.new.self) c.apply.result c.apply.ensures.applies came) c.apply.ensures.applies
+returns-clause-before c ys =
+    subst (λ (g : View). MayCome g ys → MayCome (seen c.args.self.now) ys) (sym c.settle.ensures.view) (c.apply_given-answer.ensures.before ys)
