@@ -23,3 +23,4 @@ pub mod Short
 pub mod Mirrored
 pub mod Unbeaten
 pub mod Heights
+pub mod Unique

@@ -85,3 +85,8 @@ pub fn no_stage_makes_a_net_higher()
     ensures slim { (net : Net) → height (slimmed net) ≤ height net }
     ensures plan { (boxes : List BoxProgram) (claim : Claim) (planned : Net) → IsPlan boxes claim planned → height planned ≤ height claim.net }
 {}
+
+/// A claim has one planned network.
+pub fn a_claim_has_one_plan()
+    ensures { (boxes : List BoxProgram) (claim : Claim) (one other : Net) → IsPlan boxes claim one → IsPlan boxes claim other → one ≡ other }
+{}
