@@ -32,8 +32,9 @@ _snet() {
     read -r command behind < <(_snet_command)
     case $command,$word in
     ,-*) _snet_words "$word" '--try --explain --help' ;;
-    ,*) _snet_words "$word" 'run once check print trace replay sample' ;;
-    run,-* | trace,-*) _snet_words "$word" '--workers --fuel --depth --queue' ;;
+    ,*) _snet_words "$word" 'run once check print plan trace replay sample' ;;
+    run,-*) _snet_words "$word" '--workers --fuel --depth --queue --plan' ;;
+    trace,-*) _snet_words "$word" '--workers --fuel --depth --queue' ;;
     once,-* | replay,-*) _snet_words "$word" '--fuel --depth' ;;
     run,* | once,* | trace,* | replay,*)
         if ((behind == 1)); then
@@ -42,14 +43,14 @@ _snet() {
             _snet_files "$word" ''
         fi
         ;;
-    check,* | print,*) _snet_files "$word" .snet ;;
+    check,* | print,* | plan,*) _snet_files "$word" .snet ;;
     esac
 }
 
 _snet_draw() {
     local word=${COMP_WORDS[COMP_CWORD]}
     case $word in
-    -*) _snet_words "$word" '--claim --help --version --try' ;;
+    -*) _snet_words "$word" '--claim --plan --help --version --try' ;;
     *) _snet_files "$word" .snet ;;
     esac
 }

@@ -12,8 +12,12 @@ use Rattle.sn_outcomes.specs.Told.{AreTold}
 use Rattle.sn_output.specs.Printed.{printed, ending}
 use Rattle.sn_sample.specs.Source.{source_text}
 use Rattle.sn_sample.specs.Tally.{counted, counts_line}
-use Rattle.sn_plain.specs.Answer.{Finds, FindsReplay, FindsSample, FindsText, FindsTypes, FindsFor, IsAccepted, IsAnswered, IsRefused, IsRefusedInput, Outside, found_status}
-use Rattle.sn_load.specs.Flows.{HasFlows}
+use Rattle.sn_plain.specs.Answer.{Finds, FindsReplay, FindsSample, FindsReport, FindsText, FindsFor, IsAccepted, IsAnswered, IsRefused, IsRefusedInput, Outside, found_status}
+use Rattle.sn_net.specs.Net.{nodes}
+use Rattle.sn_planned.proofs.Unique.{one_plan}
+use Rattle.sn_plain.specs.Reports.{HasReport, plan_line}
+use Rattle.sn_plain.specs.declared.reports.Report.{Report}
+use Rattle.sn_plain.specs.declared.reports.Report.TheVariants as report
 use Rattle.sn_load.specs.Load.{IsTypedFile, Limits, limits_of, setting, WhyNoRecords, stream_of}
 use Rattle.sn_plain.specs.Runs.{Manner, OnOneThread, Printout, WithWorkers, ended, whole}
 use Rattle.sn_plain.specs.Sample.{AreTypedSamples, HasNoRoom, HasUntypedSample, answers_to, names_with}
@@ -38,7 +42,7 @@ use Rattle.sn_stop.specs.declared.refusal.TraceRefusal.TheVariants as trace
 use Rattle.sn_stop.specs.declared.status.Status.{Status}
 use Rattle.sn_stop.specs.declared.refusal.Which.TheVariants.{Source, Input as InputFile, Trace as TraceFile}
 use Rattle.sn_words.specs.declared.command.Command.{Command}
-use Rattle.sn_words.specs.declared.command.Command.TheVariants.{Run, Once, Check, Print, Trace as ATrace, Replay, Sample}
+use Rattle.sn_words.specs.declared.command.Command.TheVariants.{Run, Once, Check, Print, Plan, Trace as ATrace, Replay, Sample}
 
 -- what comes of a stream is printed
 abbrev pub printout : Limits → Program → Input → Printout
@@ -201,35 +205,41 @@ finds_replay_once limits bytes more text source input trace found other s i t f 
     goes_once bytes (Feeds (Plays text) limits more) (Feeds (Plays text) limits more) (feeds_once (Plays text) (plays_once text) limits more) found other
     (replay_goes limits bytes more text found f') (replay_goes limits bytes more text other g')
 
--- what is found of a program whose types are checked: the whole text of what can come out
-pub record Lists (program : Program) (found : Found) : Type 0 where
+-- what is found of a program whose types are checked: the whole text of a report
+pub record Reports (about : Report) (program : Program) (found : Found) : Type 0 where
   pub text : List ℕ
-  pub flows : HasFlows program program.claim.input text
+  pub has : HasReport about program text
   pub is : found ≡ Ok (whole text)
 
-lists_once : (program : Program) (found other : Found) → Lists program found → Lists program other → found ≡ other
-lists_once program found other a b = a.is ∙ ap (λ text. Ok (whole text)) (same_flows program program.claim.input a.text b.text a.flows b.flows) ∙ sym b.is
+same_report : (about : Report) (program : Program) (text other : List ℕ) → HasReport about program text → HasReport about program other → text ≡ other
+same_report report.Flows program text other a b = same_flows program program.claim.input text other a b
+same_report report.Plan program text other (count, (planned, is_plan, count_is), text_is) (others, (net, is, others_is), other_is) =
+    text_is ∙ ap (plan_line (nodes program.claim.net)) (count_is ∙ ap nodes (one_plan program.boxes program.claim planned net is_plan is) ∙ sym others_is) ∙ sym other_is
 
-pub checked : (bytes : List ℕ) (found : Found) → FindsTypes (Some bytes) found → Goes bytes Lists found
-checked bytes (Err (TooLarge Source)) f = Goes.large f
-checked bytes (Err (TooLarge InputFile)) f = absurd f
-checked bytes (Err (TooLarge TraceFile)) f = absurd f
-checked bytes (Err (Trace fault)) f = absurd f
-checked bytes (Err (SourceAt fault at)) f = wrong_goes bytes Lists (SourceAt fault at) f
-checked bytes (Err NoMain) f = wrong_goes bytes Lists NoMain f
-checked bytes (Err (TooDeep at)) f = wrong_goes bytes Lists (TooDeep at) f
-checked bytes (Err (LargeTree at)) f = wrong_goes bytes Lists (LargeTree at) f
-checked bytes (Err TooManyNames) f = wrong_goes bytes Lists TooManyNames f
-checked bytes (Err (IllTyped fault at variant)) f = wrong_goes bytes Lists (IllTyped fault at variant) f
-checked bytes (Err (Variants at)) f = wrong_goes bytes Lists (Variants at) f
-checked bytes (Err (Line fault)) f = absurd f
-checked bytes (Ok p) (program, accepted, flows, ended) =
+reports_once : (about : Report) (program : Program) (found other : Found) → Reports about program found → Reports about program other → found ≡ other
+reports_once about program found other a b = a.is ∙ ap (λ text. Ok (whole text)) (same_report about program a.text b.text a.has b.has) ∙ sym b.is
+
+pub reported : (about : Report) (bytes : List ℕ) (found : Found) → FindsReport about (Some bytes) found → Goes bytes (Reports about) found
+reported about bytes (Err (TooLarge Source)) f = Goes.large f
+reported about bytes (Err (TooLarge InputFile)) f = absurd f
+reported about bytes (Err (TooLarge TraceFile)) f = absurd f
+reported about bytes (Err (Trace fault)) f = absurd f
+reported about bytes (Err (SourceAt fault at)) f = wrong_goes bytes (Reports about) (SourceAt fault at) f
+reported about bytes (Err NoMain) f = wrong_goes bytes (Reports about) NoMain f
+reported about bytes (Err (TooDeep at)) f = wrong_goes bytes (Reports about) (TooDeep at) f
+reported about bytes (Err (LargeTree at)) f = wrong_goes bytes (Reports about) (LargeTree at) f
+reported about bytes (Err TooManyNames) f = wrong_goes bytes (Reports about) TooManyNames f
+reported about bytes (Err (IllTyped fault at variant)) f = wrong_goes bytes (Reports about) (IllTyped fault at variant) f
+reported about bytes (Err (Variants at)) f = wrong_goes bytes (Reports about) (Variants at) f
+reported about bytes (Err (Line fault)) f = absurd f
+reported about bytes (Ok p) (program, accepted, has, ended) =
     let fields : p ≡ whole p.bytes = λ i. record { bytes = p.bytes; ending = ended i } in
-    program_goes bytes Lists (Ok p) program accepted (record { text = p.bytes; flows = flows; is = ap Ok fields })
+    program_goes bytes (Reports about) (Ok p) program accepted (record { text = p.bytes; has = has; is = ap Ok fields })
 
-finds_types_once : (bytes : List ℕ) (source : Option (List ℕ)) (found other : Found) → source ≡ Some bytes → FindsTypes source found → FindsTypes source other → found ≡ other
-finds_types_once bytes source found other s f g =
-    goes_once bytes Lists Lists lists_once found other (checked bytes found (subst (λ x. FindsTypes x found) s f)) (checked bytes other (subst (λ x. FindsTypes x other) s g))
+finds_report_once : (about : Report) (bytes : List ℕ) (source : Option (List ℕ)) (found other : Found) → source ≡ Some bytes → FindsReport about source found → FindsReport about source other → found ≡ other
+finds_report_once about bytes source found other s f g =
+    goes_once bytes (Reports about) (Reports about) (reports_once about) found other (reported about bytes found (subst (λ x. FindsReport about x found) s f))
+    (reported about bytes other (subst (λ x. FindsReport about x other) s g))
 
 -- the whole text of a source, or its refusal
 abbrev text_found : Result (List ℕ) Refusal → Found
@@ -321,15 +331,16 @@ finds_sample_once number count found other f g =
     goes_once source_text (Samples number count) (Samples number count) (samples_once number count) found other (sampled number count found f) (sampled number count other g)
 
 pub command_once : (command : Command) (file : List ℕ → File) (found other : Found) → AreTold command file → FindsFor command file found → FindsFor command file other → found ≡ other
-command_once (Run source input workers fuel depth queue) file found other told f g =
+command_once (Run source input workers fuel depth queue plan) file found other told f g =
     let limits = limits_of fuel depth in
     let once : (x : Found) → Finds WithWorkers limits (file source).told (file input).told x → Finds OnOneThread limits (file source).told (file input).told x =
     λ x. run_is_once limits (file source).told (file input).told told.2 x in
     finds_once limits told.0.bytes told.1.bytes (file source).told (file input).told found other told.0.are told.1.are (once found f) (once other g)
 command_once (Once source input fuel depth) file found other told f g =
     finds_once (limits_of fuel depth) told.0.bytes told.1.bytes (file source).told (file input).told found other told.0.are told.1.are f g
-command_once (Check source) file found other told f g = finds_types_once told.bytes (file source).told found other told.are f g
+command_once (Check source) file found other told f g = finds_report_once report.Flows told.bytes (file source).told found other told.are f g
 command_once (Print source) file found other told f g = finds_text_once told.bytes (file source).told found other told.are f g
+command_once (Plan source) file found other told f g = finds_report_once report.Plan told.bytes (file source).told found other told.are f g
 command_once (ATrace source input workers fuel depth queue) file found other told f g = absurd told
 command_once (Replay source input trace fuel depth) file found other told f g =
     finds_replay_once (limits_of fuel depth) told.0.bytes told.1.bytes told.2.bytes (file source).told (file input).told (file trace).told found other told.0.are told.1.are told.2.are f g

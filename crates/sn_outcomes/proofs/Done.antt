@@ -6,13 +6,15 @@ use Rattle.std.specs.Prelude.{Result, Ok, Err, Some, Option}
 use Rattle.sn_input.specs.declared.input.Input.{Input}
 use Rattle.sn_outcomes.proofs.Traced.{replay_is_of_run, replayed, traced_by_workers}
 use Rattle.sn_outcomes.specs.Told.{IsTold}
-use Rattle.sn_outcomes.proofs.Commands.{Feeds, Lists, finds_replay_once, input_in, shown_by, checked, finds_once, goes, finds_sample_once, finds_text_once, printout, tallied}
+use Rattle.sn_outcomes.proofs.Commands.{Feeds, Reports, finds_replay_once, input_in, reported, shown_by, finds_once, goes, finds_sample_once, finds_text_once, printout, tallied}
 use Rattle.sn_outcomes.proofs.Judging.{Found, goes_accepted}
 use Rattle.sn_outcomes.proofs.Inputs.{Comes, comes_once, typed_comes}
 use Rattle.sn_output.specs.Printed.{ending, printed}
 use Rattle.sn_sample.specs.Source.{source_text}
-use Rattle.sn_plain.specs.Answer.{PrintsSample, Finds, FindsFor, FindsReplay, FindsText, FindsTypes, IsAccepted, IsAnswered, Outside, ending_status, found_status}
+use Rattle.sn_plain.specs.Answer.{PrintsSample, Finds, FindsFor, FindsReplay, FindsReport, FindsText, IsAccepted, IsAnswered, Outside, ending_status, found_status}
 use Rattle.sn_plain.specs.Runs.{ComesOut, Manner, OnOneThread, Printout, WithWorkers, ended, whole}
+use Rattle.sn_plain.specs.declared.reports.Report.{Report}
+use Rattle.sn_plain.specs.declared.reports.Report.TheVariants as report
 use Rattle.sn_plain.specs.Seen.{File}
 use Rattle.sn_plain.specs.Traces.{IsRunOver, Traced}
 use Rattle.sn_plain.specs.declared.replaying.TheConstants.{TRACE_LIMIT}
@@ -29,7 +31,7 @@ use Rattle.sn_load.specs.declared.load.TheConstants.{INPUT_LIMIT, SOURCE_LIMIT}
 use Rattle.sn_stop.specs.declared.refusal.Refusal.{Refusal}
 use Rattle.sn_stop.specs.declared.status.Status.{Status}
 use Rattle.sn_stop.specs.declared.status.Status.TheVariants as status
-use Rattle.sn_words.specs.declared.command.Command.TheVariants.{Check, Once, Print, Replay, Run, Sample, Trace as ATrace}
+use Rattle.sn_words.specs.declared.command.Command.TheVariants.{Check, Once, Plan, Print, Replay, Run, Sample, Trace as ATrace}
 
 -- what an accepted source and a typed record file print is found
 once_found : (source input : Option (List ℕ)) (fuel depth : ℕ) (bytes more : List ℕ) (program : Program) (records : Input) → source ≡ Some bytes → input ≡ Some more → IsAccepted bytes program
@@ -82,11 +84,11 @@ module _ (Shows : Manner) (streams : (s : Setting) (net : Net) (records : List E
       by found (Feeds.fed r p w f shown) is = ends p r (ap (input_in r) (one (Ok r) f)) shown is
 
 -- a run with workers ends as one of the streams that may come out
-pub run_done : (outside : Outside) (source input : List ℕ) (workers fuel depth queue : ℕ) (bytes more : List ℕ) (program : Program) (records : Input) (left : Status)
+pub run_done : (outside : Outside) (source input : List ℕ) (workers fuel depth queue plan : ℕ) (bytes more : List ℕ) (program : Program) (records : Input) (left : Status)
     → (outside.file source).told ≡ Some bytes → (outside.file input).told ≡ Some more → IsAccepted bytes program → IsTypedFile program.names program.claim more records → length more ≤ INPUT_LIMIT
-    → IsAnswered (Run source input workers fuel depth queue) outside left
+    → IsAnswered (Run source input workers fuel depth queue plan) outside left
     → ∥ ((stream : List ModelItem) × ComesOut (setting program (limits_of fuel depth)) program.claim.net records.records stream × (left ≡ ending_status (ending stream))) ∥₁
-run_done outside source input workers fuel depth queue bytes more program records left s i accepted typed within answered =
+run_done outside source input workers fuel depth queue plan bytes more program records left s i accepted typed within answered =
     ends_done WithWorkers (λ s net records names p shown. ∥∥₁_map shown (λ some. (some.0, some.1, some.2.ending_is))) (limits_of fuel depth) bytes more program records left
     (outside.file source).told (outside.file input).told answered.found s i accepted typed within answered.finds answered.status_is
 
@@ -135,17 +137,25 @@ trace_again file source input trace workers fuel depth queue p found told_source
     (q, finds_replay_once limits bytes more p.bytes (file source).told (file input).told (file trace).told found (Ok q) s i t f back, same)
 
 -- what a replay prints a run may print
-pub replay_by_run : (file : List ℕ → File) (source input trace : List ℕ) (workers fuel depth queue : ℕ) (p : Printout) → IsTold (file trace) → FindsFor (Replay source input trace fuel depth) file (Ok p)
-    → FindsFor (Run source input workers fuel depth queue) file (Ok p)
-replay_by_run file source input trace workers fuel depth queue p told f =
+pub replay_by_run : (file : List ℕ → File) (source input trace : List ℕ) (workers fuel depth queue plan : ℕ) (p : Printout) → IsTold (file trace) → FindsFor (Replay source input trace fuel depth) file (Ok p)
+    → FindsFor (Run source input workers fuel depth queue plan) file (Ok p)
+replay_by_run file source input trace workers fuel depth queue plan p told f =
     replay_is_of_run (limits_of fuel depth) (file source).told (file input).told told.bytes p
     (subst (λ x. FindsReplay (limits_of fuel depth) (file source).told (file input).told x (Ok p)) told.are f)
 
+-- a report on an accepted source ends well
+report_ends : (about : Report) (source : Option (List ℕ)) (bytes : List ℕ) (program : Program) (found : Found) → source ≡ Some bytes → IsAccepted bytes program → FindsReport about source found → found_status found ≡ status.Ok
+report_ends about source bytes program found s accepted finds =
+    let reports = goes_accepted bytes (Reports about) program found accepted (reported about bytes found (subst (λ x. FindsReport about x found) s finds)) in
+    ap found_status reports.is
+
 pub check_done : (outside : Outside) (source bytes : List ℕ) (program : Program) (left : Status) → (outside.file source).told ≡ Some bytes → IsAccepted bytes program
     → IsAnswered (Check source) outside left → left ≡ status.Ok
-check_done outside source bytes program left s accepted answered =
-    let lists = goes_accepted bytes Lists program answered.found accepted (checked bytes answered.found (subst (λ x. FindsTypes x answered.found) s answered.finds)) in
-    answered.status_is ∙ ap found_status lists.is
+check_done outside source bytes program left s accepted answered = answered.status_is ∙ report_ends report.Flows (outside.file source).told bytes program answered.found s accepted answered.finds
+
+pub plan_done : (outside : Outside) (source bytes : List ℕ) (program : Program) (left : Status) → (outside.file source).told ≡ Some bytes → IsAccepted bytes program
+    → IsAnswered (Plan source) outside left → left ≡ status.Ok
+plan_done outside source bytes program left s accepted answered = answered.status_is ∙ report_ends report.Plan (outside.file source).told bytes program answered.found s accepted answered.finds
 
 pub print_done : (outside : Outside) (source bytes text : List ℕ) (left : Status) → (outside.file source).told ≡ Some bytes → length bytes ≤ SOURCE_LIMIT → HasText bytes text
     → IsAnswered (Print source) outside left → left ≡ status.Ok

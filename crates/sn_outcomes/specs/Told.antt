@@ -8,7 +8,7 @@ use Rattle.sn_stop.specs.declared.refusal.Refusal.{Refusal}
 use Rattle.sn_stop.specs.declared.refusal.Refusal.TheVariants.{TooLarge, Source as SourceAt, NoMain, TooDeep, LargeTree, TooManyNames, IllTyped, Variants, Line, Trace}
 use Rattle.sn_stop.specs.declared.refusal.Which.TheVariants.{Source, Input, Trace as TraceFile}
 use Rattle.sn_words.specs.declared.command.Command.{Command}
-use Rattle.sn_words.specs.declared.command.Command.TheVariants.{Run, Once, Check, Print, Trace as ATrace, Replay, Sample}
+use Rattle.sn_words.specs.declared.command.Command.TheVariants.{Run, Once, Check, Print, Plan, Trace as ATrace, Replay, Sample}
 
 -- the bytes of the file are told
 pub record IsTold (file : File) : Type 0 where
@@ -22,10 +22,11 @@ MergesInOrder file = (bytes : List ℕ) (program : Program) → file.told ≡ So
 -- The bytes of each file that the command reads are told, which is none where it makes its records. Workers may print more than one
 -- stream where a merge is free, and a run has more than one trace, of which nothing is said here.
 abbrev pub AreTold : Command → (List ℕ → File) → Type 0
-AreTold (Run source input workers fuel depth queue) file = IsTold (file source) × IsTold (file input) × MergesInOrder (file source)
+AreTold (Run source input workers fuel depth queue plan) file = IsTold (file source) × IsTold (file input) × MergesInOrder (file source)
 AreTold (Once source input fuel depth) file = IsTold (file source) × IsTold (file input)
 AreTold (Check source) file = IsTold (file source)
 AreTold (Print source) file = IsTold (file source)
+AreTold (Plan source) file = IsTold (file source)
 AreTold (ATrace source input workers fuel depth queue) file = ⊥
 AreTold (Replay source input trace fuel depth) file = IsTold (file source) × IsTold (file input) × IsTold (file trace)
 AreTold (Sample number count) file = Unit {0}

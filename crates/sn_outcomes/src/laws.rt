@@ -40,7 +40,7 @@ ghost use Rattle.sn_stop.specs.declared.refusal.Refusal.{Refusal as SomeRefusal}
 ghost use Rattle.sn_stop.specs.declared.status.Status.{Status as SomeStatus};
 ghost use Rattle.sn_stop.specs.declared.status.Status.TheVariants as status;
 ghost use Rattle.sn_words.specs.declared.command.Command.{Command as SomeCommand};
-ghost use Rattle.sn_words.specs.declared.command.Command.TheVariants.{Check, Once, Print, Replay, Run, Sample, Trace as ATrace};
+ghost use Rattle.sn_words.specs.declared.command.Command.TheVariants.{Check, Once, Plan, Print, Replay, Run, Sample, Trace as ATrace};
 
 /// The bytes of a source give one list of tokens, or one refusal at one place, and never both. Want of memory is said of
 /// any source, and so it is left out, here and below.
@@ -123,10 +123,10 @@ pub fn command_has_one_outcome()
 {}
 
 /// Where each choice, star and split of the main network of a source merges in order, a run finds what one thread does, with any number
-/// of workers.
+/// of workers, and by the planned network as by the one that was written.
 pub fn runs_in_order_are_as_on_one_thread()
-    ensures { (file : List ℕ → File) (source input : List ℕ) (workers fuel depth queue : ℕ) (found : Result Printout SomeRefusal) → MergesInOrder (file source)
-        → FindsFor (Run source input workers fuel depth queue) file found → FindsFor (Once source input fuel depth) file found }
+    ensures { (file : List ℕ → File) (source input : List ℕ) (workers fuel depth queue plan : ℕ) (found : Result Printout SomeRefusal) → MergesInOrder (file source)
+        → FindsFor (Run source input workers fuel depth queue plan) file found → FindsFor (Once source input fuel depth) file found }
 {}
 
 /// What a run with workers writes of itself is replayed, and ends as the run did; and what comes out by any replay a run may print: records of a
@@ -135,23 +135,23 @@ pub fn traces_are_of_runs()
     ensures again { (file : List ℕ → File) (source input trace : List ℕ) (workers fuel depth queue : ℕ) (p : Printout) (found : Result Printout SomeRefusal) → IsTold (file source)
         → IsTold (file input) → (file trace).told ≡ Some p.bytes → length p.bytes ≤ TRACE_LIMIT → FindsFor (ATrace source input workers fuel depth queue) file (Ok p)
         → FindsFor (Replay source input trace fuel depth) file found → (q : Printout) × (found ≡ Ok q) × (q.ending ≡ p.ending) }
-    ensures printed { (file : List ℕ → File) (source input trace : List ℕ) (workers fuel depth queue : ℕ) (p : Printout) → IsTold (file trace)
-        → FindsFor (Replay source input trace fuel depth) file (Ok p) → FindsFor (Run source input workers fuel depth queue) file (Ok p) }
+    ensures printed { (file : List ℕ → File) (source input trace : List ℕ) (workers fuel depth queue plan : ℕ) (p : Printout) → IsTold (file trace)
+        → FindsFor (Replay source input trace fuel depth) file (Ok p) → FindsFor (Run source input workers fuel depth queue plan) file (Ok p) }
 {}
 
 /// An accepted source and a record file of its input type are enough: where their bytes are told, no answer of a command is a
 /// refusal. A run ends as its stream does, whole or at a fault, with workers as one of the streams that may come out, and so does one that is
 /// traced; the replay of a trace ends as what comes out by it; a run over stated records ends as its stream does, where these find room for their
-/// names and are of the input type; a check ends well, and so does a printing, which needs only that the source has a text.
+/// names and are of the input type; a check ends well, and so do a plan and a printing, which needs only that the source has a text.
 pub fn accepted_commands_are_done()
     ensures once { (outside : Outside) (source input : List ℕ) (fuel depth : ℕ) (bytes more : List ℕ) (program : SomeProgram) (records : SomeInput) (left : SomeStatus)
         → (outside.file source).told ≡ Some bytes → (outside.file input).told ≡ Some more → IsAccepted bytes program
         → length more ≤ INPUT_LIMIT → IsTypedFile program.names program.claim more records
         → IsAnswered (Once source input fuel depth) outside left → left ≡ ending_status (ending (stream_of (limits_of fuel depth) program records)) }
-    ensures run { (outside : Outside) (source input : List ℕ) (workers fuel depth queue : ℕ) (bytes more : List ℕ) (program : SomeProgram) (records : SomeInput) (left : SomeStatus)
+    ensures run { (outside : Outside) (source input : List ℕ) (workers fuel depth queue plan : ℕ) (bytes more : List ℕ) (program : SomeProgram) (records : SomeInput) (left : SomeStatus)
         → (outside.file source).told ≡ Some bytes → (outside.file input).told ≡ Some more → IsAccepted bytes program
         → IsTypedFile program.names program.claim more records → length more ≤ INPUT_LIMIT
-        → IsAnswered (Run source input workers fuel depth queue) outside left
+        → IsAnswered (Run source input workers fuel depth queue plan) outside left
         → ∥ ((stream : List ModelItem) × ComesOut (setting program (limits_of fuel depth)) program.claim.net records.records stream × (left ≡ ending_status (ending stream))) ∥₁ }
     ensures trace { (outside : Outside) (source input : List ℕ) (workers fuel depth queue : ℕ) (bytes more : List ℕ) (program : SomeProgram) (records : SomeInput) (left : SomeStatus)
         → (outside.file source).told ≡ Some bytes → (outside.file input).told ≡ Some more → IsAccepted bytes program
@@ -165,6 +165,8 @@ pub fn accepted_commands_are_done()
         → IsAnswered (Replay source input trace fuel depth) outside left → left ≡ ending_status (ending items) }
     ensures check { (outside : Outside) (source bytes : List ℕ) (program : SomeProgram) (left : SomeStatus) → (outside.file source).told ≡ Some bytes
         → IsAccepted bytes program → IsAnswered (Check source) outside left → left ≡ status.Ok }
+    ensures plan { (outside : Outside) (source bytes : List ℕ) (program : SomeProgram) (left : SomeStatus) → (outside.file source).told ≡ Some bytes
+        → IsAccepted bytes program → IsAnswered (Plan source) outside left → left ≡ status.Ok }
     ensures print { (outside : Outside) (source bytes text : List ℕ) (left : SomeStatus) → (outside.file source).told ≡ Some bytes → length bytes ≤ SOURCE_LIMIT
         → HasText bytes text → IsAnswered (Print source) outside left → left ≡ status.Ok }
     ensures sample { (outside : Outside) (number count : ℕ) (program : SomeProgram) (left : SomeStatus) → IsAccepted source_text program

@@ -6,3 +6,4 @@ pub mod Printed
 pub mod Told
 pub mod Running
 pub mod Checking
+pub mod Planned

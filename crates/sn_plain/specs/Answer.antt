@@ -3,7 +3,7 @@ use Rattle.std.specs.Prelude.{◌≡◌, ◌⊎◌, ◌≤◌, ◌<◌, ℕ, Lis
 use Rattle.sn_io.specs.Told.{appended}
 use Rattle.sn_words.specs.Command.{usage_text, source_of, input_of, trace_of}
 use Rattle.sn_words.specs.declared.command.Command.{Command}
-use Rattle.sn_words.specs.declared.command.Command.TheVariants.{Run, Once, Check, Print, Trace, Replay, Sample}
+use Rattle.sn_words.specs.declared.command.Command.TheVariants.{Run, Once, Check, Print, Plan, Trace, Replay, Sample}
 use Rattle.sn_stop.specs.declared.status.Status.{Status}
 use Rattle.sn_stop.specs.declared.status.Status.TheVariants as status
 use Rattle.sn_stop.specs.declared.refusal.Which.{Which}
@@ -24,7 +24,9 @@ use Rattle.sn_load.specs.Load.{IsTypedFile, Limits, limits_of, setting, HasManyN
 use Rattle.sn_plain.specs.Runs.{Manner, Printout, Prints, OnOneThread, WithWorkers, GotPart, HasFailed, ended}
 use Rattle.sn_plain.specs.Traces.{BegunTrace, IsRefusedTrace, PlayedFrom, Traced}
 use Rattle.sn_plain.specs.declared.replaying.TheConstants.{TRACE_LIMIT}
-use Rattle.sn_load.specs.Flows.{HasFlows}
+use Rattle.sn_plain.specs.Reports.{HasReport}
+use Rattle.sn_plain.specs.declared.reports.Report.{Report}
+use Rattle.sn_plain.specs.declared.reports.Report.TheVariants as report
 use Rattle.sn_plain.specs.Sample.{AreTypedSamples, HasNoRoom, IsWrongSample, answers_to, names_with}
 use Rattle.sn_sample.specs.Source.{source_text}
 use Rattle.sn_sample.specs.Tally.{counted, counts_line}
@@ -102,21 +104,21 @@ FindsText source (Err (Line fault)) = ⊥
 FindsText source (Err (TraceAt fault)) = ⊥
 FindsText source (Ok p) = IfSome source (λ bytes. (length bytes ≤ SOURCE_LIMIT) × FindsSource bytes (Ok p.bytes) × (p.ending ≡ None))
 
--- The same of a source whose types are checked: what can come out for each variant of the input is printed.
-abbrev pub FindsTypes : Option (List ℕ) → Result Printout Refusal → Type 0
-FindsTypes source (Err (TooLarge Source)) = IfSome source (λ bytes. SOURCE_LIMIT < length bytes)
-FindsTypes source (Err (TooLarge Input)) = ⊥
-FindsTypes source (Err (TooLarge TraceFile)) = ⊥
-FindsTypes source (Err (SourceAt fault at)) = IfSome source (IsRefusedSource (SourceAt fault at))
-FindsTypes source (Err NoMain) = IfSome source (IsRefusedSource NoMain)
-FindsTypes source (Err (TooDeep at)) = IfSome source (IsRefusedSource (TooDeep at))
-FindsTypes source (Err (LargeTree at)) = IfSome source (IsRefusedSource (LargeTree at))
-FindsTypes source (Err TooManyNames) = IfSome source (IsRefusedSource TooManyNames)
-FindsTypes source (Err (IllTyped fault at variant)) = IfSome source (IsRefusedSource (IllTyped fault at variant))
-FindsTypes source (Err (Variants at)) = IfSome source (IsRefusedSource (Variants at))
-FindsTypes source (Err (Line fault)) = ⊥
-FindsTypes source (Err (TraceAt fault)) = ⊥
-FindsTypes source (Ok p) = IfSome source (λ bytes. (program : Program) × IsAccepted bytes program × HasFlows program program.claim.input p.bytes × (p.ending ≡ None))
+-- The same of a source whose types are checked: a report on it is printed.
+abbrev pub FindsReport : Report → Option (List ℕ) → Result Printout Refusal → Type 0
+FindsReport about source (Err (TooLarge Source)) = IfSome source (λ bytes. SOURCE_LIMIT < length bytes)
+FindsReport about source (Err (TooLarge Input)) = ⊥
+FindsReport about source (Err (TooLarge TraceFile)) = ⊥
+FindsReport about source (Err (SourceAt fault at)) = IfSome source (IsRefusedSource (SourceAt fault at))
+FindsReport about source (Err NoMain) = IfSome source (IsRefusedSource NoMain)
+FindsReport about source (Err (TooDeep at)) = IfSome source (IsRefusedSource (TooDeep at))
+FindsReport about source (Err (LargeTree at)) = IfSome source (IsRefusedSource (LargeTree at))
+FindsReport about source (Err TooManyNames) = IfSome source (IsRefusedSource TooManyNames)
+FindsReport about source (Err (IllTyped fault at variant)) = IfSome source (IsRefusedSource (IllTyped fault at variant))
+FindsReport about source (Err (Variants at)) = IfSome source (IsRefusedSource (Variants at))
+FindsReport about source (Err (Line fault)) = ⊥
+FindsReport about source (Err (TraceAt fault)) = ⊥
+FindsReport about source (Ok p) = IfSome source (λ bytes. (program : Program) × IsAccepted bytes program × HasReport about program p.bytes × (p.ending ≡ None))
 
 -- what the program prints for the records of a number: the line of the counters of what it answers
 pub record PrintsSample (program : Program) (number count : ℕ) (p : Printout) : Type 0 where
@@ -178,10 +180,11 @@ seen bytes_of file_faults out_held out_faults err_held err_faults files new_file
 
 -- what is found of a command's files
 abbrev pub FindsFor : Command → (List ℕ → File) → Result Printout Refusal → Type 0
-FindsFor (Run source input workers fuel depth queue) file found = Finds WithWorkers (limits_of fuel depth) (file source).told (file input).told found
+FindsFor (Run source input workers fuel depth queue plan) file found = Finds WithWorkers (limits_of fuel depth) (file source).told (file input).told found
 FindsFor (Once source input fuel depth) file found = Finds OnOneThread (limits_of fuel depth) (file source).told (file input).told found
-FindsFor (Check source) file found = FindsTypes (file source).told found
+FindsFor (Check source) file found = FindsReport report.Flows (file source).told found
 FindsFor (Print source) file found = FindsText (file source).told found
+FindsFor (Plan source) file found = FindsReport report.Plan (file source).told found
 FindsFor (Trace source input workers fuel depth queue) file found = Finds Traced (limits_of fuel depth) (file source).told (file input).told found
 FindsFor (Replay source input trace fuel depth) file found = FindsReplay (limits_of fuel depth) (file source).told (file input).told (file trace).told found
 FindsFor (Sample number count) file found = FindsSample number count found
@@ -216,10 +219,11 @@ IsReplayUnread Input source input trace = IsUnread Input source input
 IsReplayUnread TraceFile source input trace = FileFailed trace × OfTyped source.told input.told (λ program file. Unit {0})
 
 abbrev pub UnreadFor : Command → (List ℕ → File) → Which → Type 0
-UnreadFor (Run source input workers fuel depth queue) file which = IsUnread which (file source) (file input)
+UnreadFor (Run source input workers fuel depth queue plan) file which = IsUnread which (file source) (file input)
 UnreadFor (Once source input fuel depth) file which = IsUnread which (file source) (file input)
 UnreadFor (Check source) file which = IsSourceUnread which (file source)
 UnreadFor (Print source) file which = IsSourceUnread which (file source)
+UnreadFor (Plan source) file which = IsSourceUnread which (file source)
 UnreadFor (Trace source input workers fuel depth queue) file which = IsUnread which (file source) (file input)
 UnreadFor (Replay source input trace fuel depth) file which = IsReplayUnread which (file source) (file input) (file trace)
 UnreadFor (Sample number count) file which = ⊥
@@ -263,9 +267,9 @@ WhyUnplayed limits source input trace out why =
 abbrev pub WhyUnprinted : File → Sink → Stop → Type 0
 WhyUnprinted source out why = StoppedFor (FindsText source.told) (λ p. FindsText source.told (Ok p)) (λ which. IsSourceUnread which source) out why
 
--- the check of a source
-abbrev pub WhyUnchecked : File → Sink → Stop → Type 0
-WhyUnchecked source out why = StoppedFor (FindsTypes source.told) (λ p. FindsTypes source.told (Ok p)) (λ which. IsSourceUnread which source) out why
+-- a report on a source
+abbrev pub WhyUnreported : Report → File → Sink → Stop → Type 0
+WhyUnreported about source out why = StoppedFor (FindsReport about source.told) (λ p. FindsReport about source.told (Ok p)) (λ which. IsSourceUnread which source) out why
 
 -- a run on the records of a number
 abbrev pub WhyUncounted : ℕ → ℕ → Sink → Stop → Type 0
@@ -273,10 +277,11 @@ WhyUncounted number count out why = StoppedFor (FindsSample number count) (λ p.
 
 -- the calling thread does the command alone
 abbrev pub is_plain : Command → Bool
-is_plain (Run source input workers fuel depth queue) = false
+is_plain (Run source input workers fuel depth queue plan) = false
 is_plain (Once source input fuel depth) = true
 is_plain (Check source) = true
 is_plain (Print source) = true
+is_plain (Plan source) = true
 is_plain (Trace source input workers fuel depth queue) = false
 is_plain (Replay source input trace fuel depth) = true
 is_plain (Sample number count) = false

@@ -3,6 +3,7 @@ pub mod Shown
 pub mod Sample
 pub mod Answer
 pub mod Ready
+pub mod Reports
 pub mod Runs
 pub mod Traces
 pub mod Stopping

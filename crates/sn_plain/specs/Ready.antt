@@ -3,7 +3,9 @@ use Rattle.std.specs.Prelude.{◌≡◌, ◌≤◌, ℕ, List, length, Option, I
 use Rattle.sn_input.specs.declared.input.Input.{Input as RecordFile}
 use Rattle.sn_model.specs.Meaning.{Setting}
 use Rattle.sn_load.specs.declared.load.Program.{Program}
+use Rattle.sn_plain.specs.declared.ready.Checked.{Checked}
 use Rattle.sn_plain.specs.declared.ready.Ready.{Ready}
+use Rattle.sn_plain.specs.Runs.{Printout, WithWorkers}
 use Rattle.sn_load.specs.declared.load.TheConstants.{INPUT_LIMIT}
 use Rattle.sn_stop.specs.declared.stop.Stop.{Stop}
 use Rattle.sn_stop.specs.declared.stop.Stop.TheVariants as stop
@@ -23,9 +25,18 @@ pub record IsReady (source input : Option (List ℕ)) (ready : Ready) : Type 0 w
   pub records_are : ready.records ≡ file.records
   pub names_are : ready.names ≡ file.names
 
+-- what passed all checks, to be run
+abbrev pub ready_of : Checked → Ready
+ready_of checked = record { net = checked.claim.net; boxes = checked.boxes; records = checked.records; names = checked.names }
+
 -- what its network is run with
 abbrev pub setting_at : Ready → Limits → Setting
 setting_at ready limits = record { boxes = ready.boxes; fuel = limits.fuel; depth = limits.depth }
+
+-- Whatever a run of the other prints with workers, a run of the first may print: the other may be its plan.
+abbrev pub RunsAs : Ready → Ready → Type 0
+RunsAs ready other = (limits : Limits) (p : Printout) → WithWorkers (setting_at other limits) other.net other.records other.names p
+    → WithWorkers (setting_at ready limits) ready.net ready.records ready.names p
 
 -- why there is nothing to run: a check refuses, a file was not read, or memory was wanted
 abbrev pub WhyNotReady : File → File → Stop → Type 0

@@ -5,9 +5,11 @@
 mod outside;
 mod ready;
 mod replaying;
+mod reports;
 mod serve;
 mod transcript;
 
-pub use ready::{Ready, Started, prepare, share, start};
+pub use ready::{Checked, Ready, Started, check_files, prepare, share, start};
 pub use replaying::TRACE_LIMIT;
+pub use reports::Report;
 pub use serve::{conclude, is_plain, serve_alone, serve_plain, tell_memory, tell_usage};

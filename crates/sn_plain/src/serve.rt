@@ -5,7 +5,7 @@ ghost use Rattle.sn_io.specs.Told.{appended};
 ghost use Rattle.sn_load.specs.Load.{AreLimits, limits_of};
 ghost use Rattle.sn_plain.specs.Seen.{GotLine, seen_file, seen_sink};
 ghost use Rattle.sn_stop.specs.Status.{stop_line};
-ghost use Rattle.sn_plain.specs.Answer.{GotEnd, end_status, is_plain, seen, Finds, FindsFor, FindsReplay, FindsText, FindsTypes, WhyEnded, WhyStopped, WhyUnchecked, WhyUnplayed, WhyUnprinted, IsAnswered, HasUnread, IsCutShort, IsUnwritten, IsAnsweredFor, IsCutShortFor, NeedsOthers, OfCommand};
+ghost use Rattle.sn_plain.specs.Answer.{GotEnd, end_status, is_plain, seen, Finds, FindsFor, FindsReplay, FindsReport, FindsText, WhyEnded, WhyStopped, WhyUnreported, WhyUnplayed, WhyUnprinted, IsAnswered, HasUnread, IsCutShort, IsUnwritten, IsAnsweredFor, IsCutShortFor, NeedsOthers, OfCommand};
 ghost use Rattle.sn_plain.specs.Runs.{OnOneThread, whole};
 ghost use Rattle.sn_words.specs.Command.{IsInRange, input_of, source_of, trace_of, usage_text};
 ghost use Rattle.sn_words.specs.Words.{command_of};
@@ -13,11 +13,12 @@ ghost use Rattle.sn_words.specs.Words.{command_of};
 use crate::outside::{read_file, write_line};
 use crate::ready::prepare;
 use crate::replaying::{TRACE_LIMIT, print_replay};
+use crate::reports::{Report, report_text};
 use crate::transcript::print_once;
 use itoa::Buffer;
 use sn_io::{Files, Sink, write_whole};
 use sn_list::Held;
-use sn_load::{SOURCE_LIMIT, canonical_text, flows_text, load_source};
+use sn_load::{SOURCE_LIMIT, canonical_text, load_source};
 use sn_stop::{Status, Stop, Which};
 use sn_words::{Command, WordsFault, read_words, usage_line};
 use std::alloc::Global;
@@ -51,17 +52,18 @@ fn run_once<F: Files, O: Sink>(
     }
 }
 
-/// Checks a source, and prints what can come out for each variant of its input.
-fn run_check<F: Files, O: Sink>(
+/// Checks a source, and prints a report on it.
+fn run_report<F: Files, O: Sink>(
     alloc: Global,
     source_name: &[u8],
+    report: Report,
     files: &mut F,
     out: &mut O,
 ) -> Result<(), Stop>
     ensures done { OnOk result ((p : List ℕ)
-        × FindsTypes (F.bytes_of files.old source_name.now) (Ok (whole p))
+        × FindsReport report (F.bytes_of files.old source_name.now) (Ok (whole p))
         × (O.held out.new ≡ appended (O.held out.old) p)) }
-    ensures stopped { IfErr result (WhyUnchecked
+    ensures stopped { IfErr result (WhyUnreported report
         (seen_file F.bytes_of F.faults files.old files.new source_name.now)
         (seen_sink O.held O.faults out.old out.new)) }
     ensures same { (name : List ℕ) → F.bytes_of files.new name ≡ F.bytes_of files.old name }
@@ -71,7 +73,7 @@ fn run_check<F: Files, O: Sink>(
     let source = read_file(alloc, files, Which::Source, source_name, SOURCE_LIMIT)?;
     let program = load_source(alloc, source.as_slice())?;
     let program = Held { value: program };
-    let text = flows_text(alloc, &program.value)?;
+    let text = report_text(alloc, &program.value, report)?;
     write_whole(out, text.as_slice())?;
     Ok(())
 }
@@ -141,6 +143,7 @@ pub fn is_plain(command: &Command) -> bool
         Command::Once { .. }
         | Command::Check { .. }
         | Command::Print { .. }
+        | Command::Plan { .. }
         | Command::Replay { .. } => true,
     }
 }
@@ -179,8 +182,13 @@ fn work_alone<F: Files, O: Sink>(
             files,
             out,
         ),
-        Command::Check { source } => run_check(alloc, source.as_slice(), files, out),
+        Command::Check { source } => {
+            run_report(alloc, source.as_slice(), Report::Flows, files, out)
+        }
         Command::Print { source } => run_print(alloc, source.as_slice(), files, out),
+        Command::Plan { source } => {
+            run_report(alloc, source.as_slice(), Report::Plan, files, out)
+        }
         Command::Replay {
             source,
             input,

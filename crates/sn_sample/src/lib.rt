@@ -8,4 +8,4 @@ mod tally;
 
 pub use records::sample_records;
 pub use source::sample_source;
-pub use tally::Tally;
+pub use tally::{Tally, push_count};

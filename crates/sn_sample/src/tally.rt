@@ -91,7 +91,7 @@ impl Tally {
 }
 
 /// Appends a word and a number.
-fn push_count(text: &mut Text, word: &[u8], count: u64) -> Result<(), Memory>
+pub fn push_count(text: &mut Text, word: &[u8], count: u64) -> Result<(), Memory>
     ensures { OnOk result (text.new ≡ text.old ++ (word.now ++ decimal count)) }
 {
     text.extend_from_slice(word)?;

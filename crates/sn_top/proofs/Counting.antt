@@ -14,6 +14,7 @@ use Rattle.sn_net.specs.declared.net.Net.{Net}
 use Rattle.sn_model.specs.Run.{MayGive, given, input_of, net_of, setting_of}
 use Rattle.sn_model.specs.declared.run.Run.{Run}
 use Rattle.sn_model.proofs.Ordered.{all_in_order}
+use Rattle.sn_plain.proofs.Planned.{only_one}
 use Rattle.sn_live.specs.Runs.{IsPrefixOf}
 use Rattle.sn_output.specs.Printed.{ending}
 use Rattle.sn_sample.specs.Tally.{Counts, counted, counted_on, with_record}
@@ -39,10 +40,6 @@ counts_set = hlevel ℕ_set
 
 ends_set : IsSet (Option FaultAt)
 ends_set = hlevel (ℕ_set, ⊎_set)
-
--- where each merge is in order, what a network may answer is its one-thread meaning
-pub only_one : (s : Setting) (net : Net) (xs ys : List ModelItem) → IsTrue (all_deterministic net) → MayAnswerList s net xs ys → ys ≡ one_list s net xs
-only_one s net xs ys all may = ap first_segment (tree_has_one (tree s net) (all_in_order s net all) (xs ∷ []) (ys ∷ []) may)
 
 only_given : (run : Run) → IsTrue (all_deterministic (net_of run)) → (ys : List ModelItem) → MayGive run ys → ys ≡ given run
 only_given run all ys may = only_one (setting_of run) (net_of run) (input_of run) ys all may

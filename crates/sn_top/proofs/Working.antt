@@ -19,7 +19,7 @@ use Rattle.sn_farm.specs.Farmed.{HasPrinted as FarmHasPrinted}
 use Rattle.sn_load.specs.Load.{AreTypedRecords, Limits}
 use Rattle.sn_plain.specs.Ready.{setting_at}
 use Rattle.sn_plain.specs.Runs.{ComesOut, HasBegun, HasPrinted, IsOfStream, Printout, WithWorkers, ended}
-use Rattle.sn_top.proofs.Counting.{only_one}
+use Rattle.sn_plain.proofs.Planned.{only_one}
 use Rattle.sn_plain.specs.Seen.{Sink}
 use Rattle.sn_plain.specs.Traces.{IsRunOver}
 use Rattle.sn_plain.specs.declared.ready.Ready.{Ready}

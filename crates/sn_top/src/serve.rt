@@ -18,7 +18,7 @@ use crate::workers::{Setup, print_with_workers};
 use sn_io::{Files, Gate, Sink, write_whole};
 use sn_list::Seq;
 use sn_load::load_source;
-use sn_plain::{conclude, is_plain, prepare, serve_plain, tell_memory, tell_usage};
+use sn_plain::{check_files, conclude, is_plain, prepare, serve_plain, tell_memory, tell_usage};
 use sn_sample::sample_source;
 use sn_stop::{Status, Stop};
 use sn_words::{Command, WordsFault, read_words};
@@ -26,7 +26,8 @@ use std::alloc::Global;
 use std::sync::Wait;
 use std::thread::Threads;
 
-/// Runs a source over the records of an input with workers, and prints what comes out.
+/// Runs a source over the records of an input with workers, and prints what comes out: by the planned network, where that is asked for, of which the
+/// same may come out.
 fn run_with_workers<R: Threads + Wait + Sync, F: Files, O: Sink, G: Gate>(
     rt: &R,
     alloc: Global,
@@ -51,7 +52,8 @@ fn run_with_workers<R: Threads + Wait + Sync, F: Files, O: Sink, G: Gate>(
     ensures later { (name : List ℕ) → F.faults files.old name ≤ F.faults files.new name }
     ensures out_later { O.faults out.old ≤ O.faults out.new }
 {
-    let ready = prepare(alloc, source_name, input_name, files)?;
+    let checked = check_files(alloc, source_name, input_name, files)?;
+    let ready = checked.into_run(alloc, setup.is_planned)?;
     match print_with_workers(rt, alloc, ready, setup, gate, out)? {
         None => Ok(()),
         Some(fault) => Err(Stop::Faulted(fault)),
@@ -117,14 +119,15 @@ fn run_sample<R: Threads + Wait + Sync, O: Sink, G: Gate>(
 }
 
 /// The numbers of a run's options.
-fn set_up(fuel: u64, depth: u32, workers: u32, queue: u32) -> Setup
-    ensures { result ≡ record { fuel = fuel; depth = depth; workers = workers; queue = queue } }
+fn set_up(fuel: u64, depth: u32, workers: u32, queue: u32, is_planned: bool) -> Setup
+    ensures { result ≡ record { fuel = fuel; depth = depth; workers = workers; queue = queue; is_planned = is_planned } }
 {
     Setup {
         fuel,
         depth,
         workers,
         queue,
+        is_planned,
     }
 }
 
@@ -157,12 +160,13 @@ fn work_together<R: Threads + Wait + Sync, F: Files, O: Sink, G: Gate>(
             fuel,
             depth,
             queue,
+            plan,
         } => run_with_workers(
             rt,
             alloc,
             source.as_slice(),
             input.as_slice(),
-            set_up(*fuel, *depth, *workers, *queue),
+            set_up(*fuel, *depth, *workers, *queue, *plan == 1),
             gate,
             files,
             out,
@@ -179,7 +183,7 @@ fn work_together<R: Threads + Wait + Sync, F: Files, O: Sink, G: Gate>(
             alloc,
             source.as_slice(),
             input.as_slice(),
-            set_up(*fuel, *depth, *workers, *queue),
+            set_up(*fuel, *depth, *workers, *queue, false),
             gate,
             files,
             out,
@@ -188,6 +192,7 @@ fn work_together<R: Threads + Wait + Sync, F: Files, O: Sink, G: Gate>(
         Command::Once { .. }
         | Command::Check { .. }
         | Command::Print { .. }
+        | Command::Plan { .. }
         | Command::Replay { .. } => unreachable!(),
     }
 }

@@ -19,14 +19,15 @@ use std::alloc::Global;
 use std::sync::Wait;
 use std::thread::Threads;
 
-/// How a run with workers is set: the fuel of each call of a box, how many replicas a star may have, how many workers there are, and how
-/// many entries a queue between them holds.
+/// How a run with workers is set: the fuel of each call of a box, how many replicas a star may have, how many workers there are, how
+/// many entries a queue between them holds, and whether the planned network is run.
 #[derive(Clone, Copy)]
 pub struct Setup {
     pub fuel: u64,
     pub depth: u32,
     pub workers: u32,
     pub queue: u32,
+    pub is_planned: bool,
 }
 
 /// Runs a network over its records with workers, of which the calling thread is one. It prints each record that comes out, and answers

@@ -77,6 +77,7 @@ fn is_run(
     fuel: u64,
     depth: u32,
     queue: u32,
+    plan: u32,
 ) -> bool {
     let wanted = Command::Run {
         source: file(rt, alloc, "s"),
@@ -85,20 +86,22 @@ fn is_run(
         fuel,
         depth,
         queue,
+        plan,
     };
     is_read(rt, alloc, words, &wanted)
 }
 
 #[test]
 fn gives_runs(rt: HostRuntime) {
-    let table: [(&[&str], u32, u64, u32, u32); 4] = [
-        (&["run", "s", "i"], 4, 1_000_000, 1_000, 16),
+    let table: [(&[&str], u32, u64, u32, u32, u32); 5] = [
+        (&["run", "s", "i"], 4, 1_000_000, 1_000, 16, 0),
         (
             &["run", "--workers=8", "s", "--", "i"],
             8,
             1_000_000,
             1_000,
             16,
+            0,
         ),
         (
             &["run", "s", "--queue", "1024", "i", "--workers=0064"],
@@ -106,6 +109,7 @@ fn gives_runs(rt: HostRuntime) {
             1_000_000,
             1_000,
             1_024,
+            0,
         ),
         (
             &["run", "--queue=1", "--fuel=5", "s", "i", "--depth", "7"],
@@ -113,11 +117,20 @@ fn gives_runs(rt: HostRuntime) {
             5,
             7,
             1,
+            0,
+        ),
+        (
+            &["run", "s", "--plan", "1", "i"],
+            4,
+            1_000_000,
+            1_000,
+            16,
+            1,
         ),
     ];
-    for (words, workers, fuel, depth, queue) in table {
+    for (words, workers, fuel, depth, queue, plan) in table {
         assert!(rt;
-            is_run(&rt, rt.alloc(), words, workers, fuel, depth, queue),
+            is_run(&rt, rt.alloc(), words, workers, fuel, depth, queue, plan),
             "{words:?}"
         );
     }
@@ -133,6 +146,11 @@ fn is_print(rt: &impl Abort, alloc: Global, words: &[&str]) -> bool {
     is_read(rt, alloc, words, &Command::Print { source })
 }
 
+fn is_plan(rt: &impl Abort, alloc: Global, words: &[&str]) -> bool {
+    let source = file(rt, alloc, "s");
+    is_read(rt, alloc, words, &Command::Plan { source })
+}
+
 fn is_sample(rt: &impl Abort, alloc: Global, words: &[&str], number: u32, count: u32) -> bool {
     is_read(rt, alloc, words, &Command::Sample { number, count })
 }
@@ -141,6 +159,7 @@ fn is_sample(rt: &impl Abort, alloc: Global, words: &[&str], number: u32, count:
 fn gives_commands_of_a_source(rt: HostRuntime) {
     assert!(rt; is_check(&rt, rt.alloc(), &["check", "s"]));
     assert!(rt; is_print(&rt, rt.alloc(), &["print", "--", "s"]));
+    assert!(rt; is_plan(&rt, rt.alloc(), &["plan", "s"]));
 }
 
 #[test]
@@ -156,7 +175,7 @@ fn is_refused(rt: &impl Abort, alloc: Global, words: &[&str]) -> bool {
 
 #[test]
 fn refuses_words(rt: HostRuntime) {
-    let table: [&[&str]; 37] = [
+    let table: [&[&str]; 39] = [
         &[],
         &["help"],
         &["--help"],
@@ -166,6 +185,8 @@ fn refuses_words(rt: HostRuntime) {
         &["run", "s", "i", "--fuel", "5", "--fuel", "5"],
         &["run", "s", "i", "--queue=1025"],
         &["run", "s", "i", "--work", "5"],
+        &["run", "s", "i", "--plan=2"],
+        &["plan", "s", "--plan=1"],
         &["run", "s", "i", "-h"],
         &["once", "s", "i", "--workers", "2"],
         &["check", "s", "--workers=2"],

@@ -1,14 +1,14 @@
 -- Each command has words, and a value may stand in its option's word.
-use Rattle.std.proofs.Common.{◌≡◌, ◌∙◌, ◌<◌, ◌≤◌, ◌+◌, ◌^◌, ◌&&◌, ◌||◌, ℕ, suc, Bool, true, false, not, cond, refl, sym, ap, arith, List, [], ◌∷◌, ◌++◌, take, drop, length, lt-ltb, le-leb, true≢false, nat_le, nat_lt, codes}
-use Rattle.std.specs.Prelude.{Option, Some, None}
+use Rattle.std.proofs.Common.{◌≡◌, ◌∙◌, ◌<◌, ◌≤◌, ◌+◌, ◌^◌, ◌&&◌, ◌||◌, ℕ, suc, Bool, true, false, not, cond, refl, sym, ap, arith, List, [], ◌∷◌, ◌++◌, take, drop, length, lt-ltb, le-leb, true≢false, nat_le, nat_lt}
+use Rattle.std.specs.Prelude.{Some, None}
 use Rattle.std.specs.Fmt.{decimal}
 use Rattle.std.specs.List.{list_any, before_first, after_first, position_or_len}
 use Rattle.std.proofs.lemmas.Fmt.{digits_decimal, digits_value-decimal, length-decimal-le, decimal_nonempty}
-use Rattle.sn_words.specs.Words.{Text, asked_by, command_of, full, input_word, is_equals, kind_of, makes_run, makes_once, makes_check, makes_print, makes_trace, makes_replay, makes_sample, named, need, need_that, number_of, parts_from, parts_of, run_form, source_word, text_in, within}
+use Rattle.sn_words.specs.Words.{Text, command_of, full, is_equals, kind_of, makes_run, makes_once, makes_check, makes_plan, makes_print, makes_trace, makes_replay, makes_sample, named, need, need_that, number_of, parts_from, parts_of, within}
 use Rattle.sn_words.specs.Command.{IsInRange}
 use Rattle.sn_words.specs.Spelling.{HasNames, dashed, with_value, words_of}
 use Rattle.sn_words.specs.declared.command.Command.{Command}
-use Rattle.sn_words.specs.declared.command.Command.TheVariants.{Run, Once, Check, Print, Trace, Replay, Sample}
+use Rattle.sn_words.specs.declared.command.Command.TheVariants.{Run, Once, Check, Print, Plan, Trace, Replay, Sample}
 use Rattle.sn_words.proofs.Digits.{numerals}
 
 number_back : (n : ℕ) → n < 10 ^ 10 → number_of (decimal n) ≡ Some n
@@ -27,23 +27,18 @@ within_back least most n small low high = ap (λ o. need o (λ m. need_that (nat
 there : (word : Text) → 0 < length word → need_that (nat_lt 0 (length word)) word ≡ Some word
 there word e = ap (λ b. need_that b word) (lt-ltb 0 (length word) e)
 
--- what is made of the names and numbers of a run, by any that takes them
-of_run : (makes : List Text → List ℕ → Option Command) (source input : Text) (w f d q : ℕ) → IsInRange (Run source input w f d q) → HasNames (Run source input w f d q)
-    → asked_by (record run_form { makes = makes }) (text_in ((codes "workers", decimal w) ∷ (codes "fuel", decimal f) ∷ (codes "depth", decimal d) ∷ (codes "queue", decimal q)
-    ∷ (source_word, source) ∷ (input_word, input) ∷ []))
-    ≡ makes (source ∷ input ∷ []) (w ∷ f ∷ d ∷ q ∷ [])
-of_run makes source input w f d q r n =
+pub each_command : (command : Command) → IsInRange command → HasNames command → command_of (words_of command) ≡ Some command
+each_command (Run source input w f d q p) r n =
     let s = there source n.0 in
     let t = there input n.1 in
     let a = within_back 1 64 w (omega arith) r.0 r.1 in
     let b = within_back 1 1_000_000_000 f (omega arith) r.2 r.3 in
     let c = within_back 1 2_000 d (omega arith) r.4 r.5 in
     let e = within_back 1 1_024 q (omega arith) r.6 r.7 in
+    let g = within_back 0 1 p (omega arith) (omega arith) r.8 in
     (λ i. need (need (s i) (λ x. need (need (t i) (λ y. Some (y ∷ []))) (λ ys. Some (x ∷ ys))))
-    (λ xs. need (need (a i) (λ m. need (need (b i) (λ m. need (need (c i) (λ m. need (need (e i) (λ m. Some (m ∷ []))) (λ ms. Some (m ∷ ms)))) (λ ms. Some (m ∷ ms)))) (λ ms. Some (m ∷ ms)))) (λ ms. makes xs ms)))
-
-pub each_command : (command : Command) → IsInRange command → HasNames command → command_of (words_of command) ≡ Some command
-each_command (Run source input w f d q) r n = of_run makes_run source input w f d q r n
+    (λ xs. need (need (g i) (λ m. need (need (a i) (λ m. need (need (b i) (λ m. need (need (c i) (λ m. need (need (e i) (λ m. Some (m ∷ []))) (λ ms. Some (m ∷ ms)))) (λ ms. Some (m ∷ ms))))
+    (λ ms. Some (m ∷ ms)))) (λ ms. Some (m ∷ ms)))) (λ ms. makes_run xs ms)))
 each_command (Once source input f d) r n =
     let s = there source n.0 in
     let t = there input n.1 in
@@ -53,7 +48,16 @@ each_command (Once source input f d) r n =
     (λ xs. need (need (b i) (λ m. need (need (c i) (λ m. Some (m ∷ []))) (λ ms. Some (m ∷ ms)))) (λ ms. makes_once xs ms)))
 each_command (Check source) r n = ap (λ o. need (need o (λ x. Some (x ∷ []))) (λ xs. makes_check xs [])) (there source n)
 each_command (Print source) r n = ap (λ o. need (need o (λ x. Some (x ∷ []))) (λ xs. makes_print xs [])) (there source n)
-each_command (Trace source input w f d q) r n = of_run makes_trace source input w f d q r n
+each_command (Plan source) r n = ap (λ o. need (need o (λ x. Some (x ∷ []))) (λ xs. makes_plan xs [])) (there source n)
+each_command (Trace source input w f d q) r n =
+    let s = there source n.0 in
+    let t = there input n.1 in
+    let a = within_back 1 64 w (omega arith) r.0 r.1 in
+    let b = within_back 1 1_000_000_000 f (omega arith) r.2 r.3 in
+    let c = within_back 1 2_000 d (omega arith) r.4 r.5 in
+    let e = within_back 1 1_024 q (omega arith) r.6 r.7 in
+    (λ i. need (need (s i) (λ x. need (need (t i) (λ y. Some (y ∷ []))) (λ ys. Some (x ∷ ys))))
+    (λ xs. need (need (a i) (λ m. need (need (b i) (λ m. need (need (c i) (λ m. need (need (e i) (λ m. Some (m ∷ []))) (λ ms. Some (m ∷ ms)))) (λ ms. Some (m ∷ ms)))) (λ ms. Some (m ∷ ms)))) (λ ms. makes_trace xs ms)))
 each_command (Replay source input trace f d) r n =
     let s = there source n.0 in
     let t = there input n.1 in

@@ -7,7 +7,7 @@ use Rattle.std.specs.Str.{bytes_eq}
 use Rattle.clap.specs.Matches.{first_value, found_of}
 use Rattle.clap.specs.declared.ArgMatches.{ArgMatches}
 use Rattle.sn_words.specs.declared.command.Command.{Command}
-use Rattle.sn_words.specs.Words.{Text, Form, asked_by, forms, need, numbers_in, options_of, positionals_in, run_form}
+use Rattle.sn_words.specs.Words.{Text, Form, asked_by, forms, need, numbers_in, options_of, positionals_in, trace_form}
 
 -- a positional word, which is wanted
 abbrev pub told_word : Text → Rule
@@ -53,9 +53,9 @@ program = with_forms bare forms
 abbrev pub look_of : ArgMatches → Text → Option Text
 look_of given name = first_value (found_of given) name
 
--- the names and the numbers that `run` is given, and `trace` as well
+-- the names and the numbers that `trace` is given, and `run` as well
 abbrev pub run_arguments_in : (Text → Option Text) → Option (List Text × List ℕ)
-run_arguments_in look = need (positionals_in look run_form.words) (λ words. need (numbers_in look run_form.settings) (λ numbers. Some (words, numbers)))
+run_arguments_in look = need (positionals_in look trace_form.words) (λ words. need (numbers_in look trace_form.settings) (λ numbers. Some (words, numbers)))
 
 -- the command of this name
 abbrev pub asked_as : Text → (Text → Option Text) → Option Command

@@ -4,7 +4,7 @@ use Rattle.std.specs.List.{list_all, list_any, before_first, after_first}
 use Rattle.std.specs.Str.{bytes_eq, all_ascii_digits}
 use Rattle.std.specs.Str.Parse.{digits_value}
 use Rattle.sn_words.specs.declared.command.Command.{Command}
-use Rattle.sn_words.specs.declared.command.Command.TheVariants.{Run, Once, Check, Print, Trace, Replay, Sample}
+use Rattle.sn_words.specs.declared.command.Command.TheVariants.{Run, Once, Check, Print, Plan, Trace, Replay, Sample}
 
 abbrev pub Text : Type 0
 Text = List ℕ
@@ -151,8 +151,11 @@ depth = record { name = codes "depth"; least = 1; most = 2_000; usual = 1_000 }
 abbrev pub queue : Setting
 queue = record { name = codes "queue"; least = 1; most = 1_024; usual = 16 }
 
+abbrev pub plan : Setting
+plan = record { name = codes "plan"; least = 0; most = 1; usual = 0 }
+
 abbrev pub makes_run : List Text → List ℕ → Option Command
-makes_run (source ∷ input ∷ []) (workers ∷ fuel ∷ depth ∷ queue ∷ []) = Some (Run source input workers fuel depth queue)
+makes_run (source ∷ input ∷ []) (plan ∷ workers ∷ fuel ∷ depth ∷ queue ∷ []) = Some (Run source input workers fuel depth queue plan)
 makes_run _ _ = None
 
 abbrev pub makes_once : List Text → List ℕ → Option Command
@@ -166,6 +169,10 @@ makes_check _ _ = None
 abbrev pub makes_print : List Text → List ℕ → Option Command
 makes_print (source ∷ []) [] = Some (Print source)
 makes_print _ _ = None
+
+abbrev pub makes_plan : List Text → List ℕ → Option Command
+makes_plan (source ∷ []) [] = Some (Plan source)
+makes_plan _ _ = None
 
 abbrev pub makes_trace : List Text → List ℕ → Option Command
 makes_trace (source ∷ input ∷ []) (workers ∷ fuel ∷ depth ∷ queue ∷ []) = Some (Trace source input workers fuel depth queue)
@@ -196,7 +203,7 @@ abbrev pub count_word : Text
 count_word = codes "COUNT"
 
 abbrev pub run_form : Form
-run_form = record { name = codes "run"; words = source_word ∷ input_word ∷ []; settings = workers ∷ fuel ∷ depth ∷ queue ∷ []; makes = makes_run }
+run_form = record { name = codes "run"; words = source_word ∷ input_word ∷ []; settings = plan ∷ workers ∷ fuel ∷ depth ∷ queue ∷ []; makes = makes_run }
 
 abbrev pub once_form : Form
 once_form = record { name = codes "once"; words = source_word ∷ input_word ∷ []; settings = fuel ∷ depth ∷ []; makes = makes_once }
@@ -206,6 +213,9 @@ check_form = record { name = codes "check"; words = source_word ∷ []; settings
 
 abbrev pub print_form : Form
 print_form = record { name = codes "print"; words = source_word ∷ []; settings = []; makes = makes_print }
+
+abbrev pub plan_form : Form
+plan_form = record { name = codes "plan"; words = source_word ∷ []; settings = []; makes = makes_plan }
 
 abbrev pub trace_form : Form
 trace_form = record { name = codes "trace"; words = source_word ∷ input_word ∷ []; settings = workers ∷ fuel ∷ depth ∷ queue ∷ []; makes = makes_trace }
@@ -217,7 +227,7 @@ abbrev pub sample_form : Form
 sample_form = record { name = codes "sample"; words = seed_word ∷ count_word ∷ []; settings = []; makes = makes_sample }
 
 abbrev pub forms : List Form
-forms = run_form ∷ once_form ∷ check_form ∷ print_form ∷ trace_form ∷ replay_form ∷ sample_form ∷ []
+forms = run_form ∷ once_form ∷ check_form ∷ print_form ∷ plan_form ∷ trace_form ∷ replay_form ∷ sample_form ∷ []
 
 abbrev pub options_of : Form → List Text
 options_of form = map (λ setting. setting.name) form.settings

@@ -20,6 +20,8 @@ pub enum Command {
         depth: u32,
         /// How many entries a queue between workers holds.
         queue: u32,
+        /// 1 where the planned network is run, and else 0.
+        plan: u32,
     },
     /// Run the net of a source once over the records of an input, in one thread.
     Once {
@@ -34,6 +36,10 @@ pub enum Command {
     },
     /// Print the canonical text of a source.
     Print {
+        source: Text,
+    },
+    /// Print how many nodes the net of a source has, and how many its planned network.
+    Plan {
         source: Text,
     },
     /// Run the net of a source over the records of an input with workers, and print one line for each event of its graph.
@@ -70,6 +76,7 @@ impl Command {
             Command::Once { source, .. } => source.as_slice(),
             Command::Check { source } => source.as_slice(),
             Command::Print { source } => source.as_slice(),
+            Command::Plan { source } => source.as_slice(),
             Command::Trace { source, .. } => source.as_slice(),
             Command::Replay { source, .. } => source.as_slice(),
             Command::Sample { .. } => &[],
@@ -85,7 +92,10 @@ impl Command {
             Command::Once { input, .. } => input.as_slice(),
             Command::Trace { input, .. } => input.as_slice(),
             Command::Replay { input, .. } => input.as_slice(),
-            Command::Check { .. } | Command::Print { .. } | Command::Sample { .. } => &[],
+            Command::Check { .. }
+            | Command::Print { .. }
+            | Command::Plan { .. }
+            | Command::Sample { .. } => &[],
         }
     }
 
@@ -99,6 +109,7 @@ impl Command {
             | Command::Once { .. }
             | Command::Check { .. }
             | Command::Print { .. }
+            | Command::Plan { .. }
             | Command::Trace { .. }
             | Command::Sample { .. } => &[],
         }

@@ -4,7 +4,7 @@ ghost use Rattle.clap.specs.Words.{app_of, new_app, with_rule, with_subcommand};
 ghost use Rattle.clap.specs.declared.builder.Command.TheViews.{out-Command as fields_of};
 ghost use Rattle.sn_words.specs.Clap.{bare, leaf_of, program, told_option, told_word, with_options, with_words};
 
-use crate::numbers::{DEPTH, FUEL, QUEUE, WORKERS};
+use crate::numbers::{DEPTH, FUEL, PLAN, QUEUE, WORKERS};
 use clap::Arg;
 use sn_list::{Boxed, Memory};
 use std::alloc::{AllocError, Global};
@@ -101,7 +101,7 @@ pub(crate) fn program_form<'a>(alloc: Global) -> Result<Boxed<clap::Command<'a>>
         form,
         "run",
         &[SOURCE, INPUT],
-        &[WORKERS.name, FUEL.name, DEPTH.name, QUEUE.name],
+        &[PLAN.name, WORKERS.name, FUEL.name, DEPTH.name, QUEUE.name],
     )?;
     let form = with_command(
         alloc,
@@ -112,6 +112,7 @@ pub(crate) fn program_form<'a>(alloc: Global) -> Result<Boxed<clap::Command<'a>>
     )?;
     let form = with_command(alloc, form, "check", &[SOURCE], &[])?;
     let form = with_command(alloc, form, "print", &[SOURCE], &[])?;
+    let form = with_command(alloc, form, "plan", &[SOURCE], &[])?;
     let form = with_command(
         alloc,
         form,

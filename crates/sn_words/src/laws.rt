@@ -5,7 +5,7 @@ ghost use Rattle.sn_words.specs.Command.{IsInRange};
 ghost use Rattle.sn_words.specs.Spelling.{dashed, with_value, words_of, HasNames};
 ghost use Rattle.sn_words.specs.Words.{command_by, command_of, is_equals, option, parts_of, positional, Form, Part, Text};
 ghost use Rattle.sn_words.specs.declared.command.Command.{Command as ACommand};
-ghost use Rattle.sn_words.specs.declared.command.Command.TheVariants.{Run as ARun, Once as AnOnce, Trace as ATrace, Replay as AReplay, Sample as ASample};
+ghost use Rattle.sn_words.specs.declared.command.Command.TheVariants.{Run as ARun, Once as AnOnce, Plan as APlan, Trace as ATrace, Replay as AReplay, Sample as ASample};
 ghost use Rattle.std.specs.Prelude.{List};
 
 /// Each command whose numbers are in range, and whose names are not empty, is the command of some words.
@@ -32,11 +32,13 @@ pub fn options_stand_anywhere()
 
 /// Words and the commands that they give.
 pub fn some_words()
-    ensures given { command_of (codes "run" ∷ codes "--workers=8" ∷ codes "s" ∷ codes "--" ∷ codes "i" ∷ []) ≡ Some (ARun (codes "s") (codes "i") 8 1_000_000 1_000 16) }
+    ensures given { command_of (codes "run" ∷ codes "--workers=8" ∷ codes "s" ∷ codes "--" ∷ codes "i" ∷ []) ≡ Some (ARun (codes "s") (codes "i") 8 1_000_000 1_000 16 0) }
+    ensures planned { command_of (codes "run" ∷ codes "s" ∷ codes "i" ∷ codes "--plan" ∷ codes "1" ∷ []) ≡ Some (ARun (codes "s") (codes "i") 4 1_000_000 1_000 16 1) }
     ensures between { command_of (codes "once" ∷ codes "-" ∷ codes "--fuel" ∷ codes "0000000005" ∷ codes "i" ∷ []) ≡ Some (AnOnce (codes "-") (codes "i") 5 1_000) }
     ensures dashed { command_of (codes "once" ∷ codes "--" ∷ codes "--fuel" ∷ codes "--" ∷ []) ≡ Some (AnOnce (codes "--fuel") (codes "--") 1_000_000 1_000) }
     ensures traced { command_of (codes "trace" ∷ codes "--queue" ∷ codes "1" ∷ codes "s" ∷ codes "i" ∷ []) ≡ Some (ATrace (codes "s") (codes "i") 4 1_000_000 1_000 1) }
     ensures replayed { command_of (codes "replay" ∷ codes "s" ∷ codes "i" ∷ codes "t" ∷ []) ≡ Some (AReplay (codes "s") (codes "i") (codes "t") 1_000_000 1_000) }
+    ensures plan { command_of (codes "plan" ∷ codes "s" ∷ []) ≡ Some (APlan (codes "s")) }
     ensures seed { command_of (codes "sample" ∷ codes "2147483647" ∷ codes "0" ∷ []) ≡ Some (ASample 2_147_483_647 0) }
 {}
 
@@ -45,6 +47,7 @@ pub fn some_other_words()
     ensures none { command_of [] ≡ None }
     ensures small { command_of (codes "run" ∷ codes "s" ∷ codes "i" ∷ codes "--workers" ∷ codes "0" ∷ []) ≡ None }
     ensures large { command_of (codes "run" ∷ codes "s" ∷ codes "i" ∷ codes "--workers" ∷ codes "65" ∷ []) ≡ None }
+    ensures plans { command_of (codes "run" ∷ codes "s" ∷ codes "i" ∷ codes "--plan" ∷ codes "2" ∷ []) ≡ None }
     ensures twice { command_of (codes "run" ∷ codes "s" ∷ codes "i" ∷ codes "--fuel" ∷ codes "5" ∷ codes "--fuel" ∷ codes "5" ∷ []) ≡ None }
     ensures unknown { command_of (codes "once" ∷ codes "s" ∷ codes "i" ∷ codes "--workers" ∷ codes "2" ∷ []) ≡ None }
     ensures short { command_of (codes "run" ∷ codes "s" ∷ codes "i" ∷ codes "--work" ∷ codes "2" ∷ []) ≡ None }

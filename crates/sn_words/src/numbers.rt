@@ -14,6 +14,9 @@ pub const DEFAULT_DEPTH: u32 = 1_000;
 /// How many entries a queue holds where no word says it.
 pub const DEFAULT_QUEUE: u32 = 16;
 
+/// Whether the planned network is run, where no word says it.
+pub const DEFAULT_PLAN: u32 = 0;
+
 /// An option whose value is a number.
 pub(crate) struct Setting {
     pub(crate) name: &'static str,
@@ -53,6 +56,14 @@ pub(crate) const QUEUE: Setting = Setting {
     least: 1,
     most: 1_024,
     usual: DEFAULT_QUEUE as u64,
+};
+
+/// Whether the planned network is run.
+pub(crate) const PLAN: Setting = Setting {
+    name: "plan",
+    least: 0,
+    most: 1,
+    usual: DEFAULT_PLAN as u64,
 };
 
 /// The number that one to ten digits write. A plus, which `parse` takes, is refused.

@@ -3,13 +3,13 @@ ghost use Rattle.std.specs.Prelude.{◌≡◌, ◌≢◌, ◌≤◌, ◌∷◌, 
 ghost use Rattle.std.specs.String.{string_bytes};
 ghost use Rattle.clap.specs.Words.{kind_of, subcommand_rows_of};
 ghost use Rattle.sn_words.specs.Command.{IsInRange};
-ghost use Rattle.sn_words.specs.Words.{asked_by, command_of, number_or, positional_in, check_form, once_form, print_form, replay_form, run_form, sample_form, trace_form};
+ghost use Rattle.sn_words.specs.Words.{asked_by, command_of, number_or, positional_in, check_form, once_form, plan_form, print_form, replay_form, run_form, sample_form, trace_form};
 ghost use Rattle.sn_words.specs.Clap.{asked_as, asked_in, look_of, run_arguments_in};
-ghost use Rattle.sn_words.specs.declared.command.Command.TheVariants.{Run as ARun};
+ghost use Rattle.sn_words.specs.declared.command.Command.TheVariants.{Trace as ATrace};
 
 use crate::command::{Command, WordsFault};
 use crate::forms::{COUNT, INPUT, SEED, SOURCE, TRACE, program_form};
-use crate::numbers::{DEPTH, FUEL, QUEUE, Setting, WORKERS, read_number};
+use crate::numbers::{DEPTH, FUEL, PLAN, QUEUE, Setting, WORKERS, read_number};
 use clap::ArgMatches;
 use clap::error::ErrorKind;
 use sn_list::Seq;
@@ -60,7 +60,7 @@ struct RunArguments {
 fn run_arguments(alloc: Global, given: &ArgMatches) -> Result<RunArguments, WordsFault>
     ensures ok { IfOk result (λ run. run_arguments_in (look_of given.now) ≡ Some (run.source ∷ run.input ∷ [], run.workers ∷ run.fuel ∷ run.depth ∷ run.queue ∷ [])) }
     ensures usage { result ≡ Err WordsFault.Usage → run_arguments_in (look_of given.now) ≡ None }
-    ensures in_range { IfOk result (λ run. IsInRange (ARun run.source run.input run.workers run.fuel run.depth run.queue)) }
+    ensures in_range { IfOk result (λ run. IsInRange (ATrace run.source run.input run.workers run.fuel run.depth run.queue)) }
 {
     let Some(source) = positional(given, SOURCE) else {
         return Err(WordsFault::Usage);
@@ -106,6 +106,9 @@ fn make_run(alloc: Global, given: &ArgMatches) -> Result<Command, WordsFault>
         depth,
         queue,
     } = run_arguments(alloc, given)?;
+    let Some(plan) = number(given, &PLAN) else {
+        return Err(WordsFault::Usage);
+    };
     Ok(Command::Run {
         source,
         input,
@@ -113,6 +116,7 @@ fn make_run(alloc: Global, given: &ArgMatches) -> Result<Command, WordsFault>
         fuel,
         depth,
         queue,
+        plan: plan as u32,
     })
 }
 
@@ -168,6 +172,19 @@ fn make_print(alloc: Global, given: &ArgMatches) -> Result<Command, WordsFault>
     };
     let source = Seq::from_slice(alloc, source.as_bytes())?;
     Ok(Command::Print { source })
+}
+
+/// The command `plan` of what was given.
+fn make_plan(alloc: Global, given: &ArgMatches) -> Result<Command, WordsFault>
+    ensures ok { IfOk result (λ command. asked_by plan_form (look_of given.now) ≡ Some command) }
+    ensures usage { result ≡ Err WordsFault.Usage → asked_by plan_form (look_of given.now) ≡ None }
+    ensures in_range { IfOk result IsInRange }
+{
+    let Some(source) = positional(given, SOURCE) else {
+        return Err(WordsFault::Usage);
+    };
+    let source = Seq::from_slice(alloc, source.as_bytes())?;
+    Ok(Command::Plan { source })
 }
 
 /// The command `trace` of what was given.
@@ -262,6 +279,7 @@ fn make_named(alloc: Global, name: &str, given: &ArgMatches) -> Result<Command, 
         "once" => make_once(alloc, given),
         "check" => make_check(alloc, given),
         "print" => make_print(alloc, given),
+        "plan" => make_plan(alloc, given),
         "trace" => make_trace(alloc, given),
         "replay" => make_replay(alloc, given),
         "sample" => make_sample(given),

@@ -1,4 +1,4 @@
-use Rattle.sn_outcomes.proofs.Done.{once_done, run_done, trace_done, replay_done, check_done, print_done, sample_done}
+use Rattle.sn_outcomes.proofs.Done.{once_done, run_done, trace_done, replay_done, check_done, plan_done, print_done, sample_done}
 use Rattle.sn_outcomes.proofs.laws.accepted_commands_are_done.Goals as goal
 
 pub returns-clause-once : goal.returns-clause-once
@@ -9,6 +9,9 @@ returns-clause-run c = run_done
 
 pub returns-clause-check : goal.returns-clause-check
 returns-clause-check c = check_done
+
+pub returns-clause-plan : goal.returns-clause-plan
+returns-clause-plan c = plan_done
 
 pub returns-clause-print : goal.returns-clause-print
 returns-clause-print c = print_done

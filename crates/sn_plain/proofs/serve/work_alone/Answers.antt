@@ -19,15 +19,21 @@ returns-in-Once-clause-stopped g c =
 
 pub returns-in-Check-clause-stopped : goal.returns-in-Check-clause-stopped
 returns-in-Check-clause-stopped g c =
-    let file : List ℕ → File = seen_file g.F.Files.bytes_of g.F.Files.faults c.args.files.now c.run_check.new.files in
-    let out : Sink = seen_sink g.O.Sink.held g.O.Sink.faults c.args.out.now c.run_check.new.out in
-    subst (λ (command : Command). IfErr c.run_check.result (WhyEnded command file out)) (sym c.in-Check.is) (rw c.as_slice-in-Check.ensures at c.run_check.ensures.stopped)
+    let file : List ℕ → File = seen_file g.F.Files.bytes_of g.F.Files.faults c.args.files.now c.run_report.new.files in
+    let out : Sink = seen_sink g.O.Sink.held g.O.Sink.faults c.args.out.now c.run_report.new.out in
+    subst (λ (command : Command). IfErr c.run_report.result (WhyEnded command file out)) (sym c.in-Check.is) (rw c.as_slice-in-Check.ensures at c.run_report.ensures.stopped)
 
 pub returns-in-Print-clause-stopped : goal.returns-in-Print-clause-stopped
 returns-in-Print-clause-stopped g c =
     let file : List ℕ → File = seen_file g.F.Files.bytes_of g.F.Files.faults c.args.files.now c.run_print.new.files in
     let out : Sink = seen_sink g.O.Sink.held g.O.Sink.faults c.args.out.now c.run_print.new.out in
     subst (λ (command : Command). IfErr c.run_print.result (WhyEnded command file out)) (sym c.in-Print.is) (rw c.as_slice-in-Print.ensures at c.run_print.ensures.stopped)
+
+pub returns-in-Plan-clause-stopped : goal.returns-in-Plan-clause-stopped
+returns-in-Plan-clause-stopped g c =
+    let file : List ℕ → File = seen_file g.F.Files.bytes_of g.F.Files.faults c.args.files.now c.run_report-in-Plan.new.files in
+    let out : Sink = seen_sink g.O.Sink.held g.O.Sink.faults c.args.out.now c.run_report-in-Plan.new.out in
+    subst (λ (command : Command). IfErr c.run_report-in-Plan.result (WhyEnded command file out)) (sym c.in-Plan.is) (rw c.as_slice-in-Plan.ensures at c.run_report-in-Plan.ensures.stopped)
 
 pub run_replay-requires : goal.run_replay-requires
 run_replay-requires g c =

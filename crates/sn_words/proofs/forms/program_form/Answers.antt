@@ -2,7 +2,7 @@ use Rattle.std.proofs.Common.{◌∙◌, ap}
 use Rattle.std.proofs.lemmas.Result.{IfOk-weaker}
 use Rattle.clap.specs.Simple.{App, with_subcommand, app_of}
 use Rattle.sn_words.specs.Clap.{form_app}
-use Rattle.sn_words.specs.Words.{Form, run_form, once_form, check_form, print_form, trace_form, replay_form, sample_form}
+use Rattle.sn_words.specs.Words.{Form, run_form, once_form, check_form, print_form, plan_form, trace_form, replay_form, sample_form}
 use Rattle.sn_words.proofs.forms.program_form.Goals as goal
 
 -- a program with one more command
@@ -15,6 +15,7 @@ returns c =
     let with_once = c.in_ok-form-3.ensures ∙ ap (plus once_form) with_run in
     let with_check = c.in_ok-form-4.ensures ∙ ap (plus check_form) with_once in
     let with_print = c.in_ok-form-5.ensures ∙ ap (plus print_form) with_check in
-    let with_trace = c.in_ok-form-6.ensures ∙ ap (plus trace_form) with_print in
-    let with_replay = c.in_ok-form-7.ensures ∙ ap (plus replay_form) with_trace in
-    IfOk-weaker c.with_command-7.result _ _ (λ form h. h ∙ ap (plus sample_form) with_replay) c.with_command-7.ensures
+    let with_plan = c.in_ok-form-6.ensures ∙ ap (plus plan_form) with_print in
+    let with_trace = c.in_ok-form-7.ensures ∙ ap (plus trace_form) with_plan in
+    let with_replay = c.in_ok-form-8.ensures ∙ ap (plus replay_form) with_trace in
+    IfOk-weaker c.with_command-8.result _ _ (λ form h. h ∙ ap (plus sample_form) with_replay) c.with_command-8.ensures
