@@ -1,7 +1,7 @@
 //! The words of the command line.
 use crate::refusal::Refusal;
 use clap::error::ErrorKind;
-use clap::{Arg, ArgMatches, Error};
+use clap::{Arg, ArgAction, ArgMatches, Error};
 use std::alloc::{AllocError, Global};
 
 /// A picture that is asked for.
@@ -11,6 +11,8 @@ pub struct Command {
     pub source: String,
     /// The name of the net, where it is not `main`.
     claim: Option<String>,
+    /// Whether its network is drawn as it is planned.
+    pub is_planned: bool,
 }
 
 impl Command {
@@ -35,6 +37,8 @@ const SOURCE: &str = "SOURCE";
 
 const CLAIM: &str = "claim";
 
+const PLAN: &str = "plan";
+
 /// The program, as `clap` is told of it.
 fn program_form<'a>(alloc: Global) -> Result<clap::Command<'a>, AllocError> {
     let program = clap::Command::new(alloc, "draw")
@@ -48,7 +52,11 @@ fn program_form<'a>(alloc: Global) -> Result<clap::Command<'a>, AllocError> {
         .long(CLAIM)
         .value_name("NAME")
         .help("A net with a signature, in place of main");
-    program.arg(source)?.arg(claim)
+    let plan = Arg::new(alloc, PLAN)
+        .long(PLAN)
+        .action(ArgAction::SetTrue)
+        .help("Draw the planned network, with what was dropped in the title");
+    program.arg(source)?.arg(claim)?.arg(plan)
 }
 
 /// What is said where `clap` refuses the words, or shows something in place of a picture.
@@ -72,7 +80,11 @@ fn found(alloc: Global, matches: &ArgMatches) -> Result<Asked, Refusal> {
         Some(name) => Some(String::from_str(alloc, name)?),
         None => None,
     };
-    Ok(Asked::Draw(Command { source, claim }))
+    Ok(Asked::Draw(Command {
+        source,
+        claim,
+        is_planned: matches.get_flag(PLAN),
+    }))
 }
 
 /// What the words after the program's name ask for.

@@ -1,5 +1,5 @@
-//! Draws the network of a source in the language of Graphviz: `draw SOURCE [--claim NAME]` prints the picture of the network of `main`, or of
-//! another net with a signature.
+//! Draws the network of a source in the language of Graphviz: `draw SOURCE [--claim NAME] [--plan]` prints the picture of the network of `main`, or of
+//! another net with a signature, as it is written or as it is planned.
 //!
 //! Each edge tells the variants that flow along it, as they are inferred from the input type; where the net's types are refused, the title
 //! says so. The exit status is 0 where the picture was printed, 2 where the words ask for nothing that is known, 6 where the source is refused,
@@ -9,6 +9,7 @@
 mod claim;
 mod command;
 mod picture;
+mod plan;
 mod refusal;
 
 use command::{Asked, Command, read_words};
@@ -40,7 +41,7 @@ fn draw(rt: &HostRuntime, command: &Command) -> Result<(), Refusal> {
     if source.len() as u64 > SOURCE_LIMIT {
         return Err(Refusal::too_large(rt.alloc(), name));
     }
-    let text = picture_of(rt.alloc(), source.as_slice(), command.claim())?;
+    let text = picture_of(rt.alloc(), source.as_slice(), command)?;
     print(rt, text.as_slice())
 }
 

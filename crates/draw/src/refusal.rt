@@ -139,7 +139,7 @@ fn write_stop<W: fmt::Write>(f: &mut fmt::Formatter<W>, stop: &Stop) -> fmt::Res
 impl fmt::Display for Refusal {
     fn fmt<W: fmt::Write>(&self, f: &mut fmt::Formatter<W>) -> fmt::Result {
         match self {
-            Refusal::Usage => f.write_str("usage: draw SOURCE [--claim NAME]"),
+            Refusal::Usage => f.write_str("usage: draw SOURCE [--claim NAME] [--plan]"),
             Refusal::Read(name) => {
                 let name = Shown(name.as_slice());
                 write!(f, "read: {name}")
