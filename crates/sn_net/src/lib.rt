@@ -1,6 +1,7 @@
 //! Networks: what they are made of, when they are closed, what their components answer, and where their dispatchers send items.
 #![tactic(auto)]
 
+mod copying;
 mod expr;
 mod faced;
 mod faces;
@@ -11,6 +12,7 @@ mod net;
 mod routing;
 mod tags;
 
+pub use copying::{copy_faces, copy_guard};
 pub use expr::{BoxProgram, Boxes, BuiltinKind, Expr, Fun};
 pub use faced::Faced;
 pub use faces::{ascending, compare, copy_sets, face, variant_of};

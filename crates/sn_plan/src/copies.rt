@@ -3,39 +3,10 @@ ghost use Rattle.std.specs.Prelude.{◌≡◌, IfOk};
 ghost use Rattle.sn_net.specs.declared.net.Net.TheVariants as form;
 
 use sn_list::{Boxed, Memory, Seq};
-use sn_net::{Filter, Merge, Net, copy_sets};
+use sn_net::{Filter, Merge, Net, copy_guard, copy_sets};
 use sn_record::LabelSet;
-use sn_stack::append;
 use sn_tagexpr::TagExpr;
 use std::alloc::Global;
-
-/// A copy of a guard, if there is one.
-fn copy_guard(alloc: Global, guard: &Option<TagExpr>) -> Result<Option<TagExpr>, Memory>
-    ensures { IfOk result (λ copy. copy ≡ guard.now) }
-{
-    match guard {
-        Some(guard) => {
-            let copy = guard.copy(alloc)?;
-            Ok(Some(copy))
-        }
-        None => Ok(None),
-    }
-}
-
-/// A copy of each of the faces.
-pub(crate) fn copy_faces(
-    alloc: Global,
-    faces: &[Seq<LabelSet>],
-) -> Result<Seq<Seq<LabelSet>>, Memory>
-    ensures { IfOk result (λ copies. copies ≡ faces.now) }
-{
-    let mut copies = Seq::new(alloc);
-    for face in faces {
-        let copy = copy_sets(alloc, face.as_slice())?;
-        append(&mut copies, copy)?;
-    }
-    Ok(copies)
-}
 
 /// A copy of a filter.
 pub(crate) fn filter_of(alloc: Global, filter: &Filter) -> Result<Net, Memory>

@@ -2,9 +2,9 @@
 ghost use Rattle.std.specs.Prelude.{◌≡◌, IfOk, map};
 ghost use Rattle.sn_planned.specs.Slim.{before, both, gives_back, sets_nothing, slim, slimmed, unless_identity};
 
-use crate::copies::{copy_faces, filter_of, split_of, star_of, sync_of};
+use crate::copies::{filter_of, split_of, star_of, sync_of};
 use sn_list::{Boxed, Memory, Seq};
-use sn_net::{Filter, Net, Template};
+use sn_net::{Filter, Net, Template, copy_faces};
 use sn_stack::append;
 use std::alloc::Global;
 
