@@ -3,5 +3,7 @@ pub mod Coming
 pub mod Fitting
 pub mod Going
 pub mod Numbers
+pub mod OneLine
 pub mod Repeating
+pub mod Rooms
 pub mod Tables

@@ -21,7 +21,7 @@ or_true true e x = refl
 or_true false e x = cc
 
 -- the names that a table holds once a name is entered
-held_more : (names : List (List ℕ)) (n m : List ℕ) → is_held (entered names n) m ≡ (is_held names m || bytes_eq m n)
+pub held_more : (names : List (List ℕ)) (n m : List ℕ) → is_held (entered names n) m ≡ (is_held names m || bytes_eq m n)
 held_more names n m =
     elim (is_held names n) as (λ b. is_held names n ≡ b → is_held (cond b names (names ++ n ∷ [])) m ≡ (is_held names m || bytes_eq m n)) [
       | true ↦ λ held.

@@ -1,5 +1,6 @@
 pub mod Line
 pub mod Numbered
+pub mod OneLine
 pub mod Reading
 pub mod Seen
 pub mod Steps

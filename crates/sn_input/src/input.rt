@@ -34,3 +34,26 @@ impl From<WantedMemory> for InputFault {
         InputFault::Memory
     }
 }
+
+/// Why a line gives no record.
+#[derive(PartialEq, Eq, Debug, Drop)]
+pub enum RecordFault {
+    /// It is not in the grammar, not UTF-8, or has a number or value past its limits.
+    BadLine,
+    /// A label repeats an earlier one, by its kind and name.
+    Twice(Kind, Text),
+    /// With those known before, there are more than 4,096 different names.
+    TooManyNames,
+    Memory,
+}
+
+impl From<WantedMemory> for RecordFault {
+    ghost use Rattle.std.specs.Prelude.{◌≡◌};
+    ghost use Rattle.sn_input.specs.declared.input.RecordFault.{RecordFault};
+
+    ghost from_gives = { λ _ e. e ≡ RecordFault.Memory };
+
+    fn from(_wanted: WantedMemory) -> RecordFault {
+        RecordFault::Memory
+    }
+}

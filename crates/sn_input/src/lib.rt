@@ -4,9 +4,12 @@
 mod input;
 mod line;
 mod numbering;
+mod one_line;
 mod reading;
 mod repeats;
+mod room;
 
-pub use input::{Input, InputFault};
+pub use input::{Input, InputFault, RecordFault};
 pub use numbering::record_of;
+pub use one_line::read_line;
 pub use reading::read_records;

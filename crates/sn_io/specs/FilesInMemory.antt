@@ -19,11 +19,16 @@ bytes_in files name = option_map (λ file. file.bytes) (file_named files.stored.
 abbrev pub faults_in : MemFiles → List ℕ → ℕ
 faults_in files name = unwrap_or (option_map (λ file. file.faults) (file_named files.stored.items name)) files.other_faults
 
+-- the greatest number of bytes that a call asked for
+abbrev pub asked_in : MemFiles → ℕ
+asked_in files = files.asked
+
 abbrev pub files_plan : MemFiles → Plan
 files_plan files = files.plan
 
--- the bytes and the count of each name stay
+-- the bytes and the count of each name stay, and what was asked for
 pub record KeepsFiles (old new : MemFiles) : Type 0 where
+  pub asked : asked_in new ≡ asked_in old
   pub bytes : (name : List ℕ) → bytes_in new name ≡ bytes_in old name
   pub faults : (name : List ℕ) → faults_in new name ≡ faults_in old name
 
@@ -33,3 +38,8 @@ pub record IsPlace (files : List StoredFile) (name : List ℕ) (i : ℕ) : Type 
   pub named : (d : StoredFile) → bytes_eq (get_or files i d).name name ≡ true
   pub found : (d : StoredFile) → file_named files name ≡ Some (get_or files i d)
   pub put : (file : StoredFile) → bytes_eq file.name name ≡ true → file_named (set files i file) name ≡ Some file
+
+-- the files themselves stay, and so do the counts of all names
+pub record KeepsStored (old new : MemFiles) : Type 0 where
+  pub stored : new.stored.items ≡ old.stored.items
+  pub others : new.other_faults ≡ old.other_faults

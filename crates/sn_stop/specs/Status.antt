@@ -35,12 +35,13 @@ status_code status.TooLarge = 10
 status_code status.Limit = 11
 status_code status.Trace = 13
 
--- a line that is wrong, a record that is not of the input type, and one that is one too many
+-- a line that is wrong, a record that is not of the input type, one that is one too many, and a line that is too long
 abbrev pub line_status : LineFault → Status
 line_status (line.BadLine n) = status.Input
 line_status (line.Twice n kind name) = status.Input
 line_status (line.Untyped n) = status.Input
 line_status (line.TooMany n) = status.Limit
+line_status (line.TooLong n) = status.Limit
 
 abbrev pub refusal_status : Refusal → Status
 refusal_status (TooLarge which) = status.TooLarge
@@ -86,6 +87,7 @@ line_label (line.BadLine n) = codes "input: BadLine "
 line_label (line.Twice n kind name) = codes "input: Twice "
 line_label (line.Untyped n) = codes "input: Untyped "
 line_label (line.TooMany n) = codes "limit: Records at line "
+line_label (line.TooLong n) = codes "limit: Line "
 
 abbrev pub trace_label : TraceRefusal → List ℕ
 trace_label (trace.BadLine n) = codes "trace: BadLine "
@@ -125,6 +127,7 @@ line_number (line.BadLine n) = n
 line_number (line.Twice n kind name) = n
 line_number (line.Untyped n) = n
 line_number (line.TooMany n) = n
+line_number (line.TooLong n) = n
 
 abbrev pub trace_number : TraceRefusal → ℕ
 trace_number (trace.BadLine n) = n
@@ -181,6 +184,7 @@ line_detail (line.BadLine n) = []
 line_detail (line.Twice n kind name) = codes " " ++ printed_label kind name
 line_detail (line.Untyped n) = []
 line_detail (line.TooMany n) = []
+line_detail (line.TooLong n) = []
 
 -- the label, or the variant for which types are wrong
 abbrev pub refusal_detail : Refusal → List ℕ

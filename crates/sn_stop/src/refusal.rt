@@ -71,13 +71,15 @@ impl TypeFault {
 #[derive(Drop)]
 pub enum LineFault {
     /// It is no record.
-    BadLine(u32),
+    BadLine(u64),
     /// A label repeats an earlier one, by its kind and name.
-    Twice(u32, Kind, Text),
+    Twice(u64, Kind, Text),
     /// Its record is not of the input type.
-    Untyped(u32),
+    Untyped(u64),
     /// Its record is one too many.
-    TooMany(u32),
+    TooMany(u64),
+    /// It has too many bytes.
+    TooLong(u64),
 }
 
 impl LineFault {
@@ -88,19 +90,20 @@ impl LineFault {
             LineFault::BadLine(_) | LineFault::Twice(_, _, _) | LineFault::Untyped(_) => {
                 Status::Input
             }
-            LineFault::TooMany(_) => Status::Limit,
+            LineFault::TooMany(_) | LineFault::TooLong(_) => Status::Limit,
         }
     }
 
     /// The number of the line.
-    pub(crate) fn number(&self) -> u32
+    pub(crate) fn number(&self) -> u64
         ensures { result ≡ line_number self.now }
     {
         match self {
             LineFault::BadLine(n)
             | LineFault::Twice(n, _, _)
             | LineFault::Untyped(n)
-            | LineFault::TooMany(n) => *n,
+            | LineFault::TooMany(n)
+            | LineFault::TooLong(n) => *n,
         }
     }
 
@@ -113,6 +116,7 @@ impl LineFault {
             LineFault::Twice(_, _, _) => b"input: Twice ",
             LineFault::Untyped(_) => b"input: Untyped ",
             LineFault::TooMany(_) => b"limit: Records at line ",
+            LineFault::TooLong(_) => b"limit: Line ",
         }
     }
 }

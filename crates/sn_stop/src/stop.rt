@@ -83,11 +83,11 @@ impl From<InputFault> for Stop {
 
     fn from(fault: InputFault) -> Stop {
         match fault {
-            InputFault::BadLine(n) => Stop::Refused(Refusal::Line(LineFault::BadLine(n))),
+            InputFault::BadLine(n) => Stop::Refused(Refusal::Line(LineFault::BadLine(n as u64))),
             InputFault::Twice(n, kind, name) => {
-                Stop::Refused(Refusal::Line(LineFault::Twice(n, kind, name)))
+                Stop::Refused(Refusal::Line(LineFault::Twice(n as u64, kind, name)))
             }
-            InputFault::TooMany(n) => Stop::Refused(Refusal::Line(LineFault::TooMany(n))),
+            InputFault::TooMany(n) => Stop::Refused(Refusal::Line(LineFault::TooMany(n as u64))),
             InputFault::TooManyNames => Stop::Refused(Refusal::TooManyNames),
             InputFault::Memory => Stop::Memory,
         }
@@ -173,18 +173,18 @@ impl Stop {
     }
 
     /// The place in the source, or the number of the input's or the trace's line, that the line on `err` speaks of, or 0.
-    pub fn place(&self) -> u32
+    pub fn place(&self) -> u64
         ensures { result ≡ stop_place self.now }
     {
         match self {
-            Stop::Refused(Refusal::Source(_, at)) => *at,
-            Stop::Refused(Refusal::TooDeep(at)) => *at,
-            Stop::Refused(Refusal::LargeTree(at)) => *at,
-            Stop::Refused(Refusal::IllTyped(_, at, _)) => *at,
-            Stop::Refused(Refusal::Variants(at)) => *at,
+            Stop::Refused(Refusal::Source(_, at)) => *at as u64,
+            Stop::Refused(Refusal::TooDeep(at)) => *at as u64,
+            Stop::Refused(Refusal::LargeTree(at)) => *at as u64,
+            Stop::Refused(Refusal::IllTyped(_, at, _)) => *at as u64,
+            Stop::Refused(Refusal::Variants(at)) => *at as u64,
             Stop::Refused(Refusal::Line(fault)) => fault.number(),
-            Stop::Refused(Refusal::Trace(fault)) => fault.number(),
-            Stop::Faulted(fault) => fault.place,
+            Stop::Refused(Refusal::Trace(fault)) => fault.number() as u64,
+            Stop::Faulted(fault) => fault.place as u64,
             _ => 0,
         }
     }

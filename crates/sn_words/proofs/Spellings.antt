@@ -4,11 +4,11 @@ use Rattle.std.specs.Prelude.{Some, None}
 use Rattle.std.specs.Fmt.{decimal}
 use Rattle.std.specs.List.{list_any, before_first, after_first, position_or_len}
 use Rattle.std.proofs.lemmas.Fmt.{digits_decimal, digits_value-decimal, length-decimal-le, decimal_nonempty}
-use Rattle.sn_words.specs.Words.{Text, command_of, full, is_equals, kind_of, makes_run, makes_once, makes_check, makes_plan, makes_print, makes_trace, makes_replay, makes_sample, named, need, need_that, number_of, parts_from, parts_of, within}
+use Rattle.sn_words.specs.Words.{Text, command_of, full, is_equals, kind_of, makes_run, makes_once, makes_check, makes_plan, makes_print, makes_trace, makes_replay, makes_feed, makes_sample, named, need, need_that, number_of, parts_from, parts_of, within}
 use Rattle.sn_words.specs.Command.{IsInRange}
 use Rattle.sn_words.specs.Spelling.{HasNames, dashed, with_value, words_of}
 use Rattle.sn_words.specs.declared.command.Command.{Command}
-use Rattle.sn_words.specs.declared.command.Command.TheVariants.{Run, Once, Check, Print, Plan, Trace, Replay, Sample}
+use Rattle.sn_words.specs.declared.command.Command.TheVariants.{Run, Once, Check, Print, Plan, Trace, Replay, Feed, Sample}
 use Rattle.sn_words.proofs.Digits.{numerals}
 
 number_back : (n : ℕ) → n < 10 ^ 10 → number_of (decimal n) ≡ Some n
@@ -66,6 +66,14 @@ each_command (Replay source input trace f d) r n =
     let c = within_back 1 2_000 d (omega arith) r.2 r.3 in
     (λ i. need (need (s i) (λ x. need (need (t i) (λ y. need (need (u i) (λ z. Some (z ∷ []))) (λ zs. Some (y ∷ zs)))) (λ ys. Some (x ∷ ys))))
     (λ xs. need (need (b i) (λ m. need (need (c i) (λ m. Some (m ∷ []))) (λ ms. Some (m ∷ ms)))) (λ ms. makes_replay xs ms)))
+each_command (Feed source input u f d) r n =
+    let s = there source n.0 in
+    let t = there input n.1 in
+    let a = within_back 1 1_048_576 u (omega arith) r.0 r.1 in
+    let b = within_back 1 1_000_000_000 f (omega arith) r.2 r.3 in
+    let c = within_back 1 2_000 d (omega arith) r.4 r.5 in
+    (λ i. need (need (s i) (λ x. need (need (t i) (λ y. Some (y ∷ []))) (λ ys. Some (x ∷ ys))))
+    (λ xs. need (need (a i) (λ m. need (need (b i) (λ m. need (need (c i) (λ m. Some (m ∷ []))) (λ ms. Some (m ∷ ms)))) (λ ms. Some (m ∷ ms)))) (λ ms. makes_feed xs ms)))
 each_command (Sample number count) r n =
     let first : number < 2 ^ 64 = omega arith in
     let second : count < 2 ^ 64 = omega arith in

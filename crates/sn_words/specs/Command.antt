@@ -1,7 +1,7 @@
 -- What holds of each command.
 use Rattle.std.specs.Prelude.{◌≤◌, ℕ, List, [], codes}
 use Rattle.sn_words.specs.declared.command.Command.{Command}
-use Rattle.sn_words.specs.declared.command.Command.TheVariants.{Run, Once, Check, Print, Plan, Trace, Replay, Sample}
+use Rattle.sn_words.specs.declared.command.Command.TheVariants.{Run, Once, Check, Print, Plan, Trace, Replay, Feed, Sample}
 
 -- the numbers that a run may be given
 abbrev pub IsInRange : Command → Type 0
@@ -14,6 +14,7 @@ IsInRange (Plan source) = Unit {0}
 IsInRange (Trace source input workers fuel depth queue) =
     (1 ≤ workers) × (workers ≤ 64) × (1 ≤ fuel) × (fuel ≤ 1_000_000_000) × (1 ≤ depth) × (depth ≤ 2_000) × (1 ≤ queue) × (queue ≤ 1_024)
 IsInRange (Replay source input trace fuel depth) = (1 ≤ fuel) × (fuel ≤ 1_000_000_000) × (1 ≤ depth) × (depth ≤ 2_000)
+IsInRange (Feed source input batch fuel depth) = (1 ≤ batch) × (batch ≤ 1_048_576) × (1 ≤ fuel) × (fuel ≤ 1_000_000_000) × (1 ≤ depth) × (depth ≤ 2_000)
 IsInRange (Sample number count) = (number ≤ 2_147_483_647) × (count ≤ 50_000)
 
 -- the names of its files; one that checks, prints or plans a source has no input, and one that makes its records has none
@@ -25,6 +26,7 @@ source_of (Print source) = source
 source_of (Plan source) = source
 source_of (Trace source input workers fuel depth queue) = source
 source_of (Replay source input trace fuel depth) = source
+source_of (Feed source input batch fuel depth) = source
 source_of (Sample number count) = []
 
 abbrev pub input_of : Command → List ℕ
@@ -35,6 +37,7 @@ input_of (Print source) = []
 input_of (Plan source) = []
 input_of (Trace source input workers fuel depth queue) = input
 input_of (Replay source input trace fuel depth) = input
+input_of (Feed source input batch fuel depth) = input
 input_of (Sample number count) = []
 
 -- one command alone has a trace
@@ -46,6 +49,7 @@ trace_of (Print source) = []
 trace_of (Plan source) = []
 trace_of (Trace source input workers fuel depth queue) = []
 trace_of (Replay source input trace fuel depth) = trace
+trace_of (Feed source input batch fuel depth) = []
 trace_of (Sample number count) = []
 
 -- the line that says which words the program knows

@@ -4,7 +4,7 @@ use Rattle.std.specs.List.{list_all, list_any, before_first, after_first}
 use Rattle.std.specs.Str.{bytes_eq, all_ascii_digits}
 use Rattle.std.specs.Str.Parse.{digits_value}
 use Rattle.sn_words.specs.declared.command.Command.{Command}
-use Rattle.sn_words.specs.declared.command.Command.TheVariants.{Run, Once, Check, Print, Plan, Trace, Replay, Sample}
+use Rattle.sn_words.specs.declared.command.Command.TheVariants.{Run, Once, Check, Print, Plan, Trace, Replay, Feed, Sample}
 
 abbrev pub Text : Type 0
 Text = List ℕ
@@ -154,6 +154,9 @@ queue = record { name = codes "queue"; least = 1; most = 1_024; usual = 16 }
 abbrev pub plan : Setting
 plan = record { name = codes "plan"; least = 0; most = 1; usual = 0 }
 
+abbrev pub batch : Setting
+batch = record { name = codes "batch"; least = 1; most = 1_048_576; usual = 65_536 }
+
 abbrev pub makes_run : List Text → List ℕ → Option Command
 makes_run (source ∷ input ∷ []) (plan ∷ workers ∷ fuel ∷ depth ∷ queue ∷ []) = Some (Run source input workers fuel depth queue plan)
 makes_run _ _ = None
@@ -181,6 +184,10 @@ makes_trace _ _ = None
 abbrev pub makes_replay : List Text → List ℕ → Option Command
 makes_replay (source ∷ input ∷ trace ∷ []) (fuel ∷ depth ∷ []) = Some (Replay source input trace fuel depth)
 makes_replay _ _ = None
+
+abbrev pub makes_feed : List Text → List ℕ → Option Command
+makes_feed (source ∷ input ∷ []) (batch ∷ fuel ∷ depth ∷ []) = Some (Feed source input batch fuel depth)
+makes_feed _ _ = None
 
 abbrev pub makes_sample : List Text → List ℕ → Option Command
 makes_sample (seed ∷ count ∷ []) [] =
@@ -223,11 +230,14 @@ trace_form = record { name = codes "trace"; words = source_word ∷ input_word �
 abbrev pub replay_form : Form
 replay_form = record { name = codes "replay"; words = source_word ∷ input_word ∷ trace_word ∷ []; settings = fuel ∷ depth ∷ []; makes = makes_replay }
 
+abbrev pub feed_form : Form
+feed_form = record { name = codes "feed"; words = source_word ∷ input_word ∷ []; settings = batch ∷ fuel ∷ depth ∷ []; makes = makes_feed }
+
 abbrev pub sample_form : Form
 sample_form = record { name = codes "sample"; words = seed_word ∷ count_word ∷ []; settings = []; makes = makes_sample }
 
 abbrev pub forms : List Form
-forms = run_form ∷ once_form ∷ check_form ∷ print_form ∷ plan_form ∷ trace_form ∷ replay_form ∷ sample_form ∷ []
+forms = run_form ∷ once_form ∷ check_form ∷ print_form ∷ plan_form ∷ trace_form ∷ replay_form ∷ feed_form ∷ sample_form ∷ []
 
 abbrev pub options_of : Form → List Text
 options_of form = map (λ setting. setting.name) form.settings

@@ -59,6 +59,15 @@ pub enum Command {
         fuel: u64,
         depth: u32,
     },
+    /// Run the net of a source in one thread over the records of an input that may be long, which is read in pieces and printed as it goes.
+    Feed {
+        source: Text,
+        input: Text,
+        /// The most bytes of a piece.
+        batch: u32,
+        fuel: u64,
+        depth: u32,
+    },
     /// Run the built-in net over so many records that are made from a number, and print counters of what comes out.
     Sample {
         number: u32,
@@ -79,6 +88,7 @@ impl Command {
             Command::Plan { source } => source.as_slice(),
             Command::Trace { source, .. } => source.as_slice(),
             Command::Replay { source, .. } => source.as_slice(),
+            Command::Feed { source, .. } => source.as_slice(),
             Command::Sample { .. } => &[],
         }
     }
@@ -92,6 +102,7 @@ impl Command {
             Command::Once { input, .. } => input.as_slice(),
             Command::Trace { input, .. } => input.as_slice(),
             Command::Replay { input, .. } => input.as_slice(),
+            Command::Feed { input, .. } => input.as_slice(),
             Command::Check { .. }
             | Command::Print { .. }
             | Command::Plan { .. }
@@ -111,6 +122,7 @@ impl Command {
             | Command::Print { .. }
             | Command::Plan { .. }
             | Command::Trace { .. }
+            | Command::Feed { .. }
             | Command::Sample { .. } => &[],
         }
     }

@@ -4,7 +4,7 @@ ghost use Rattle.clap.specs.Words.{app_of, new_app, with_rule, with_subcommand};
 ghost use Rattle.clap.specs.declared.builder.Command.TheViews.{out-Command as fields_of};
 ghost use Rattle.sn_words.specs.Clap.{bare, leaf_of, program, told_option, told_word, with_options, with_words};
 
-use crate::numbers::{DEPTH, FUEL, PLAN, QUEUE, WORKERS};
+use crate::numbers::{BATCH, DEPTH, FUEL, PLAN, QUEUE, WORKERS};
 use clap::Arg;
 use sn_list::{Boxed, Memory};
 use std::alloc::{AllocError, Global};
@@ -126,6 +126,13 @@ pub(crate) fn program_form<'a>(alloc: Global) -> Result<Boxed<clap::Command<'a>>
         "replay",
         &[SOURCE, INPUT, TRACE],
         &[FUEL.name, DEPTH.name],
+    )?;
+    let form = with_command(
+        alloc,
+        form,
+        "feed",
+        &[SOURCE, INPUT],
+        &[BATCH.name, FUEL.name, DEPTH.name],
     )?;
     with_command(alloc, form, "sample", &[SEED, COUNT], &[])
 }

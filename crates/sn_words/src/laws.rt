@@ -5,7 +5,7 @@ ghost use Rattle.sn_words.specs.Command.{IsInRange};
 ghost use Rattle.sn_words.specs.Spelling.{dashed, with_value, words_of, HasNames};
 ghost use Rattle.sn_words.specs.Words.{command_by, command_of, is_equals, option, parts_of, positional, Form, Part, Text};
 ghost use Rattle.sn_words.specs.declared.command.Command.{Command as ACommand};
-ghost use Rattle.sn_words.specs.declared.command.Command.TheVariants.{Run as ARun, Once as AnOnce, Plan as APlan, Trace as ATrace, Replay as AReplay, Sample as ASample};
+ghost use Rattle.sn_words.specs.declared.command.Command.TheVariants.{Run as ARun, Once as AnOnce, Plan as APlan, Trace as ATrace, Replay as AReplay, Feed as AFeed, Sample as ASample};
 ghost use Rattle.std.specs.Prelude.{List};
 
 /// Each command whose numbers are in range, and whose names are not empty, is the command of some words.
@@ -38,6 +38,7 @@ pub fn some_words()
     ensures dashed { command_of (codes "once" ∷ codes "--" ∷ codes "--fuel" ∷ codes "--" ∷ []) ≡ Some (AnOnce (codes "--fuel") (codes "--") 1_000_000 1_000) }
     ensures traced { command_of (codes "trace" ∷ codes "--queue" ∷ codes "1" ∷ codes "s" ∷ codes "i" ∷ []) ≡ Some (ATrace (codes "s") (codes "i") 4 1_000_000 1_000 1) }
     ensures replayed { command_of (codes "replay" ∷ codes "s" ∷ codes "i" ∷ codes "t" ∷ []) ≡ Some (AReplay (codes "s") (codes "i") (codes "t") 1_000_000 1_000) }
+    ensures fed { command_of (codes "feed" ∷ codes "--batch=3" ∷ codes "s" ∷ codes "i" ∷ []) ≡ Some (AFeed (codes "s") (codes "i") 3 1_000_000 1_000) }
     ensures plan { command_of (codes "plan" ∷ codes "s" ∷ []) ≡ Some (APlan (codes "s")) }
     ensures seed { command_of (codes "sample" ∷ codes "2147483647" ∷ codes "0" ∷ []) ≡ Some (ASample 2_147_483_647 0) }
 {}
@@ -59,6 +60,7 @@ pub fn some_other_words()
     ensures help { command_of (codes "help" ∷ []) ≡ None }
     ensures few { command_of (codes "check" ∷ []) ≡ None }
     ensures many { command_of (codes "check" ∷ codes "s" ∷ codes "t" ∷ []) ≡ None }
+    ensures batch { command_of (codes "feed" ∷ codes "s" ∷ codes "i" ∷ codes "--batch" ∷ codes "1048577" ∷ []) ≡ None }
     ensures untraced { command_of (codes "replay" ∷ codes "s" ∷ codes "i" ∷ []) ≡ None }
     ensures alone { command_of (codes "replay" ∷ codes "--workers" ∷ codes "2" ∷ codes "s" ∷ codes "i" ∷ codes "t" ∷ []) ≡ None }
 {}

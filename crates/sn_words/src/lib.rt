@@ -12,6 +12,8 @@ mod read;
 mod usage;
 
 pub use command::{Command, WordsFault};
-pub use numbers::{DEFAULT_DEPTH, DEFAULT_FUEL, DEFAULT_PLAN, DEFAULT_QUEUE, DEFAULT_WORKERS};
+pub use numbers::{
+    DEFAULT_BATCH, DEFAULT_DEPTH, DEFAULT_FUEL, DEFAULT_PLAN, DEFAULT_QUEUE, DEFAULT_WORKERS,
+};
 pub use read::read_words;
 pub use usage::usage_line;

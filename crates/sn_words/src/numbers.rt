@@ -17,6 +17,9 @@ pub const DEFAULT_QUEUE: u32 = 16;
 /// Whether the planned network is run, where no word says it.
 pub const DEFAULT_PLAN: u32 = 0;
 
+/// The most bytes of a piece of a long input where no word says it.
+pub const DEFAULT_BATCH: u32 = 65_536;
+
 /// An option whose value is a number.
 pub(crate) struct Setting {
     pub(crate) name: &'static str,
@@ -56,6 +59,14 @@ pub(crate) const QUEUE: Setting = Setting {
     least: 1,
     most: 1_024,
     usual: DEFAULT_QUEUE as u64,
+};
+
+/// The most bytes of a piece of a long input.
+pub(crate) const BATCH: Setting = Setting {
+    name: "batch",
+    least: 1,
+    most: 1_048_576,
+    usual: DEFAULT_BATCH as u64,
 };
 
 /// Whether the planned network is run.

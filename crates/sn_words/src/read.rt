@@ -3,13 +3,13 @@ ghost use Rattle.std.specs.Prelude.{◌≡◌, ◌≢◌, ◌≤◌, ◌∷◌, 
 ghost use Rattle.std.specs.String.{string_bytes};
 ghost use Rattle.clap.specs.Words.{kind_of, subcommand_rows_of};
 ghost use Rattle.sn_words.specs.Command.{IsInRange};
-ghost use Rattle.sn_words.specs.Words.{asked_by, command_of, number_or, positional_in, check_form, once_form, plan_form, print_form, replay_form, run_form, sample_form, trace_form};
+ghost use Rattle.sn_words.specs.Words.{asked_by, command_of, number_or, positional_in, check_form, feed_form, once_form, plan_form, print_form, replay_form, run_form, sample_form, trace_form};
 ghost use Rattle.sn_words.specs.Clap.{asked_as, asked_in, look_of, run_arguments_in};
 ghost use Rattle.sn_words.specs.declared.command.Command.TheVariants.{Trace as ATrace};
 
 use crate::command::{Command, WordsFault};
 use crate::forms::{COUNT, INPUT, SEED, SOURCE, TRACE, program_form};
-use crate::numbers::{DEPTH, FUEL, PLAN, QUEUE, Setting, WORKERS, read_number};
+use crate::numbers::{BATCH, DEPTH, FUEL, PLAN, QUEUE, Setting, WORKERS, read_number};
 use clap::ArgMatches;
 use clap::error::ErrorKind;
 use sn_list::Seq;
@@ -244,6 +244,38 @@ fn make_replay(alloc: Global, given: &ArgMatches) -> Result<Command, WordsFault>
     })
 }
 
+/// The command `feed` of what was given.
+fn make_feed(alloc: Global, given: &ArgMatches) -> Result<Command, WordsFault>
+    ensures ok { IfOk result (λ command. asked_by feed_form (look_of given.now) ≡ Some command) }
+    ensures usage { result ≡ Err WordsFault.Usage → asked_by feed_form (look_of given.now) ≡ None }
+    ensures in_range { IfOk result IsInRange }
+{
+    let Some(source) = positional(given, SOURCE) else {
+        return Err(WordsFault::Usage);
+    };
+    let Some(input) = positional(given, INPUT) else {
+        return Err(WordsFault::Usage);
+    };
+    let Some(batch) = number(given, &BATCH) else {
+        return Err(WordsFault::Usage);
+    };
+    let Some(fuel) = number(given, &FUEL) else {
+        return Err(WordsFault::Usage);
+    };
+    let Some(depth) = number(given, &DEPTH) else {
+        return Err(WordsFault::Usage);
+    };
+    let source = Seq::from_slice(alloc, source.as_bytes())?;
+    let input = Seq::from_slice(alloc, input.as_bytes())?;
+    Ok(Command::Feed {
+        source,
+        input,
+        batch: batch as u32,
+        fuel,
+        depth: depth as u32,
+    })
+}
+
 /// The command `sample` of what was given.
 fn make_sample(given: &ArgMatches) -> Result<Command, WordsFault>
     ensures ok { IfOk result (λ command. asked_by sample_form (look_of given.now) ≡ Some command) }
@@ -282,6 +314,7 @@ fn make_named(alloc: Global, name: &str, given: &ArgMatches) -> Result<Command, 
         "plan" => make_plan(alloc, given),
         "trace" => make_trace(alloc, given),
         "replay" => make_replay(alloc, given),
+        "feed" => make_feed(alloc, given),
         "sample" => make_sample(given),
         _ => Err(WordsFault::Usage),
     }

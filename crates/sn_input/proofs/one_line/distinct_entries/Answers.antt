@@ -1,8 +1,9 @@
 use Rattle.std.proofs.Common.{ap, inl, inr}
 use Rattle.std.specs.Prelude.{Err}
 use Rattle.std.proofs.lemmas.Result.{err_from_is_err_and}
-use Rattle.sn_input.proofs.Going.{twice_ends, bad_ends}
-use Rattle.sn_input.proofs.reading.distinct_entries.Goals as goal
+use Rattle.sn_input.specs.OneLine.{GivesLine}
+use Rattle.sn_input.proofs.OneLine.{repeats_refuse}
+use Rattle.sn_input.proofs.one_line.distinct_entries.Goals as goal
 
 pub returns-in_err-refuse_repeats-in-Ok-clause-refused : goal.returns-in_err-refuse_repeats-in-Ok-clause-refused
 returns-in_err-refuse_repeats-in-Ok-clause-refused c =
@@ -11,8 +12,8 @@ returns-in_err-refuse_repeats-in-Ok-clause-refused c =
     rw (p.1, p.2)
     (elim refused [
       | inl memory ↦ inl memory
-      | inr again ↦ inr (λ input. twice_ends input c.args.number c.args.line.now c.in-Ok.entries _ c.in-Ok.ensures.answer again)
+      | inr again ↦ inr (λ names. repeats_refuse names c.args.line.now c.in-Ok.entries _ c.in-Ok.ensures.answer.spelled again)
     ])
 
 pub returns-in-Err-Wrong-clause-refused : goal.returns-in-Err-Wrong-clause-refused
-returns-in-Err-Wrong-clause-refused c = inr (λ input. bad_ends input c.args.number c.args.line.now c.requires (c.in-Err-Wrong.ensures.wrong (ap Err c.in-Err-Wrong.field-0-is)))
+returns-in-Err-Wrong-clause-refused c = inr (λ names. GivesLine.bad_line c.requires (c.in-Err-Wrong.ensures.wrong (ap Err c.in-Err-Wrong.field-0-is)))

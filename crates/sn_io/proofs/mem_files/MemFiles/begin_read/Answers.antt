@@ -1,9 +1,9 @@
 use Rattle.std.proofs.Common.{refl, arith}
 use Rattle.sn_io.proofs.Stored.{part_replaced, faults_replaced, fault_replaced}
-use Rattle.sn_io.proofs.mem_files.MemFilesFiles.read.Goals as goal
+use Rattle.sn_io.proofs.mem_files.MemFiles.begin_read.Goals as goal
 
 pub returns-then-is_planned-clause-fault : goal.returns-then-is_planned-clause-fault
-returns-then-is_planned-clause-fault c _ =
+returns-then-is_planned-clause-fault c =
     let place = rw c.as_slice.ensures.value at c.in-Some.ensures in
     fault_replaced _ _ _ c.index_mut-file.result.now _ place c.index_mut-file.ensures.value refl (omega (arith, c.saturating_add-file.ensures)) c.args.self.now.other_faults
 
