@@ -208,7 +208,7 @@ star_enters det body exit guard = enters_so (λ names. after_guard guard (after_
 
 split_enters : (det : Bool) (body : Entered) (tag : Ident) → Enters (λ names. entered (after_network body.0 names) tag.text) (λ all. HeldLevel all (NetForm-F.Split det body.0 tag))
 split_enters det body tag = enters_so (λ names. entered (after_network body.0 names) tag.text) (λ all. HeldNet all body.0 × HeldIdent all tag) (λ all. HeldLevel all (NetForm-F.Split det body.0 tag))
-    (enters_both (after_network body.0) (λ names. entered names tag.text) (λ all. HeldNet all body.0) (λ all. HeldIdent all tag) body.1 (enters_name tag)) (λ all held. (tt, each_cons (HeldNet all) body.0 [] held.0 (each_nil (HeldNet all))))
+    (enters_both (after_network body.0) (λ names. entered names tag.text) (λ all. HeldNet all body.0) (λ all. HeldIdent all tag) body.1 (enters_name tag)) (λ all held. (held.1, each_cons (HeldNet all) body.0 [] held.0 (each_nil (HeldNet all))))
 
 network_enters : (net : NetExpr) → NetEnters net
 unfolding net_entry

@@ -1,0 +1,4 @@
+pub mod Parts
+pub mod Declared
+pub mod Trees
+pub mod Sources
