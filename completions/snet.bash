@@ -32,11 +32,12 @@ _snet() {
     read -r command behind < <(_snet_command)
     case $command,$word in
     ,-*) _snet_words "$word" '--try --explain --help' ;;
-    ,*) _snet_words "$word" 'run once check print plan trace replay sample' ;;
+    ,*) _snet_words "$word" 'run once feed check print plan trace replay sample' ;;
     run,-*) _snet_words "$word" '--workers --fuel --depth --queue --plan' ;;
     trace,-*) _snet_words "$word" '--workers --fuel --depth --queue' ;;
+    feed,-*) _snet_words "$word" '--batch --fuel --depth' ;;
     once,-* | replay,-*) _snet_words "$word" '--fuel --depth' ;;
-    run,* | once,* | trace,* | replay,*)
+    run,* | once,* | feed,* | trace,* | replay,*)
         if ((behind == 1)); then
             _snet_files "$word" .snet
         else

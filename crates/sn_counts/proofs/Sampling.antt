@@ -158,13 +158,13 @@ source_short = omega arith
 -- why the built-in source gave no program
 pub not_loaded : (number count : ℕ) (out : Sink) → out.now ≡ out.before → (why : Stop) → WhyUnloaded source_text why → WhyUncounted number count out why
 not_loaded number count out same (Refused (TooLarge which)) why = absurd why
-not_loaded number count out same (Refused (SourceAt fault at)) why = ((source_short, why), same)
-not_loaded number count out same (Refused NoMain) why = ((source_short, why), same)
-not_loaded number count out same (Refused (TooDeep at)) why = ((source_short, why), same)
-not_loaded number count out same (Refused (LargeTree at)) why = ((source_short, why), same)
-not_loaded number count out same (Refused TooManyNames) why = (inl (source_short, why), same)
-not_loaded number count out same (Refused (IllTyped fault at variant)) why = ((source_short, why), same)
-not_loaded number count out same (Refused (Variants at)) why = ((source_short, why), same)
+not_loaded number count out same (Refused (SourceAt fault at)) why = inl ((source_short, why), same)
+not_loaded number count out same (Refused NoMain) why = inl ((source_short, why), same)
+not_loaded number count out same (Refused (TooDeep at)) why = inl ((source_short, why), same)
+not_loaded number count out same (Refused (LargeTree at)) why = inl ((source_short, why), same)
+not_loaded number count out same (Refused TooManyNames) why = inl (inl (source_short, why), same)
+not_loaded number count out same (Refused (IllTyped fault at variant)) why = inl ((source_short, why), same)
+not_loaded number count out same (Refused (Variants at)) why = inl ((source_short, why), same)
 not_loaded number count out same (Refused (Line fault)) why = absurd why
 not_loaded number count out same (Refused (Trace fault)) why = absurd why
 not_loaded number count out same (Faulted fault) why = absurd why
@@ -180,10 +180,10 @@ module _ (number count : ℕ) (out : Sink) (program : Program) (is : IsLoaded so
   not_counted same (Refused NoMain) why = absurd why
   not_counted same (Refused (TooDeep at)) why = absurd why
   not_counted same (Refused (LargeTree at)) why = absurd why
-  not_counted same (Refused TooManyNames) why = (inr (program, accepted source_text program is source_short, why), same)
+  not_counted same (Refused TooManyNames) why = inl (inr (program, accepted source_text program is source_short, why), same)
   not_counted same (Refused (IllTyped fault at variant)) why = absurd why
   not_counted same (Refused (Variants at)) why = absurd why
-  not_counted same (Refused (Line fault)) why = ((program, accepted source_text program is source_short, why), same)
+  not_counted same (Refused (Line fault)) why = inl ((program, accepted source_text program is source_short, why), same)
   not_counted same (Refused (Trace fault)) why = absurd why
   not_counted same (Faulted fault) why = absurd why
   not_counted same (Unread which) why = absurd why
@@ -193,7 +193,7 @@ module _ (number count : ℕ) (out : Sink) (program : Program) (is : IsLoaded so
   module _ (counts : Counts) (fault : Option Fault) (has : HasCounted program number count counts fault) where
     -- the line, and the fault, by how it ends
     pub finds_line : (end : Option Fault) → fault ≡ end → FindsSample number count (Ok (ended (counts_line counts) end))
-    finds_line end is_end = (program, accepted source_text program is source_short, record { typed = has.typed; bytes_are = ap counts_line has.counts_are; ending_is = sym is_end ∙ has.fault_is })
+    finds_line end is_end = (program, accepted source_text program is source_short, record { typed = has.typed; bytes_are = ap counts_line has.counts_are; ending_is = sym is_end ∙ has.fault_is; unrefused = refl })
 
     pub line_cut : AppendsPrefix out.before out.now (counts_line counts) → SinkFailed out → WhyUncounted number count out Write
     line_cut part failed = (failed, ∣ (ended (counts_line counts) fault, finds_line fault refl, part) ∣₁)

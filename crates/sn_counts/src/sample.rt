@@ -11,11 +11,11 @@ ghost use Rattle.sn_plain.specs.Sample.{first_untyped, is_item_of_type, label_na
 ghost use Rattle.sn_counts.specs.Samples.{AreSamples, IsWrongEntry, WhyNoSamples};
 
 use sn_list::Memory;
-use sn_load::is_of_type;
 use sn_model::Run;
 use sn_names::Names;
 use sn_net::Claim;
 use sn_once::run_once;
+use sn_pieces::is_of_type;
 use sn_record::{Fault, Item, Items, LabelSet};
 use sn_sample::{Tally, sample_records};
 use sn_stop::{LineFault, Refusal, Stop};
@@ -92,7 +92,7 @@ pub fn make_samples(
     enter_labels(&mut names)?;
     let items = sample_records(alloc, number, count, &names)?;
     match first_untyped(claim.input.as_slice(), items.as_slice()) {
-        Some(i) => Err(Stop::Refused(Refusal::Line(LineFault::Untyped(i as u32 + 1)))),
+        Some(i) => Err(Stop::Refused(Refusal::Line(LineFault::Untyped(i as u64 + 1)))),
         None => Ok(Samples { names, items }),
     }
 }

@@ -1,5 +1,5 @@
 -- From what was read, resolved and checked to what is loaded, and from a record file to its records.
-use Rattle.std.proofs.Common.{◌≡◌, ℕ, ◌+◌, ◌<◌, ◌≤◌, Bool, true, false, ◌↔◌, IsTrue, List, [], ◌∷◌, ◌++◌, length, take, get_or, not, refl, sym, ap, ◌∙◌, subst, inl, inr, arith}
+use Rattle.std.proofs.Common.{◌≡◌, ℕ, ◌+◌, ◌<◌, ◌≤◌, Bool, true, false, IsTrue, List, [], ◌∷◌, ◌++◌, length, take, get_or, not, refl, sym, ap, ◌∙◌, subst, inl, inr, arith}
 use Rattle.std.specs.Prelude.{None, Some, Ok, Err, Result, ◌⊎◌, slice_get}
 use Rattle.std.specs.List.{All, position, position_or_len}
 use Rattle.std.specs.Option.{option_and_then}
@@ -8,7 +8,6 @@ use Rattle.std.proofs.lemmas.Bool.Decides.{nat_tests}
 use Rattle.std.proofs.lemmas.List.{length_push}
 use Rattle.std.proofs.lemmas.List.Quantifiers.{position-Some}
 use Rattle.std.proofs.lemmas.List.Sums.{fails_before_first, position_or_len_is}
-use Rattle.std.specs.Cmp.{both_ways}
 use Rattle.std.proofs.lemmas.Option.{slice_get-get_or}
 use Rattle.sn_ast.specs.declared.declaration.Program.{Program as Tree}
 use Rattle.sn_lexer.specs.Answer.{LexesAs, IsFault}
@@ -18,9 +17,8 @@ use Rattle.sn_lexer.specs.declared.token.Token.{Token}
 use Rattle.sn_parser.specs.Answer.{Faults}
 use Rattle.sn_ast.specs.declared.fault.ParseFault.{ParseFault}
 use Rattle.sn_ast.specs.declared.fault.ParseFault.TheVariants as parse_fault
-use Rattle.sn_record.specs.LabelSet.{Labels}
-use Rattle.sn_record.specs.Record.{Entries, Matches, is_match}
-use Rattle.sn_record.proofs.Scores.{is_match-Matches}
+use Rattle.sn_record.specs.Record.{Entries}
+use Rattle.sn_net.specs.declared.expr.BoxProgram.{BoxProgram}
 use Rattle.sn_net.specs.declared.net.Claim.{Claim}
 use Rattle.sn_net.specs.WellFormed.{FitsBoxes}
 use Rattle.sn_typing.specs.Accepted.{IsAccepted}
@@ -42,7 +40,11 @@ use Rattle.sn_stop.specs.declared.stop.Stop.{Stop}
 use Rattle.sn_stop.specs.declared.stop.Stop.TheVariants.{Refused, Faulted, Unread, Memory, Write}
 use Rattle.sn_load.specs.Source.{IsSource}
 use Rattle.sn_load.specs.Scope.{IsMain, RefusesClaim, TellsRefusal, WhyRefused, WhyUnloaded}
-use Rattle.sn_load.specs.Load.{IsLoaded, IsTypedFile, WhyUnreadable, is_of_type}
+use Rattle.sn_load.specs.Load.{IsLoaded, IsTypedFile, WhyUnreadable}
+use Rattle.sn_pieces.specs.Known.{is_known}
+use Rattle.sn_pieces.specs.Lines.{is_of_type}
+use Rattle.sn_source_labels.proofs.Sources.{source_knows}
+use Rattle.sn_stream_labels.specs.Known.{Knows}
 use Rattle.sn_stop.specs.Stops.{input_stop, lex_stop, parse_stop, scope_stop}
 
 -- the first claim that is refused
@@ -110,11 +112,9 @@ module _ (bytes : List ℕ) where
         main = record { parts = parts; resolved = record { tree = tree; read = read; is = is }; so = main };
         accepted = accepted;
         formed = fits;
+        known = subst (λ (x : List (List ℕ) × List BoxProgram). Knows (is_known x.0) x.1 program.claim.net) (λ i. (sym main.names_are i, sym main.boxes_are i))
+            (source_knows tree parts parts.main program.claim is main.main);
       }
-
--- the test of a match, as it is told
-pub match_test : (r : Entries) (v : Labels) (b : Bool) → IsTrue b ↔ Matches r v → is_match r v ≡ b
-match_test r v b told = both_ways (is_match r v) b (λ t. told.1 ((is_match-Matches r v).0 t)) (λ t. (is_match-Matches r v).1 (told.0 t))
 
 -- the first place that passes a test
 pub first_at : {X : Type 0} (p : X → Bool) (xs : List X) (i : ℕ) (d : X) → i < length xs → ((k : ℕ) → k < i → p (get_or xs k d) ≡ false) → p (get_or xs i d) ≡ true → Some i ≡ position p xs

@@ -18,7 +18,8 @@ use Rattle.sn_typing.specs.Accepted.{IsAccepted}
 use Rattle.sn_typing.proofs.MoreLabels.{more_labels}
 use Rattle.sn_typing.proofs.Subsets.{matched_labels}
 use Rattle.sn_model.specs.Typed.{AreTyped}
-use Rattle.sn_load.specs.Load.{AreTypedRecords, is_of_type}
+use Rattle.sn_load.specs.Load.{AreTypedRecords}
+use Rattle.sn_pieces.specs.Lines.{is_of_type}
 
 -- records of the input type of an accepted claim are typed for its net
 module _ (boxes : List BoxProgram) (claim : Claim) (accepted : IsAccepted boxes claim) where

@@ -1,9 +1,7 @@
 -- What the layers below the top calls give: programs, inputs and answers.
-use Rattle.std.specs.Prelude.{◌≡◌, ℕ, Bool, IsTrue, List, map, not, slice_get, Option, Some, Ok, Err}
-use Rattle.std.specs.List.{All, list_any, position}
+use Rattle.std.specs.Prelude.{◌≡◌, ℕ, IsTrue, List, map, not, slice_get, Option, Some, Ok, Err}
+use Rattle.std.specs.List.{All, position}
 use Rattle.std.specs.Option.{option_and_then}
-use Rattle.sn_record.specs.LabelSet.{Labels}
-use Rattle.sn_record.specs.Record.{is_match}
 use Rattle.sn_net.specs.Item.{ModelItem, Rec}
 use Rattle.sn_net.specs.WellFormed.{FitsBoxes}
 use Rattle.sn_model.specs.Meaning.{Setting, one_list}
@@ -16,6 +14,9 @@ use Rattle.sn_record.specs.Record.{Entries}
 use Rattle.sn_typing.specs.Accepted.{IsAccepted}
 use Rattle.sn_typing.specs.Typed.{IsTyped}
 use Rattle.sn_input.specs.Reading.{ReadsFile}
+use Rattle.sn_pieces.specs.Known.{is_known}
+use Rattle.sn_pieces.specs.Lines.{is_of_type}
+use Rattle.sn_stream_labels.specs.Known.{Knows}
 use Rattle.sn_input.specs.declared.input.Input.{Input}
 use Rattle.sn_input.specs.declared.input.InputFault.TheVariants as input_fault
 use Rattle.sn_load.specs.declared.load.Program.{Program}
@@ -27,11 +28,12 @@ use Rattle.sn_stop.specs.declared.stop.Stop.{Stop}
 use Rattle.sn_stop.specs.declared.stop.Stop.TheVariants as stop
 use Rattle.sn_load.specs.Scope.{IsProgram}
 
--- the program is that of the source, and can be run
+-- the program is that of the source, and can be run; its names know the labels of its boxes and of its network
 pub record IsLoaded (bytes : List ℕ) (program : Program) : Type 0 where
   pub main : IsProgram bytes program
   pub accepted : IsAccepted program.boxes program.claim
   pub formed : FitsBoxes program.boxes program.claim.net
+  pub known : Knows (is_known program.names) program.boxes program.claim.net
 
 -- What a command says of a run: the fuel of each call of a box, and how many replicas a star may have.
 pub record Limits : Type 0 where
@@ -54,10 +56,6 @@ setting program limits = record { boxes = program.boxes; fuel = limits.fuel; dep
 abbrev pub stream_of : Limits → Program → Input → List ModelItem
 stream_of limits program input = one_list (setting program limits) program.claim.net (map Rec input.records)
 
--- the record matches one of the variants
-abbrev pub is_of_type : List Labels → Entries → Bool
-is_of_type variants r = list_any (is_match r) variants
-
 -- the number of the line of the first record that is not of the claim's input type, where there is one
 abbrev pub untyped_line : Claim → Input → Option ℕ
 untyped_line claim input = option_and_then (slice_get input.lines) (position (λ r. not (is_of_type claim.input r)) input.records)
@@ -73,12 +71,13 @@ pub record HasUntyped (n : ℕ) (names : List (List ℕ)) (claim : Claim) (bytes
   pub read : ReadsFile names bytes (Ok input)
   pub first : untyped_line claim input ≡ Some n
 
--- the bytes are no record file of the input type, for a line that is wrong, or for want of room for names
+-- the bytes are no record file of the input type, for a line that is wrong, or for want of room for names; no line of them is too long
 abbrev pub HasWrongLine : LineFault → List (List ℕ) → Claim → List ℕ → Type 0
 HasWrongLine (line.BadLine n) names claim bytes = ReadsFile names bytes (Err (input_fault.BadLine n))
 HasWrongLine (line.Twice n kind name) names claim bytes = ReadsFile names bytes (Err (input_fault.Twice n kind name))
 HasWrongLine (line.Untyped n) names claim bytes = HasUntyped n names claim bytes
 HasWrongLine (line.TooMany n) names claim bytes = ReadsFile names bytes (Err (input_fault.TooMany n))
+HasWrongLine (line.TooLong n) names claim bytes = ⊥
 
 abbrev pub HasManyNames : List (List ℕ) → Claim → List ℕ → Type 0
 HasManyNames names claim bytes = ReadsFile names bytes (Err input_fault.TooManyNames)

@@ -9,7 +9,5 @@ mod types;
 
 pub use canonical::canonical_text;
 pub use items::items_of;
-pub use load::{
-    INPUT_LIMIT, Program, SOURCE_LIMIT, is_of_type, load_source, read_input, tell_fault,
-};
+pub use load::{INPUT_LIMIT, Program, SOURCE_LIMIT, load_source, read_input, tell_fault};
 pub use types::flows_text;

@@ -4,8 +4,9 @@ ghost use Rattle.sn_net.specs.declared.expr.BoxProgram.{BoxProgram};
 ghost use Rattle.std.specs.List.{All, position};
 ghost use Rattle.sn_net.specs.WellFormed.{FitsBoxes};
 ghost use Rattle.sn_typing.specs.Accepted.{IsAccepted};
+ghost use Rattle.sn_pieces.specs.Lines.{is_of_type};
 ghost use Rattle.sn_scope.specs.Resolution.{parts_of};
-ghost use Rattle.sn_load.specs.Load.{AreTypedRecords, IsLoaded, IsTypedFile, WhyUnreadable, is_of_type};
+ghost use Rattle.sn_load.specs.Load.{AreTypedRecords, IsLoaded, IsTypedFile, WhyUnreadable};
 ghost use Rattle.sn_load.specs.Scope.{IsMain, TellsRefusal, TellsType, WhyRefused, WhyUnloaded};
 ghost use Rattle.sn_load.specs.declared.load.TheConstants.{SOURCE_LIMIT, INPUT_LIMIT};
 
@@ -17,6 +18,7 @@ use sn_names::Names;
 use sn_net::{Boxes, Claim};
 use sn_output::push_variant;
 use sn_parser::parse;
+use sn_pieces::is_of_type;
 use sn_record::{LabelSet, Record};
 use sn_scope::{Parts, Resolved, resolve};
 use sn_stop::{LineFault, Refusal, Stop, TypeFault};
@@ -99,7 +101,7 @@ fn main_of(resolved: Resolved) -> Program
     }
 }
 
-/// The program of a source, each claim of which is accepted.
+/// The program of a source, each claim of which is accepted. Its names know the labels of its boxes and of its network.
 pub fn load_source(alloc: Global, bytes: &[u8]) -> Result<Program, Stop>
     requires { length bytes.now ≤ SOURCE_LIMIT }
     ensures loaded { IfOk result (IsLoaded bytes.now) }
@@ -110,18 +112,6 @@ pub fn load_source(alloc: Global, bytes: &[u8]) -> Result<Program, Stop>
     let resolved = resolve(alloc, &tree)?;
     check_claims(alloc, resolved.as_parts())?;
     Ok(main_of(resolved))
-}
-
-/// Whether the record matches one of the variants.
-pub fn is_of_type(variants: &[LabelSet], r: &Record) -> bool
-    ensures { result ≡ is_of_type variants.now r.now }
-{
-    for variant in variants {
-        if r.matches(variant) {
-            return true;
-        }
-    }
-    false
 }
 
 /// The place of the first record that matches none of the variants.
@@ -145,7 +135,7 @@ pub fn read_input(alloc: Global, names: Names, claim: &Claim, bytes: &[u8]) -> R
 {
     let input = read_records(alloc, bytes, names)?;
     match first_untyped(claim.input.as_slice(), input.records.as_slice()) {
-        Some(i) => Err(Stop::Refused(Refusal::Line(LineFault::Untyped(*input.lines.at(i))))),
+        Some(i) => Err(Stop::Refused(Refusal::Line(LineFault::Untyped(*input.lines.at(i) as u64)))),
         None => Ok(input),
     }
 }

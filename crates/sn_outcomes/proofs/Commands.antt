@@ -42,11 +42,11 @@ use Rattle.sn_stop.specs.declared.refusal.TraceRefusal.TheVariants as trace
 use Rattle.sn_stop.specs.declared.status.Status.{Status}
 use Rattle.sn_stop.specs.declared.refusal.Which.TheVariants.{Source, Input as InputFile, Trace as TraceFile}
 use Rattle.sn_words.specs.declared.command.Command.{Command}
-use Rattle.sn_words.specs.declared.command.Command.TheVariants.{Run, Once, Check, Print, Plan, Trace as ATrace, Replay, Sample}
+use Rattle.sn_words.specs.declared.command.Command.TheVariants.{Run, Once, Check, Print, Plan, Trace as ATrace, Replay, Feed, Sample}
 
 -- what comes of a stream is printed
 abbrev pub printout : Limits → Program → Input → Printout
-printout limits program input = record { bytes = printed input.names (stream_of limits program input); ending = ending (stream_of limits program input) }
+printout limits program input = ended (printed input.names (stream_of limits program input)) (ending (stream_of limits program input))
 
 -- what is found of the records of an input, with their names
 abbrev pub Giving : Type 1
@@ -67,7 +67,7 @@ pub data Feeds (Gives : Giving) (limits : Limits) (more : List ℕ) (program : P
 -- on one thread the printout is that of the input
 given_once : (s : Setting) (net : Net) (records : List Entries) (names : List (List ℕ)) (found other : Found) → shown_by OnOneThread s net records names found
     → shown_by OnOneThread s net records names other → found ≡ other
-given_once s net records names (Ok p) (Ok q) shown also = λ i. Ok (record { bytes = (shown.bytes_are ∙ sym also.bytes_are) i; ending = (shown.ending_is ∙ sym also.ending_is) i })
+given_once s net records names (Ok p) (Ok q) shown also = λ i. Ok (record { bytes = (shown.bytes_are ∙ sym also.bytes_are) i; ending = (shown.ending_is ∙ sym also.ending_is) i; refused = (shown.unrefused ∙ sym also.unrefused) i })
 given_once s net records names (Ok p) (Err r) shown also = absurd also
 given_once s net records names (Err r) other shown also = absurd shown
 
@@ -194,7 +194,7 @@ module _ (limits : Limits) (bytes more text : List ℕ) where
       told (Err (Trace trace.Unfinished)) program file accepted within typed (Plays.said _ run Unfinished short over is refl)
   replay_goes (Ok p) (program, accepted, (within, file, typed, (short, (run, over, is)))) =
       told (Ok p) program file accepted within typed
-      (Plays.said (Ok p) run (Replayed is.items) short over is.replays (λ i. Ok (record { bytes = is.shown.bytes_are i; ending = is.shown.ending_is i })))
+      (Plays.said (Ok p) run (Replayed is.items) short over is.replays (λ i. Ok (record { bytes = is.shown.bytes_are i; ending = is.shown.ending_is i; refused = is.shown.unrefused i })))
 
 pub finds_replay_once : (limits : Limits) (bytes more text : List ℕ) (source input trace : Option (List ℕ)) (found other : Found) → source ≡ Some bytes → input ≡ Some more → trace ≡ Some text →
     FindsReplay limits source input trace found → FindsReplay limits source input trace other → found ≡ other
@@ -232,9 +232,7 @@ reported about bytes (Err TooManyNames) f = wrong_goes bytes (Reports about) Too
 reported about bytes (Err (IllTyped fault at variant)) f = wrong_goes bytes (Reports about) (IllTyped fault at variant) f
 reported about bytes (Err (Variants at)) f = wrong_goes bytes (Reports about) (Variants at) f
 reported about bytes (Err (Line fault)) f = absurd f
-reported about bytes (Ok p) (program, accepted, has, ended) =
-    let fields : p ≡ whole p.bytes = λ i. record { bytes = p.bytes; ending = ended i } in
-    program_goes bytes (Reports about) (Ok p) program accepted (record { text = p.bytes; has = has; is = ap Ok fields })
+reported about bytes (Ok p) (program, accepted, has, ends) = program_goes bytes (Reports about) (Ok p) program accepted (record { text = p.bytes; has = has; is = ap Ok ends })
 
 finds_report_once : (about : Report) (bytes : List ℕ) (source : Option (List ℕ)) (found other : Found) → source ≡ Some bytes → FindsReport about source found → FindsReport about source other → found ≡ other
 finds_report_once about bytes source found other s f g =
@@ -270,9 +268,7 @@ texts bytes (Err TooManyNames) f = absurd f
 texts bytes (Err (IllTyped fault at variant)) f = absurd f
 texts bytes (Err (Variants at)) f = absurd f
 texts bytes (Err (Line fault)) f = absurd f
-texts bytes (Ok p) f =
-    let fields : p ≡ whole p.bytes = λ i. record { bytes = p.bytes; ending = f.2 i } in
-    Texts.text (Ok p.bytes) f.0 f.1 (ap Ok fields)
+texts bytes (Ok p) f = Texts.text (Ok p.bytes) f.0 f.1 (ap Ok f.2)
 
 pub finds_text_once : (bytes : List ℕ) (source : Option (List ℕ)) (found other : Found) → source ≡ Some bytes → FindsText source found → FindsText source other → found ≡ other
 finds_text_once bytes source found other s f g =
@@ -280,7 +276,7 @@ finds_text_once bytes source found other s f g =
 
 -- the line of the counters of what a program answers to the records of a number
 abbrev pub tallied : Program → ℕ → ℕ → Printout
-tallied program number count = record { bytes = counts_line (counted (names_with program.names) (answers_to program number count)); ending = ending (answers_to program number count) }
+tallied program number count = ended (counts_line (counted (names_with program.names) (answers_to program number count))) (ending (answers_to program number count))
 
 -- what is found of a program and the records of a number
 pub data Samples (number count : ℕ) (program : Program) : Found → Type 0 where
@@ -320,9 +316,10 @@ sampled number count (Err (Line (wrong.BadLine n))) f = absurd f.2
 sampled number count (Err (Line (wrong.Twice n kind name))) f = absurd f.2
 sampled number count (Err (Line (wrong.Untyped n))) f = program_goes source_text (Samples number count) (Err (Line (wrong.Untyped n))) f.0 f.1 (Samples.untyped n f.2)
 sampled number count (Err (Line (wrong.TooMany n))) f = absurd f.2
+sampled number count (Err (Line (wrong.TooLong n))) f = absurd f.2
 sampled number count (Err (Trace fault)) f = absurd f
 sampled number count (Ok p) (program, accepted, prints) =
-    let fields : p ≡ tallied program number count = λ i. record { bytes = prints.bytes_are i; ending = prints.ending_is i } in
+    let fields : p ≡ tallied program number count = λ i. record { bytes = prints.bytes_are i; ending = prints.ending_is i; refused = prints.unrefused i } in
     let tallies : Samples number count program (Ok (tallied program number count)) = Samples.tallies prints.typed in
     program_goes source_text (Samples number count) (Ok p) program accepted (subst (λ x. Samples number count program (Ok x)) (sym fields) tallies)
 
@@ -344,6 +341,7 @@ command_once (Plan source) file found other told f g = finds_report_once report.
 command_once (ATrace source input workers fuel depth queue) file found other told f g = absurd told
 command_once (Replay source input trace fuel depth) file found other told f g =
     finds_replay_once (limits_of fuel depth) told.0.bytes told.1.bytes told.2.bytes (file source).told (file input).told (file trace).told found other told.0.are told.1.are told.2.are f g
+command_once (Feed source input batch fuel depth) file found other told f g = absurd told
 command_once (Sample number count) file found other told f g = finds_sample_once number count found other f g
 
 -- and so there is one status

@@ -2,7 +2,7 @@
 use Rattle.std.proofs.Common.{ℕ, List, ◌≡◌, ◌≤◌, refl, sym, ◌∙◌, ap, subst, length, arith}
 use mathlib.Core.Logic.{∥∥₁_map}
 use Rattle.sn_net.specs.Item.{ModelItem}
-use Rattle.std.specs.Prelude.{Result, Ok, Err, Some, Option}
+use Rattle.std.specs.Prelude.{Result, Ok, Err, None, Some, Option}
 use Rattle.sn_input.specs.declared.input.Input.{Input}
 use Rattle.sn_outcomes.proofs.Traced.{replay_is_of_run, replayed, traced_by_workers}
 use Rattle.sn_outcomes.specs.Told.{IsTold}
@@ -11,7 +11,7 @@ use Rattle.sn_outcomes.proofs.Judging.{Found, goes_accepted}
 use Rattle.sn_outcomes.proofs.Inputs.{Comes, comes_once, typed_comes}
 use Rattle.sn_output.specs.Printed.{ending, printed}
 use Rattle.sn_sample.specs.Source.{source_text}
-use Rattle.sn_plain.specs.Answer.{PrintsSample, Finds, FindsFor, FindsReplay, FindsReport, FindsText, IsAccepted, IsAnswered, Outside, ending_status, found_status}
+use Rattle.sn_plain.specs.Answer.{PrintsSample, Finds, FindsFor, FindsReplay, FindsReport, FindsText, IsAccepted, IsAnswered, Outside, done_status, ending_status, found_status}
 use Rattle.sn_plain.specs.Runs.{ComesOut, Manner, OnOneThread, Printout, WithWorkers, ended, whole}
 use Rattle.sn_plain.specs.declared.reports.Report.{Report}
 use Rattle.sn_plain.specs.declared.reports.Report.TheVariants as report
@@ -39,7 +39,7 @@ once_found : (source input : Option (List ℕ)) (fuel depth : ℕ) (bytes more :
 once_found source input fuel depth bytes more program records s i accepted within typed =
     let limits = limits_of fuel depth in
     subst (λ (p : Option (List ℕ) × Option (List ℕ)). Finds OnOneThread limits p.0 p.1 (Ok (printout limits program records))) (λ j. (sym s j, sym i j))
-    (program, accepted, record { within = within; input = records; typed = typed; shown = record { bytes_are = refl; ending_is = refl } })
+    (program, accepted, record { within = within; input = records; typed = typed; shown = record { bytes_are = refl; ending_is = refl; unrefused = refl } })
 
 pub once_done : (outside : Outside) (source input : List ℕ) (fuel depth : ℕ) (bytes more : List ℕ) (program : Program) (records : Input) (left : Status)
     → (outside.file source).told ≡ Some bytes → (outside.file input).told ≡ Some more → IsAccepted bytes program → length more ≤ INPUT_LIMIT → IsTypedFile program.names program.claim more records
@@ -57,7 +57,7 @@ EndsAsStream limits program records left =
 
 -- what ends as such a stream, in one manner or another
 module _ (Shows : Manner) (streams : (s : Setting) (net : Net) (records : List Entries) (names : List (List ℕ)) (p : Printout) → Shows s net records names p
-    → ∥ ((stream : List ModelItem) × ComesOut s net records stream × (p.ending ≡ ending stream)) ∥₁) (limits : Limits) (bytes more : List ℕ) (program : Program) (records : Input) (left : Status) where
+    → ∥ ((stream : List ModelItem) × ComesOut s net records stream × (p.ending ≡ ending stream) × (p.refused ≡ None)) ∥₁) (limits : Limits) (bytes more : List ℕ) (program : Program) (records : Input) (left : Status) where
   ends_done : (source input : Option (List ℕ)) (found : Found) → source ≡ Some bytes → input ≡ Some more → IsAccepted bytes program → IsTypedFile program.names program.claim more records
       → length more ≤ INPUT_LIMIT → Finds Shows limits source input found → left ≡ found_status found → EndsAsStream limits program records left
   ends_done source input found s i accepted typed within finds is =
@@ -74,7 +74,7 @@ module _ (Shows : Manner) (streams : (s : Setting) (net : Net) (records : List E
           ∥∥₁_map (streams (setting program limits) program.claim.net r.records r.names p shown) (λ some. (
             some.0,
             subst (λ (x : Input). ComesOut (setting program limits) program.claim.net x.records some.0) same some.1,
-            is ∙ ap ending_status some.2,
+            is ∙ (λ i. done_status (some.2 i) (some.3 i)),
           ))
       ends (Err refusal) r same shown is = absurd shown
 
@@ -89,7 +89,7 @@ pub run_done : (outside : Outside) (source input : List ℕ) (workers fuel depth
     → IsAnswered (Run source input workers fuel depth queue plan) outside left
     → ∥ ((stream : List ModelItem) × ComesOut (setting program (limits_of fuel depth)) program.claim.net records.records stream × (left ≡ ending_status (ending stream))) ∥₁
 run_done outside source input workers fuel depth queue plan bytes more program records left s i accepted typed within answered =
-    ends_done WithWorkers (λ s net records names p shown. ∥∥₁_map shown (λ some. (some.0, some.1, some.2.ending_is))) (limits_of fuel depth) bytes more program records left
+    ends_done WithWorkers (λ s net records names p shown. ∥∥₁_map shown (λ some. (some.0, some.1, some.2.ending_is, some.2.unrefused))) (limits_of fuel depth) bytes more program records left
     (outside.file source).told (outside.file input).told answered.found s i accepted typed within answered.finds answered.status_is
 
 -- and so does one that is traced
@@ -101,7 +101,7 @@ trace_done outside source input workers fuel depth queue bytes more program reco
     ends_done Traced
     (λ s net records names p shown.
     let (q, by_workers, same) = traced_by_workers s net records names p shown in
-    ∥∥₁_map by_workers (λ some. (some.0, some.1, sym same ∙ some.2.ending_is))) (limits_of fuel depth) bytes more program records left
+    ∥∥₁_map by_workers (λ some. (some.0, some.1, sym same ∙ some.2.ending_is, shown.2.unrefused))) (limits_of fuel depth) bytes more program records left
     (outside.file source).told (outside.file input).told answered.found s i accepted typed within answered.finds answered.status_is
 
 -- a replay of a trace ends as what comes out by it
@@ -115,7 +115,7 @@ replay_done outside source input trace fuel depth bytes more text program record
     let Of : Option (List ℕ) × Option (List ℕ) × Option (List ℕ) → Type 0 = λ files. FindsReplay limits files.0 files.1 files.2 (Ok p) in
     let found : FindsReplay limits (outside.file source).told (outside.file input).told (outside.file trace).told (Ok p) =
     subst Of (λ j. (sym s j, sym i j, sym t j))
-    (program, accepted, (within, records, typed, (short, (run, over, record { items = items; replays = replays; shown = record { bytes_are = refl; ending_is = refl } })))) in
+    (program, accepted, (within, records, typed, (short, (run, over, record { items = items; replays = replays; shown = record { bytes_are = refl; ending_is = refl; unrefused = refl } })))) in
     answered.status_is
     ∙ ap found_status
     (finds_replay_once limits bytes more text (outside.file source).told (outside.file input).told (outside.file trace).told answered.found (Ok p) s i t answered.finds found)
@@ -166,5 +166,5 @@ print_done outside source bytes text left s within has answered =
 pub sample_done : (outside : Outside) (number count : ℕ) (program : Program) (left : Status) → IsAccepted source_text program → AreTypedSamples program.names program.claim number count
     → IsAnswered (Sample number count) outside left → left ≡ ending_status (ending (answers_to program number count))
 sample_done outside number count program left accepted typed answered =
-    let prints : PrintsSample program number count (tallied program number count) = record { typed = typed; bytes_are = refl; ending_is = refl } in
+    let prints : PrintsSample program number count (tallied program number count) = record { typed = typed; bytes_are = refl; ending_is = refl; unrefused = refl } in
     answered.status_is ∙ ap found_status (finds_sample_once number count answered.found (Ok (tallied program number count)) answered.finds (program, accepted, prints))

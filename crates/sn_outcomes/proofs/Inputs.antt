@@ -12,7 +12,8 @@ use Rattle.sn_input.specs.declared.input.Input.{Input}
 use Rattle.sn_input.specs.declared.input.InputFault.{InputFault}
 use Rattle.sn_input.specs.declared.input.InputFault.TheVariants as input_fault
 use Rattle.sn_outcomes.proofs.RecordFiles.{file_read_once}
-use Rattle.sn_load.specs.Load.{HasWrongLine, IsTypedFile, WhyNoRecords, is_of_type, untyped_line}
+use Rattle.sn_load.specs.Load.{HasWrongLine, IsTypedFile, WhyNoRecords, untyped_line}
+use Rattle.sn_pieces.specs.Lines.{is_of_type}
 use Rattle.sn_stop.specs.declared.refusal.LineFault.{LineFault}
 use Rattle.sn_stop.specs.declared.refusal.LineFault.TheVariants as line
 use Rattle.sn_stop.specs.declared.refusal.Refusal.{Refusal}
@@ -75,6 +76,7 @@ module _ (names : List (List ℕ)) (claim : Claim) (bytes : List ℕ) where
   line_comes (line.Twice n kind name) f = wrong_comes (input_fault.Twice n kind name) f
   line_comes (line.Untyped n) f = record { read = Ok f.input; is_read = f.read; is = sym (answer_ok claim f.input (Some n) f.first) }
   line_comes (line.TooMany n) f = wrong_comes (input_fault.TooMany n) f
+  line_comes (line.TooLong n) f = absurd f
 
   pub refusal_comes : (refusal : Refusal) → WhyNoRecords names claim bytes refusal → Comes names claim bytes (Err refusal)
   refusal_comes (TooLarge which) f = absurd f

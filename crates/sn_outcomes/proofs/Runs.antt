@@ -23,11 +23,21 @@ bytes_set = List-set ℕ_set
 end_set : IsSet (Option Fault)
 end_set = hlevel (ℕ_set, ⊎_set)
 
+-- how many there are
+abbrev count_of : Option Refusal → ℕ
+count_of None = 0
+count_of (Some refusal) = 1
+
+none_of : (o : Option Refusal) → count_of o ≡ 0 → o ≡ None
+none_of None is = refl
+none_of (Some refusal) is = cc
+
 -- where each merge is in order, workers print what one thread does
 in_order : (s : Setting) (net : Net) (records : List Entries) (names : List (List ℕ)) (p : Printout) → IsTrue (all_deterministic net) → WithWorkers s net records names p → OnOneThread s net records names p
 in_order s net records names p all shown = record {
   bytes_are = ∥∥₁_elim shown (bytes_set _ _) (λ some. some.2.bytes_are ∙ ap (printed names) (some.1.only all));
   ending_is = ∥∥₁_elim shown (end_set _ _) (λ some. some.2.ending_is ∙ ap ending (some.1.only all));
+  unrefused = none_of p.refused (∥∥₁_elim shown (ℕ_set _ _) (λ some. ap count_of some.2.unrefused));
 }
 
 prints_once : (limits : Limits) (program : Program) (more : List ℕ) (p : Printout) → IsTrue (all_deterministic program.claim.net) → Prints WithWorkers limits program more p → Prints OnOneThread limits program more p

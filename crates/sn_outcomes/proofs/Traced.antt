@@ -70,7 +70,7 @@ module _ (s : Setting) (net : Net) (records : List Entries) (run : Run) (over : 
     printed_by_workers p shown =
         ∥∥₁_map run.formed (λ formed.
         let (zs, out, bytes, end) = stream_of_trace formed (list_any is_fault ys) refl in
-        (zs, out, record { bytes_are = shown.bytes_are ∙ sym bytes; ending_is = shown.ending_is ∙ sym end }))
+        (zs, out, record { bytes_are = shown.bytes_are ∙ sym bytes; ending_is = shown.ending_is ∙ sym end; unrefused = shown.unrefused }))
 
 -- a replay prints what workers may print
 pub played_by_workers : (text : List ℕ) (s : Setting) (net : Net) (records : List Entries) (names : List (List ℕ)) (p : Printout) → Played text s net records names p → WithWorkers s net records names p
@@ -81,7 +81,7 @@ pub traced_by_workers : (s : Setting) (net : Net) (records : List Entries) (name
     → (q : Printout) × WithWorkers s net records names q × (q.ending ≡ p.ending)
 traced_by_workers s net records names p (run, over, is) =
     let q : Printout = ended (printed names is.items) (ending is.items) in
-    (q, printed_by_workers s net records run over names p.bytes is.items is.replays q (record { bytes_are = refl; ending_is = refl }), sym is.ending_is)
+    (q, printed_by_workers s net records run over names p.bytes is.items is.replays q (record { bytes_are = refl; ending_is = refl; unrefused = refl }), sym is.ending_is)
 
 -- WHERE THE FILES ARE TOLD
 if_input : {A : Type 0} (told : Option A) (P Q : A → Type 0) → ((a : A) → P a → Q a) → IfSome told P → IfSome told Q
@@ -119,7 +119,7 @@ module _ (limits : Limits) (bytes more : List ℕ) (p : Printout) where
             prints.within,
             prints.input,
             prints.typed,
-            (short, (traced.0, traced.1, record { items = traced.2.items; replays = traced.2.replays; shown = record { bytes_are = refl; ending_is = refl } })),
+            (short, (traced.0, traced.1, record { items = traced.2.items; replays = traced.2.replays; shown = record { bytes_are = refl; ending_is = refl; unrefused = refl } })),
           ),
         ),
         sym traced.2.ending_is,

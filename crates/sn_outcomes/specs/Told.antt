@@ -8,7 +8,7 @@ use Rattle.sn_stop.specs.declared.refusal.Refusal.{Refusal}
 use Rattle.sn_stop.specs.declared.refusal.Refusal.TheVariants.{TooLarge, Source as SourceAt, NoMain, TooDeep, LargeTree, TooManyNames, IllTyped, Variants, Line, Trace}
 use Rattle.sn_stop.specs.declared.refusal.Which.TheVariants.{Source, Input, Trace as TraceFile}
 use Rattle.sn_words.specs.declared.command.Command.{Command}
-use Rattle.sn_words.specs.declared.command.Command.TheVariants.{Run, Once, Check, Print, Plan, Trace as ATrace, Replay, Sample}
+use Rattle.sn_words.specs.declared.command.Command.TheVariants.{Run, Once, Check, Print, Plan, Trace as ATrace, Replay, Feed, Sample}
 
 -- the bytes of the file are told
 pub record IsTold (file : File) : Type 0 where
@@ -29,6 +29,7 @@ AreTold (Print source) file = IsTold (file source)
 AreTold (Plan source) file = IsTold (file source)
 AreTold (ATrace source input workers fuel depth queue) file = ⊥
 AreTold (Replay source input trace fuel depth) file = IsTold (file source) × IsTold (file input) × IsTold (file trace)
+AreTold (Feed source input batch fuel depth) file = ⊥
 AreTold (Sample number count) file = Unit {0}
 
 -- no input is refused so

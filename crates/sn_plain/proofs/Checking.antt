@@ -1,5 +1,5 @@
 -- From what each step of a report gave to why it stopped, and what it printed.
-use Rattle.std.proofs.Common.{◌≡◌, ℕ, List, None, refl, inl}
+use Rattle.std.proofs.Common.{◌≡◌, ℕ, List, refl, inl}
 use Rattle.std.specs.Prelude.{Ok, IfSome}
 use Rattle.sn_io.specs.Told.{AppendsPrefix}
 use Rattle.sn_load.specs.declared.load.Program.{Program}
@@ -14,13 +14,13 @@ use Rattle.sn_load.specs.Load.{IsLoaded}
 use Rattle.sn_load.specs.Scope.{WhyUnloaded, WhyNoProgram}
 use Rattle.sn_plain.specs.Reports.{HasReport}
 use Rattle.sn_plain.specs.declared.reports.Report.{Report}
-use Rattle.sn_plain.specs.Answer.{IsAccepted, IsRefusedSource, FindsReport, WhyUnreported}
+use Rattle.sn_plain.specs.Answer.{IsAccepted, IsRefusedSource, FindsReport, IsWhole, WhyUnreported}
 use Rattle.sn_plain.specs.Runs.{whole}
 use Rattle.sn_plain.proofs.Serving.{HasBytes, accepted, of_told}
 
 module _ (about : Report) (source : File) (out : Sink) where
   pub report_unread : out.now ≡ out.before → (why : Stop) → WhyUnread Source SOURCE_LIMIT source why → WhyUnreported about source out why
-  report_unread same (Refused (TooLarge Source)) why = (why.1, same)
+  report_unread same (Refused (TooLarge Source)) why = inl (why.1, same)
   report_unread same (Refused (TooLarge Input)) why = cc
   report_unread same (Refused (TooLarge TraceFile)) why = cc
   report_unread same (Refused (SourceAt fault at)) why = absurd why
@@ -45,13 +45,13 @@ module _ (about : Report) (source : File) (out : Sink) where
 
     pub not_reported : out.now ≡ out.before → (why : Stop) → WhyUnloaded bytes why → WhyUnreported about source out why
     not_reported same (Refused (TooLarge which)) why = absurd why
-    not_reported same (Refused (SourceAt fault at)) why = (refused (SourceAt fault at) why, same)
-    not_reported same (Refused NoMain) why = (refused NoMain why, same)
-    not_reported same (Refused (TooDeep at)) why = (refused (TooDeep at) why, same)
-    not_reported same (Refused (LargeTree at)) why = (refused (LargeTree at) why, same)
-    not_reported same (Refused TooManyNames) why = (refused TooManyNames why, same)
-    not_reported same (Refused (IllTyped fault at variant)) why = (refused (IllTyped fault at variant) why, same)
-    not_reported same (Refused (Variants at)) why = (refused (Variants at) why, same)
+    not_reported same (Refused (SourceAt fault at)) why = inl (refused (SourceAt fault at) why, same)
+    not_reported same (Refused NoMain) why = inl (refused NoMain why, same)
+    not_reported same (Refused (TooDeep at)) why = inl (refused (TooDeep at) why, same)
+    not_reported same (Refused (LargeTree at)) why = inl (refused (LargeTree at) why, same)
+    not_reported same (Refused TooManyNames) why = inl (refused TooManyNames why, same)
+    not_reported same (Refused (IllTyped fault at variant)) why = inl (refused (IllTyped fault at variant) why, same)
+    not_reported same (Refused (Variants at)) why = inl (refused (Variants at) why, same)
     not_reported same (Refused (Line fault)) why = absurd why
     not_reported same (Refused (Trace fault)) why = absurd why
     not_reported same (Faulted fault) why = absurd why
@@ -62,7 +62,7 @@ module _ (about : Report) (source : File) (out : Sink) where
     module _ (program : Program) (is : IsLoaded bytes program) (text : List ℕ) (has : HasReport about program text) where
       pub finds_report : FindsReport about source.told (Ok (whole text))
       finds_report =
-          of_told source.told bytes (λ b. (q : Program) × IsAccepted b q × HasReport about q text × ((whole text).ending ≡ None)) read.told
+          of_told source.told bytes (λ b. (q : Program) × IsAccepted b q × HasReport about q text × IsWhole (whole text)) read.told
           (program, accepted bytes program is read.within, has, refl)
 
       pub report_cut : AppendsPrefix out.before out.now text → SinkFailed out → WhyUnreported about source out Write

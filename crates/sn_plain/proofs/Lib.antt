@@ -7,3 +7,8 @@ pub mod Told
 pub mod Running
 pub mod Checking
 pub mod Planned
+pub mod CountedLines
+pub mod Answered
+pub mod Longer
+pub mod LongInput
+pub mod FedFiles

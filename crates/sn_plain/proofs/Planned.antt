@@ -20,7 +20,8 @@ use Rattle.sn_typing.specs.Accepted.{IsAccepted}
 use Rattle.sn_typing.specs.Typed.{IsItemOfType}
 use Rattle.sn_planned.specs.Planned.{IsPlan}
 use Rattle.sn_planned.proofs.Whole.{plan_list_alike, plan_typed}
-use Rattle.sn_load.specs.Load.{AreTypedRecords, Limits, is_of_type}
+use Rattle.sn_load.specs.Load.{AreTypedRecords, Limits}
+use Rattle.sn_pieces.specs.Lines.{is_of_type}
 use Rattle.sn_plain.specs.Ready.{RunsAs, ready_of, setting_at}
 use Rattle.sn_plain.specs.Runs.{ComesOut, HasBegun, HasPrinted, Printout, WhyUnfinished, WithWorkers}
 use Rattle.sn_plain.specs.Seen.{Sink}

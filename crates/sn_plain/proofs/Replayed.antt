@@ -44,7 +44,7 @@ module _ (text : List ℕ) (s : Setting) (net : Net) (records : List Entries) (n
   module _ (items : List Item) (replays : Replays run text (map modelled items)) where
     -- these items come out by it, and are printed
     played : (fault : Option Fault) → fault ≡ ending (map modelled items) → Played text s net records names (ended (printed names (map modelled items)) fault)
-    played fault is = (run, over, record { items = map modelled items; replays = replays; shown = record { bytes_are = refl; ending_is = is } })
+    played fault is = (run, over, record { items = map modelled items; replays = replays; shown = record { bytes_are = refl; ending_is = is; unrefused = refl } })
 
     all_printed : (fault : Option Fault) → fault ≡ ending (map modelled items) → out.now ≡ appended out.before (printed names (map modelled items))
         → HasPrinted (Played text s net records names) out fault
@@ -74,17 +74,17 @@ module _ (text : List ℕ) (s : Setting) (net : Net) (records : List Entries) (n
 module _ (limits : Limits) (source input trace : File) (out : Sink) where
   -- nothing was printed where there is nothing to run
   pub unplayed : out.now ≡ out.before → (why : Stop) → WhyNotReady source input why → WhyUnplayed limits source input trace out why
-  unplayed same (Refused (TooLarge Source)) why = (why, same)
-  unplayed same (Refused (TooLarge Input)) why = (why, same)
+  unplayed same (Refused (TooLarge Source)) why = inl (why, same)
+  unplayed same (Refused (TooLarge Input)) why = inl (why, same)
   unplayed same (Refused (TooLarge TraceFile)) why = absurd why
-  unplayed same (Refused (SourceAt fault at)) why = (why, same)
-  unplayed same (Refused NoMain) why = (why, same)
-  unplayed same (Refused (TooDeep at)) why = (why, same)
-  unplayed same (Refused (LargeTree at)) why = (why, same)
-  unplayed same (Refused TooManyNames) why = (why, same)
-  unplayed same (Refused (IllTyped fault at variant)) why = (why, same)
-  unplayed same (Refused (Variants at)) why = (why, same)
-  unplayed same (Refused (Line fault)) why = (why, same)
+  unplayed same (Refused (SourceAt fault at)) why = inl (why, same)
+  unplayed same (Refused NoMain) why = inl (why, same)
+  unplayed same (Refused (TooDeep at)) why = inl (why, same)
+  unplayed same (Refused (LargeTree at)) why = inl (why, same)
+  unplayed same (Refused TooManyNames) why = inl (why, same)
+  unplayed same (Refused (IllTyped fault at variant)) why = inl (why, same)
+  unplayed same (Refused (Variants at)) why = inl (why, same)
+  unplayed same (Refused (Line fault)) why = inl (why, same)
   unplayed same (Refused (Trace fault)) why = absurd why
   unplayed same (Faulted fault) why = absurd why
   unplayed same (Unread Source) why = (why, same)
@@ -100,7 +100,7 @@ module _ (limits : Limits) (source input trace : File) (out : Sink) where
     trace_unread same between told later now (Refused (TooLarge Source)) why = cc
     trace_unread same between told later now (Refused (TooLarge Input)) why = cc
     trace_unread same between told later now (Refused (TooLarge TraceFile)) why =
-        (of_typed source input ready is (λ program file. IfSome trace.told (λ text. TRACE_LIMIT < length text)) (subst (λ t. IfSome t (λ text. TRACE_LIMIT < length text)) told why.1), same)
+        inl (of_typed source input ready is (λ program file. IfSome trace.told (λ text. TRACE_LIMIT < length text)) (subst (λ t. IfSome t (λ text. TRACE_LIMIT < length text)) told why.1), same)
     trace_unread same between told later now (Refused (SourceAt fault at)) why = absurd why
     trace_unread same between told later now (Refused NoMain) why = absurd why
     trace_unread same between told later now (Refused (TooDeep at)) why = absurd why
@@ -149,7 +149,7 @@ module _ (limits : Limits) (source input trace : File) (out : Sink) where
           (has.within, shown_of source input ready is Wrong limits (whole []) why))
 
       pub not_played : (why : Stop) → WhyUnplayable text (setting_at ready limits) ready.net ready.records ready.names out why → WhyUnplayed limits source input trace out why
-      not_played (Refused (Trace fault)) why = (no_trace fault why.0, why.1)
+      not_played (Refused (Trace fault)) why = inl (no_trace fault why.0, why.1)
       not_played (Refused (TooLarge which)) why = absurd why.0
       not_played (Refused (SourceAt fault at)) why = absurd why.0
       not_played (Refused NoMain) why = absurd why.0

@@ -31,7 +31,7 @@ use Rattle.sn_plain.specs.Seen.{Sink}
 
 module _ (names : List (List ℕ)) where
   -- what follows items that no fault ends
-  printed_behind : (before : List Item) (more : List ModelItem) → ending (map modelled before) ≡ None → printed names (map modelled before ++ more) ≡ printed names (map modelled before) ++ printed names more
+  pub printed_behind : (before : List Item) (more : List ModelItem) → ending (map modelled before) ≡ None → printed names (map modelled before ++ more) ≡ printed names (map modelled before) ++ printed names more
   printed_behind [] more none = refl
   printed_behind (item.Rec r ∷ before) more none =
       ap (λ bytes. line names r ++ bytes) (printed_behind before more none) ∙ sym (append_assoc (line names r) (printed names (map modelled before)) (printed names more))
@@ -51,7 +51,7 @@ module _ (names : List (List ℕ)) where
       (first.0, ap (λ bytes. line names r ++ bytes) first.1 ∙ sym (append_assoc (line names r) (printed names (map modelled given)) first.0))
   printed_first (item.Fault at ∷ given) more = ([], refl)
 
-ending_behind : (before : List Item) (more : List ModelItem) → ending (map modelled before) ≡ None → ending (map modelled before ++ more) ≡ ending more
+pub ending_behind : (before : List Item) (more : List ModelItem) → ending (map modelled before) ≡ None → ending (map modelled before ++ more) ≡ ending more
 ending_behind [] more none = refl
 ending_behind (item.Rec r ∷ before) more none = ending_behind before more none
 ending_behind (item.Fault fault ∷ before) more none = cc
@@ -142,7 +142,7 @@ module _ (run : Run) (limits : Limits) (ready : Ready) (net : net_of run ≡ rea
 
   -- what is printed of its one answer is what is printed on one thread
   on_one_thread : (fault : Option Fault) → fault ≡ ending stream → OnOneThread (setting_at ready limits) ready.net ready.records ready.names (ended (printed ready.names stream) fault)
-  on_one_thread fault is = record { bytes_are = ap (printed ready.names) stream_is; ending_is = is ∙ ap ending stream_is }
+  on_one_thread fault is = record { bytes_are = ap (printed ready.names) stream_is; ending_is = is ∙ ap ending stream_is; unrefused = refl }
 
   module _ (out : Sink) where
     abbrev Shown : Printout → Type 0

@@ -12,7 +12,7 @@ use Rattle.sn_stop.specs.declared.stop.Stop.TheVariants.{Refused, Faulted, Unrea
 use Rattle.sn_stop.specs.declared.refusal.LineFault.TheVariants as wrong
 use Rattle.sn_stop.specs.Status.{stop_status, stop_line}
 use Rattle.sn_words.specs.Command.{source_of, input_of, trace_of}
-use Rattle.sn_plain.specs.Runs.{GotPart, ended, whole}
+use Rattle.sn_plain.specs.Runs.{GotPart, cut_by, ended, whole}
 use Rattle.sn_plain.specs.Seen.{GotLine}
 use Rattle.sn_plain.specs.Answer.{BeginsFor, GotEnd, Outside, end_status, FindsFor, WhyEnded, IsAnswered, HasUnread, IsCutShort, IsUnwritten, IsAnsweredFor, OfCommand, IsCutShortFor}
 
@@ -28,7 +28,8 @@ module _ (command : Command) (outside : Outside) where
   Told why = GotLine outside.err (stop_line why (source_of command) (input_of command) (trace_of command))
 
   answered : (why : Stop) → Stopped why → Told why → stop_status why ≢ status.Read → stop_status why ≢ status.Memory → stop_status why ≢ status.Write → IsAnswered command outside (stop_status why)
-  answered (Refused refusal) stopped line not_read not_memory not_write = record { found = Err refusal; finds = stopped.0; status_is = refl; out_got = stopped.1 ∙ sym (appended_none outside.out.before); err_got = line }
+  answered (Refused refusal) (inl stopped) line not_read not_memory not_write = record { found = Err refusal; finds = stopped.0; status_is = refl; out_got = stopped.1 ∙ sym (appended_none outside.out.before); err_got = line }
+  answered (Refused refusal) (inr stopped) line not_read not_memory not_write = record { found = Ok (cut_by stopped.0 refusal); finds = stopped.1; status_is = refl; out_got = stopped.2; err_got = line }
   answered (Faulted fault) stopped line not_read not_memory not_write = record { found = Ok (ended stopped.0 (Some fault)); finds = stopped.1; status_is = refl; out_got = stopped.2; err_got = line }
   answered (Unread which) stopped line not_read not_memory not_write = absurd (not_read refl)
   answered Memory stopped line not_read not_memory not_write = absurd (not_memory refl)
@@ -45,11 +46,12 @@ module _ (command : Command) (outside : Outside) where
   unread (Refused (Line (wrong.Untyped n))) stopped told is = cc
   unread (Refused (Line (wrong.Twice n kind name))) stopped told is = cc
   unread (Refused (Line (wrong.TooMany n))) stopped told is = cc
+  unread (Refused (Line (wrong.TooLong n))) stopped told is = cc
   unread (Refused (Trace fault)) stopped told is = cc
   unread (Refused (IllTyped fault at variant)) stopped line is = cc
   unread (Refused (Variants at)) stopped line is = cc
   unread (Faulted fault) stopped line is = cc
-  unread (Unread which) stopped line is = record { which = which; why = stopped.0; out_same = stopped.1; err_got = line }
+  unread (Unread which) stopped line is = record { which = which; why = stopped.0; out_got = stopped.1; err_got = line }
   unread Memory stopped line is = cc
   unread Write stopped line is = cc
 
@@ -64,6 +66,7 @@ module _ (command : Command) (outside : Outside) where
   cut_short (Refused (Line (wrong.Untyped n))) stopped told is = cc
   cut_short (Refused (Line (wrong.Twice n kind name))) stopped told is = cc
   cut_short (Refused (Line (wrong.TooMany n))) stopped told is = cc
+  cut_short (Refused (Line (wrong.TooLong n))) stopped told is = cc
   cut_short (Refused (Trace fault)) stopped told is = cc
   cut_short (Refused (IllTyped fault at variant)) stopped line is = cc
   cut_short (Refused (Variants at)) stopped line is = cc
@@ -83,6 +86,7 @@ module _ (command : Command) (outside : Outside) where
   unwritten (Refused (Line (wrong.Untyped n))) stopped told is = cc
   unwritten (Refused (Line (wrong.Twice n kind name))) stopped told is = cc
   unwritten (Refused (Line (wrong.TooMany n))) stopped told is = cc
+  unwritten (Refused (Line (wrong.TooLong n))) stopped told is = cc
   unwritten (Refused (Trace fault)) stopped told is = cc
   unwritten (Refused (IllTyped fault at variant)) stopped line is = cc
   unwritten (Refused (Variants at)) stopped line is = cc

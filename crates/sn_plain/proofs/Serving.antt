@@ -143,7 +143,7 @@ module _ (source input : File) where
           names_are = names;
         }
 
-if_told : {A : Type 0} (told : Option A) (P Q : A → Type 0) → ((a : A) → P a → Q a) → IfSome told P → IfSome told Q
+pub if_told : {A : Type 0} (told : Option A) (P Q : A → Type 0) → ((a : A) → P a → Q a) → IfSome told P → IfSome told Q
 if_told None P Q f p = tt
 if_told (Some a) P Q f p = f a p
 
@@ -184,7 +184,7 @@ module _ (source input : File) (ready : Ready) (is : IsReady source.told input.t
 module _ (Shows Begins : Manner) (limits : Limits) (source input : File) (out : Sink) where
   -- nothing was printed where there is nothing to run
   pub not_ready : out.now ≡ out.before → (why : Stop) → WhyNotReady source input why → WhyStopped Shows Begins limits source input out why
-  not_ready same (Refused refusal) why = (why, same)
+  not_ready same (Refused refusal) why = inl (why, same)
   not_ready same (Faulted fault) why = absurd why
   not_ready same (Unread which) why = (why, same)
   not_ready same Memory why = inl same

@@ -1,9 +1,9 @@
 -- What a command may leave: its status, and what it appends to `out` and to `err`.
-use Rattle.std.specs.Prelude.{◌≡◌, ◌⊎◌, ◌≤◌, ◌<◌, ℕ, List, [], length, codes, Option, None, Some, Result, Ok, Err, IfSome, Bool, false, true}
+use Rattle.std.specs.Prelude.{◌≡◌, ◌⊎◌, ◌≤◌, ◌<◌, ℕ, List, [], length, max, codes, Option, None, Some, Result, Ok, Err, IfSome, Bool, false, true}
 use Rattle.sn_io.specs.Told.{appended}
 use Rattle.sn_words.specs.Command.{usage_text, source_of, input_of, trace_of}
 use Rattle.sn_words.specs.declared.command.Command.{Command}
-use Rattle.sn_words.specs.declared.command.Command.TheVariants.{Run, Once, Check, Print, Plan, Trace, Replay, Sample}
+use Rattle.sn_words.specs.declared.command.Command.TheVariants.{Run, Once, Check, Print, Plan, Trace, Replay, Feed, Sample}
 use Rattle.sn_stop.specs.declared.status.Status.{Status}
 use Rattle.sn_stop.specs.declared.status.Status.TheVariants as status
 use Rattle.sn_stop.specs.declared.refusal.Which.{Which}
@@ -21,7 +21,8 @@ use Rattle.sn_net.specs.declared.net.Claim.{Claim}
 use Rattle.sn_output.specs.Printed.{ending}
 use Rattle.sn_input.specs.declared.input.Input.{Input as RecordFile}
 use Rattle.sn_load.specs.Load.{IsTypedFile, Limits, limits_of, setting, HasManyNames, HasWrongLine}
-use Rattle.sn_plain.specs.Runs.{Manner, Printout, Prints, OnOneThread, WithWorkers, GotPart, HasFailed, ended}
+use Rattle.sn_plain.specs.Feeding.{IsFed, IsFedInPart, fed_of}
+use Rattle.sn_plain.specs.Runs.{Manner, Printout, Prints, OnOneThread, WithWorkers, GotPart, HasFailed, cut_by, ended, whole}
 use Rattle.sn_plain.specs.Traces.{BegunTrace, IsRefusedTrace, PlayedFrom, Traced}
 use Rattle.sn_plain.specs.declared.replaying.TheConstants.{TRACE_LIMIT}
 use Rattle.sn_plain.specs.Reports.{HasReport}
@@ -88,6 +89,10 @@ FindsReplay limits source input trace (Err (Line fault)) = IsRefused source inpu
 FindsReplay limits source input trace (Err (TraceAt fault)) = OfTyped source input (λ program file. IsRefusedTrace fault trace (setting program limits) program.claim.net file.records)
 FindsReplay limits source input trace (Ok p) = OfTyped source input (λ program file. PlayedFrom trace (setting program limits) program.claim.net file.records file.names p)
 
+-- no fault ends it, and nothing is refused
+abbrev pub IsWhole : Printout → Type 0
+IsWhole p = p ≡ whole p.bytes
+
 -- the same of a source alone, which is within the limit where more than its size is found
 abbrev pub FindsText : Option (List ℕ) → Result Printout Refusal → Type 0
 FindsText source (Err (TooLarge Source)) = IfSome source (λ bytes. SOURCE_LIMIT < length bytes)
@@ -102,29 +107,47 @@ FindsText source (Err (IllTyped fault at variant)) = ⊥
 FindsText source (Err (Variants at)) = ⊥
 FindsText source (Err (Line fault)) = ⊥
 FindsText source (Err (TraceAt fault)) = ⊥
-FindsText source (Ok p) = IfSome source (λ bytes. (length bytes ≤ SOURCE_LIMIT) × FindsSource bytes (Ok p.bytes) × (p.ending ≡ None))
+FindsText source (Ok p) = IfSome source (λ bytes. (length bytes ≤ SOURCE_LIMIT) × FindsSource bytes (Ok p.bytes) × IsWhole p)
+
+-- what the checks refuse of a source alone, whose types are checked
+abbrev pub IsRefusedAlone : Option (List ℕ) → Refusal → Type 0
+IsRefusedAlone source (TooLarge Source) = IfSome source (λ bytes. SOURCE_LIMIT < length bytes)
+IsRefusedAlone source (TooLarge Input) = ⊥
+IsRefusedAlone source (TooLarge TraceFile) = ⊥
+IsRefusedAlone source (SourceAt fault at) = IfSome source (IsRefusedSource (SourceAt fault at))
+IsRefusedAlone source NoMain = IfSome source (IsRefusedSource NoMain)
+IsRefusedAlone source (TooDeep at) = IfSome source (IsRefusedSource (TooDeep at))
+IsRefusedAlone source (LargeTree at) = IfSome source (IsRefusedSource (LargeTree at))
+IsRefusedAlone source TooManyNames = IfSome source (IsRefusedSource TooManyNames)
+IsRefusedAlone source (IllTyped fault at variant) = IfSome source (IsRefusedSource (IllTyped fault at variant))
+IsRefusedAlone source (Variants at) = IfSome source (IsRefusedSource (Variants at))
+IsRefusedAlone source (Line fault) = ⊥
+IsRefusedAlone source (TraceAt fault) = ⊥
 
 -- The same of a source whose types are checked: a report on it is printed.
 abbrev pub FindsReport : Report → Option (List ℕ) → Result Printout Refusal → Type 0
-FindsReport about source (Err (TooLarge Source)) = IfSome source (λ bytes. SOURCE_LIMIT < length bytes)
-FindsReport about source (Err (TooLarge Input)) = ⊥
-FindsReport about source (Err (TooLarge TraceFile)) = ⊥
-FindsReport about source (Err (SourceAt fault at)) = IfSome source (IsRefusedSource (SourceAt fault at))
-FindsReport about source (Err NoMain) = IfSome source (IsRefusedSource NoMain)
-FindsReport about source (Err (TooDeep at)) = IfSome source (IsRefusedSource (TooDeep at))
-FindsReport about source (Err (LargeTree at)) = IfSome source (IsRefusedSource (LargeTree at))
-FindsReport about source (Err TooManyNames) = IfSome source (IsRefusedSource TooManyNames)
-FindsReport about source (Err (IllTyped fault at variant)) = IfSome source (IsRefusedSource (IllTyped fault at variant))
-FindsReport about source (Err (Variants at)) = IfSome source (IsRefusedSource (Variants at))
-FindsReport about source (Err (Line fault)) = ⊥
-FindsReport about source (Err (TraceAt fault)) = ⊥
-FindsReport about source (Ok p) = IfSome source (λ bytes. (program : Program) × IsAccepted bytes program × HasReport about program p.bytes × (p.ending ≡ None))
+FindsReport about source (Err refusal) = IsRefusedAlone source refusal
+FindsReport about source (Ok p) = IfSome source (λ bytes. (program : Program) × IsAccepted bytes program × HasReport about program p.bytes × IsWhole p)
+
+-- of a source that is accepted, and of an input that is read piece by piece, where their bytes are told, this holds
+abbrev pub OfFed : Option (List ℕ) → Option (List ℕ) → (Program → List ℕ → Type 0) → Type 0
+OfFed source input P = IfSome source (λ bytes. (program : Program) × IsAccepted bytes program × IfSome input (P program))
+
+-- The same of a source and an input that is read piece by piece: what stands before a refused line of it is printed.
+abbrev pub FindsFeed : Limits → Option (List ℕ) → Option (List ℕ) → Result Printout Refusal → Type 0
+FindsFeed limits source input (Err refusal) = IsRefusedAlone source refusal
+FindsFeed limits source input (Ok p) = OfFed source input (λ program more. IsFed (fed_of limits program) more p)
+
+-- it begins so
+abbrev pub BegunFeed : Limits → Option (List ℕ) → Option (List ℕ) → Printout → Type 0
+BegunFeed limits source input p = OfFed source input (λ program more. IsFedInPart (fed_of limits program) more p)
 
 -- what the program prints for the records of a number: the line of the counters of what it answers
 pub record PrintsSample (program : Program) (number count : ℕ) (p : Printout) : Type 0 where
   pub typed : AreTypedSamples program.names program.claim number count
   pub bytes_are : p.bytes ≡ counts_line (counted (names_with program.names) (answers_to program number count))
   pub ending_is : p.ending ≡ ending (answers_to program number count)
+  pub unrefused : p.refused ≡ None
 
 -- the built-in source spells a program of which this holds
 abbrev pub OfBuiltIn : (Program → Type 0) → Type 0
@@ -153,16 +176,25 @@ abbrev pub ending_status : Option Fault → Status
 ending_status None = status.Ok
 ending_status (Some fault) = status.Fault
 
+-- of a refusal behind what was printed, where there is one, and else of how that ends
+abbrev pub done_status : Option Fault → Option Refusal → Status
+done_status fault None = ending_status fault
+done_status fault (Some refusal) = refusal_status refusal
+
 abbrev pub found_status : Result Printout Refusal → Status
-found_status (Ok p) = ending_status p.ending
+found_status (Ok p) = done_status p.ending p.refused
 found_status (Err refusal) = refusal_status refusal
 
 abbrev pub ending_line : Option Fault → List ℕ → List ℕ → List ℕ → List ℕ
 ending_line None source input trace = []
 ending_line (Some fault) source input trace = stop_line (stop.Faulted fault) source input trace
 
+abbrev pub done_line : Option Fault → Option Refusal → List ℕ → List ℕ → List ℕ → List ℕ
+done_line fault None source input trace = ending_line fault source input trace
+done_line fault (Some refusal) source input trace = stop_line (stop.Refused refusal) source input trace
+
 abbrev pub found_line : Result Printout Refusal → List ℕ → List ℕ → List ℕ → List ℕ
-found_line (Ok p) source input trace = ending_line p.ending source input trace
+found_line (Ok p) source input trace = done_line p.ending p.refused source input trace
 found_line (Err refusal) source input trace = stop_line (stop.Refused refusal) source input trace
 
 -- the outside, as a call found it and as it left it: the file of each name, `out` and `err`
@@ -187,11 +219,13 @@ FindsFor (Print source) file found = FindsText (file source).told found
 FindsFor (Plan source) file found = FindsReport report.Plan (file source).told found
 FindsFor (Trace source input workers fuel depth queue) file found = Finds Traced (limits_of fuel depth) (file source).told (file input).told found
 FindsFor (Replay source input trace fuel depth) file found = FindsReplay (limits_of fuel depth) (file source).told (file input).told (file trace).told found
+FindsFor (Feed source input batch fuel depth) file found = FindsFeed (limits_of fuel depth) (file source).told (file input).told found
 FindsFor (Sample number count) file found = FindsSample number count found
 
--- What a command prints begins so, where it is cut off. A trace may be cut off at any event.
+-- What a command prints begins so, where it is cut off. A trace may be cut off at any event, and an input that is read in pieces behind any line.
 abbrev pub BeginsFor : Command → (List ℕ → File) → Printout → Type 0
 BeginsFor (Trace source input workers fuel depth queue) file p = Finds BegunTrace (limits_of fuel depth) (file source).told (file input).told (Ok p)
+BeginsFor (Feed source input batch fuel depth) file p = BegunFeed (limits_of fuel depth) (file source).told (file input).told p
 BeginsFor command file p = FindsFor command file (Ok p)
 
 -- the whole answer: what is found decides the bytes, the status and the line
@@ -226,13 +260,24 @@ UnreadFor (Print source) file which = IsSourceUnread which (file source)
 UnreadFor (Plan source) file which = IsSourceUnread which (file source)
 UnreadFor (Trace source input workers fuel depth queue) file which = IsUnread which (file source) (file input)
 UnreadFor (Replay source input trace fuel depth) file which = IsReplayUnread which (file source) (file input) (file trace)
+UnreadFor (Feed source input batch fuel depth) file which = IsUnread which (file source) (file input)
 UnreadFor (Sample number count) file which = ⊥
 
--- nothing was printed, and the line names the file
+-- Where a file was not read, nothing was printed; but of an input that is read in pieces a later read may fail.
+abbrev pub LeftOfFeed : (Printout → Type 0) → Sink → Which → Type 0
+LeftOfFeed Begins out Source = out.now ≡ out.before
+LeftOfFeed Begins out Input = GotPart Begins out
+LeftOfFeed Begins out TraceFile = out.now ≡ out.before
+
+abbrev pub LeftUnread : Command → (List ℕ → File) → Sink → Which → Type 0
+LeftUnread (Feed source input batch fuel depth) file out which = LeftOfFeed (BeginsFor (Feed source input batch fuel depth) file) out which
+LeftUnread command file out which = out.now ≡ out.before
+
+-- the line names the file
 pub record HasUnread (command : Command) (outside : Outside) : Type 0 where
   pub which : Which
   pub why : UnreadFor command outside.file which
-  pub out_same : outside.out.now ≡ outside.out.before
+  pub out_got : LeftUnread command outside.file outside.out which
   pub err_got : GotLine outside.err (stop_line (stop.Unread which) (source_of command) (input_of command) (trace_of command))
 
 -- `out` got nothing, or some first bytes of what it would get
@@ -245,35 +290,53 @@ pub record IsUnwritten (command : Command) (outside : Outside) : Type 0 where
   pub out_failed : HasFailed (BeginsFor command outside.file) outside.out
   pub err_got : GotLine outside.err (codes "write\n")
 
+-- What is refused is found of the files, and nothing is printed; or it is refused behind what is printed.
+abbrev pub IsFoundRefused : (Result Printout Refusal → Type 0) → Sink → Refusal → Type 0
+IsFoundRefused finds out refusal = (finds (Err refusal) × (out.now ≡ out.before)) ⊎ ((p : List ℕ) × finds (Ok (cut_by p refusal)) × (out.now ≡ appended out.before p))
+
 -- why a run ended otherwise than with its whole output, and what `out` holds then
-abbrev pub StoppedFor : (Result Printout Refusal → Type 0) → (Printout → Type 0) → (Which → Type 0) → Sink → Stop → Type 0
-StoppedFor finds Begins unread out (stop.Refused refusal) = finds (Err refusal) × (out.now ≡ out.before)
-StoppedFor finds Begins unread out (stop.Faulted fault) = (p : List ℕ) × finds (Ok (ended p (Some fault))) × (out.now ≡ appended out.before p)
-StoppedFor finds Begins unread out (stop.Unread which) = unread which × (out.now ≡ out.before)
-StoppedFor finds Begins unread out stop.Memory = GotPart Begins out
-StoppedFor finds Begins unread out stop.Write = HasFailed Begins out
+abbrev pub StoppedFor : (Result Printout Refusal → Type 0) → (Printout → Type 0) → (Which → Type 0) → (Which → Type 0) → Sink → Stop → Type 0
+StoppedFor finds Begins unread left out (stop.Refused refusal) = IsFoundRefused finds out refusal
+StoppedFor finds Begins unread left out (stop.Faulted fault) = (p : List ℕ) × finds (Ok (ended p (Some fault))) × (out.now ≡ appended out.before p)
+StoppedFor finds Begins unread left out (stop.Unread which) = unread which × left which
+StoppedFor finds Begins unread left out stop.Memory = GotPart Begins out
+StoppedFor finds Begins unread left out stop.Write = HasFailed Begins out
+
+-- nothing was printed where a file was not read
+abbrev pub StoppedBefore : (Result Printout Refusal → Type 0) → (Printout → Type 0) → (Which → Type 0) → Sink → Stop → Type 0
+StoppedBefore finds Begins unread out why = StoppedFor finds Begins unread (λ which. out.now ≡ out.before) out why
 
 -- a run on a source and an input, which prints in one manner, and is cut off in the same or in another
 abbrev pub WhyStopped : Manner → Manner → Limits → File → File → Sink → Stop → Type 0
 WhyStopped Shows Begins limits source input out why =
-    StoppedFor (Finds Shows limits source.told input.told) (λ p. Finds Begins limits source.told input.told (Ok p)) (λ which. IsUnread which source input) out why
+    StoppedBefore (Finds Shows limits source.told input.told) (λ p. Finds Begins limits source.told input.told (Ok p)) (λ which. IsUnread which source input) out why
 
 -- the replay of a trace
 abbrev pub WhyUnplayed : Limits → File → File → File → Sink → Stop → Type 0
 WhyUnplayed limits source input trace out why =
-    StoppedFor (FindsReplay limits source.told input.told trace.told) (λ p. FindsReplay limits source.told input.told trace.told (Ok p)) (λ which. IsReplayUnread which source input trace) out why
+    StoppedBefore (FindsReplay limits source.told input.told trace.told) (λ p. FindsReplay limits source.told input.told trace.told (Ok p)) (λ which. IsReplayUnread which source input trace) out why
 
 -- the printing of a source
 abbrev pub WhyUnprinted : File → Sink → Stop → Type 0
-WhyUnprinted source out why = StoppedFor (FindsText source.told) (λ p. FindsText source.told (Ok p)) (λ which. IsSourceUnread which source) out why
+WhyUnprinted source out why = StoppedBefore (FindsText source.told) (λ p. FindsText source.told (Ok p)) (λ which. IsSourceUnread which source) out why
 
 -- a report on a source
 abbrev pub WhyUnreported : Report → File → Sink → Stop → Type 0
-WhyUnreported about source out why = StoppedFor (FindsReport about source.told) (λ p. FindsReport about source.told (Ok p)) (λ which. IsSourceUnread which source) out why
+WhyUnreported about source out why = StoppedBefore (FindsReport about source.told) (λ p. FindsReport about source.told (Ok p)) (λ which. IsSourceUnread which source) out why
+
+-- a run over an input that is read in pieces
+abbrev pub WhyUnfed : Limits → File → File → Sink → Stop → Type 0
+WhyUnfed limits source input out why =
+    StoppedFor (FindsFeed limits source.told input.told) (BegunFeed limits source.told input.told) (λ which. IsUnread which source input) (LeftOfFeed (BegunFeed limits source.told input.told) out) out why
 
 -- a run on the records of a number
 abbrev pub WhyUncounted : ℕ → ℕ → Sink → Stop → Type 0
-WhyUncounted number count out why = StoppedFor (FindsSample number count) (λ p. FindsSample number count (Ok p)) (λ which. ⊥) out why
+WhyUncounted number count out why = StoppedBefore (FindsSample number count) (λ p. FindsSample number count (Ok p)) (λ which. ⊥) out why
+
+-- where an input is read in pieces, no more bytes of a file are asked for at once than this, but for what was asked for before
+abbrev pub AsksFew : Command → ℕ → ℕ → Type 0
+AsksFew (Feed source input batch fuel depth) before now = now ≤ max before 1_048_576
+AsksFew command before now = Unit {0}
 
 -- the calling thread does the command alone
 abbrev pub is_plain : Command → Bool
@@ -284,6 +347,7 @@ is_plain (Print source) = true
 is_plain (Plan source) = true
 is_plain (Trace source input workers fuel depth queue) = false
 is_plain (Replay source input trace fuel depth) = true
+is_plain (Feed source input batch fuel depth) = true
 is_plain (Sample number count) = false
 
 -- the command needs other threads, and nothing was written
@@ -303,7 +367,7 @@ GotEnd err (Err why) command = GotLine err (stop_line why (source_of command) (i
 
 -- any command
 abbrev pub WhyEnded : Command → (List ℕ → File) → Sink → Stop → Type 0
-WhyEnded command file out why = StoppedFor (FindsFor command file) (BeginsFor command file) (UnreadFor command file) out why
+WhyEnded command file out why = StoppedFor (FindsFor command file) (BeginsFor command file) (UnreadFor command file) (LeftUnread command file out) out why
 
 -- The clauses for words, which may be no command.
 pub record HasNoCommand (outside : Outside) (s : Status) : Type 0 where

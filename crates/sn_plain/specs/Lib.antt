@@ -5,5 +5,7 @@ pub mod Answer
 pub mod Ready
 pub mod Reports
 pub mod Runs
+pub mod Feeding
+pub mod Pieces
 pub mod Traces
 pub mod Stopping

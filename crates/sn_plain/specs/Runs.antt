@@ -1,5 +1,5 @@
 -- What a run prints, and why it stops.
-use Rattle.std.specs.Prelude.{◌≡◌, ◌⊎◌, ◌≤◌, ℕ, List, length, map, Option, None, IsTrue, false}
+use Rattle.std.specs.Prelude.{◌≡◌, ◌⊎◌, ◌≤◌, ℕ, List, length, map, Option, None, Some, IsTrue, false}
 use Rattle.sn_io.specs.Told.{appended, AppendsPrefix}
 use Rattle.sn_record.specs.Record.{Entries}
 use Rattle.sn_record.specs.declared.item.Fault.{Fault}
@@ -13,26 +13,33 @@ use Rattle.sn_load.specs.Load.{IsTypedFile, Limits, setting}
 use Rattle.sn_plain.specs.Seen.{Sink, SinkFailed}
 use Rattle.sn_load.specs.declared.load.Program.{Program}
 use Rattle.sn_load.specs.declared.load.TheConstants.{INPUT_LIMIT}
+use Rattle.sn_stop.specs.declared.refusal.Refusal.{Refusal}
 use Rattle.sn_stop.specs.declared.stop.Stop.{Stop}
 use Rattle.sn_stop.specs.declared.stop.Stop.TheVariants as stop
 
--- what a command prints, and the fault that ends it, if there is one
+-- what a command prints, the fault that ends it, if there is one, and what is refused behind it, where an input is read in pieces
 pub record Printout : Type 0 where
   pub bytes : List ℕ
   pub ending : Option Fault
+  pub refused : Option Refusal
+
+-- these bytes, and this end; nothing is refused behind them
+abbrev pub ended : List ℕ → Option Fault → Printout
+ended bytes fault = record { bytes = bytes; ending = fault; refused = None }
 
 -- what no fault ends
 abbrev pub whole : List ℕ → Printout
-whole bytes = record { bytes = bytes; ending = None }
+whole bytes = ended bytes None
 
--- these bytes, and this end
-abbrev pub ended : List ℕ → Option Fault → Printout
-ended bytes fault = record { bytes = bytes; ending = fault }
+-- what is refused behind these bytes
+abbrev pub cut_by : List ℕ → Refusal → Printout
+cut_by bytes refusal = record { bytes = bytes; ending = None; refused = Some refusal }
 
 -- it is what is printed of the stream, up to the first fault
 pub record IsOfStream (names : List (List ℕ)) (stream : List ModelItem) (p : Printout) : Type 0 where
   pub bytes_are : p.bytes ≡ printed names stream
   pub ending_is : p.ending ≡ ending stream
+  pub unrefused : p.refused ≡ None
 
 -- What is printed where a network with its setting is run over records, whose names are these, in one manner or another.
 abbrev pub Manner : Type 1

@@ -13,7 +13,8 @@ use Rattle.sn_load.specs.declared.load.Program.{Program}
 use Rattle.sn_stop.specs.declared.refusal.LineFault.{LineFault}
 use Rattle.sn_stop.specs.declared.refusal.LineFault.TheVariants as line
 use Rattle.sn_words.specs.declared.numbers.TheConstants.{DEFAULT_FUEL, DEFAULT_DEPTH}
-use Rattle.sn_load.specs.Load.{Limits, is_of_type, limits_of, setting}
+use Rattle.sn_pieces.specs.Lines.{is_of_type}
+use Rattle.sn_load.specs.Load.{Limits, limits_of, setting}
 
 -- the names of the labels of the records
 abbrev pub label_names : List (List ℕ)
@@ -56,6 +57,7 @@ IsWrongSample (line.BadLine n) names claim number count = ⊥
 IsWrongSample (line.Twice n kind name) names claim number count = ⊥
 IsWrongSample (line.Untyped n) names claim number count = HasUntypedSample n names claim number count
 IsWrongSample (line.TooMany n) names claim number count = ⊥
+IsWrongSample (line.TooLong n) names claim number count = ⊥
 
 -- what a program answers to the records on one thread, and so with workers where each merge is in order, within the limits that hold where no word says others
 abbrev pub default_limits : Limits

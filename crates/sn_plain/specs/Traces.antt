@@ -1,5 +1,5 @@
 -- What a run with workers writes of itself, and what comes of a text that is read as its trace.
-use Rattle.std.specs.Prelude.{◌≡◌, ◌≤◌, ℕ, List, length, map, Option, IfSome}
+use Rattle.std.specs.Prelude.{◌≡◌, ◌≤◌, ℕ, List, length, map, None, Option, IfSome}
 use Rattle.sn_record.specs.Record.{Entries}
 use Rattle.sn_net.specs.declared.net.Net.{Net}
 use Rattle.sn_net.specs.Item.{ModelItem, Rec}
@@ -35,6 +35,7 @@ pub record IsTrace (p : Printout) (run : Run) : Type 0 where
   pub items : List ModelItem
   pub replays : Replays run p.bytes items
   pub ending_is : p.ending ≡ ending items
+  pub unrefused : p.refused ≡ None
 
 -- the text is that of the lines of events that may happen one after another from the start
 pub record IsTraceBegun (p : Printout) (run : Run) : Type 0 where

@@ -2,6 +2,7 @@
 //! exit status.
 #![tactic(auto)]
 
+mod feeding;
 mod outside;
 mod ready;
 mod replaying;

@@ -1,6 +1,6 @@
 //! Reads the files of a command, and writes the line on `err`.
 ghost use Rattle.std.specs.List.{flat_map};
-ghost use Rattle.std.specs.Prelude.{◌≡◌, ◌≤◌, ◌++◌, ℕ, List, length, codes, IfOk, IfErr, IfSome, OnOk, OnErr};
+ghost use Rattle.std.specs.Prelude.{◌≡◌, ◌≤◌, ◌++◌, ℕ, List, length, max, codes, IfOk, IfErr, IfSome, OnOk, OnErr};
 ghost use Rattle.sn_io.specs.Causes.{HasCause};
 ghost use Rattle.sn_io.specs.Told.{appended, AppendsPrefix};
 ghost use Rattle.sn_plain.specs.Seen.{seen_file, seen_sink, GotLine, WhyUnread};
@@ -22,6 +22,7 @@ pub fn read_file<F: Files>(
     ensures unread { IfErr result (WhyUnread which limit (seen_file F.bytes_of F.faults files.old files.new name.now)) }
     ensures later { (any : List ℕ) → F.faults files.old any ≤ F.faults files.new any }
     ensures same { (any : List ℕ) → F.bytes_of files.new any ≡ F.bytes_of files.old any }
+    ensures asked { F.asked files.new ≡ max (F.asked files.old) limit }
 {
     match files.read(alloc, name, limit) {
         Ok(bytes) => Ok(bytes),

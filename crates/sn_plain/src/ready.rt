@@ -6,7 +6,8 @@ ghost use Rattle.sn_model.specs.Ranges.{IsWithin};
 ghost use Rattle.sn_model.specs.declared.run.TheConstants.{LONGEST_QUEUE};
 ghost use Rattle.sn_plain.specs.Ready.{IsReady, WhyNotReady, ready_of, setting_at};
 ghost use Rattle.sn_typing.specs.Accepted.{IsAccepted};
-ghost use Rattle.sn_load.specs.Load.{AreLimits, AreTypedRecords, is_of_type, limits_of};
+ghost use Rattle.sn_load.specs.Load.{AreLimits, AreTypedRecords, limits_of};
+ghost use Rattle.sn_pieces.specs.Lines.{is_of_type};
 ghost use Rattle.sn_plain.specs.Seen.{seen_file};
 ghost use Rattle.sn_plain.specs.Traces.{IsRunOver};
 

@@ -1,23 +1,19 @@
 //! What comes out by a trace that is read.
-ghost use Rattle.std.specs.Prelude.{◌≡◌, ◌≤◌, length, map, IfErr, IfOk, OnOk};
-ghost use Rattle.sn_io.specs.Told.{appended};
-ghost use Rattle.sn_net.specs.Item.{modelled};
+ghost use Rattle.std.specs.Prelude.{◌≡◌, ◌≤◌, length, IfErr, IfOk};
 ghost use Rattle.sn_net.specs.WellFormed.{FitsBoxes};
-ghost use Rattle.sn_output.specs.Printed.{ending, printed};
 ghost use Rattle.sn_load.specs.Load.{AreLimits, AreTypedRecords, limits_of};
 ghost use Rattle.sn_plain.specs.Ready.{setting_at};
-ghost use Rattle.sn_plain.specs.Runs.{HasPrinted, WhyCutOff};
+ghost use Rattle.sn_plain.specs.Runs.{HasPrinted};
 ghost use Rattle.sn_plain.specs.Seen.{seen_sink};
 ghost use Rattle.sn_plain.specs.Stopping.{WhyUnplayable, trace_stop};
 ghost use Rattle.sn_plain.specs.Traces.{Played};
 ghost use Rattle.sn_plain.specs.declared.replaying.TheConstants.{TRACE_LIMIT};
 
 use crate::ready::{Ready, Started, start};
-use crate::transcript::{Transcript, shown_in};
-use sn_io::{Sink, write_whole};
-use sn_list::{Held, Seq};
-use sn_names::Names;
-use sn_record::{Fault, Items};
+use crate::transcript::print_items;
+use sn_io::Sink;
+use sn_list::Held;
+use sn_record::Fault;
 use sn_replay::{TraceFault, replay};
 use sn_stop::{Refusal, Stop, TraceRefusal};
 use sn_words::DEFAULT_QUEUE;
@@ -36,23 +32,6 @@ fn stop_of(fault: TraceFault) -> Stop
         TraceFault::Unfinished => Stop::Refused(Refusal::Trace(TraceRefusal::Unfinished)),
         TraceFault::Memory => Stop::Memory,
     }
-}
-
-/// Prints the line of each record among items, up to the first fault, and answers that.
-fn print_items<O: Sink>(
-    alloc: Global,
-    names: &Names,
-    items: Items,
-    out: &mut O,
-) -> Result<Option<Fault>, Stop>
-    ensures ended { IfOk result (λ fault. fault ≡ ending (map modelled items)) }
-    ensures whole { OnOk result (O.held out.new ≡ appended (O.held out.old) (printed names.now (map modelled items))) }
-    ensures stopped { IfErr result (WhyCutOff (seen_sink O.held O.faults out.old out.new) (printed names.now (map modelled items))) }
-    ensures later { O.faults out.old ≤ O.faults out.new }
-{
-    let Transcript { text, fault } = shown_in(alloc, Seq::new(alloc), names, items)?;
-    write_whole(out, text.as_slice())?;
-    Ok(fault)
 }
 
 /// Checks a text as a trace of the run of what is ready, prints the records that come out by it, and answers the fault that ends them. Nothing is

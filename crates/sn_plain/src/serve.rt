@@ -1,15 +1,16 @@
 //! The commands that the calling thread does alone.
-ghost use Rattle.std.specs.Prelude.{◌≡◌, ◌≢◌, ◌≤◌, ℕ, List, Ok, Some, None, IfErr, IfSome, OnOk, codes, false, map, true};
+ghost use Rattle.std.specs.Prelude.{◌≡◌, ◌≢◌, ◌<◌, ◌≤◌, ℕ, List, Ok, Some, None, IfErr, IfSome, OnOk, codes, false, map, max, true};
 ghost use Rattle.std.specs.String.{string_bytes};
 ghost use Rattle.sn_io.specs.Told.{appended};
 ghost use Rattle.sn_load.specs.Load.{AreLimits, limits_of};
 ghost use Rattle.sn_plain.specs.Seen.{GotLine, seen_file, seen_sink};
 ghost use Rattle.sn_stop.specs.Status.{stop_line};
-ghost use Rattle.sn_plain.specs.Answer.{GotEnd, end_status, is_plain, seen, Finds, FindsFor, FindsReplay, FindsReport, FindsText, WhyEnded, WhyStopped, WhyUnreported, WhyUnplayed, WhyUnprinted, IsAnswered, HasUnread, IsCutShort, IsUnwritten, IsAnsweredFor, IsCutShortFor, NeedsOthers, OfCommand};
+ghost use Rattle.sn_plain.specs.Answer.{GotEnd, end_status, is_plain, seen, Finds, AsksFew, FindsFeed, FindsFor, FindsReplay, FindsReport, FindsText, WhyEnded, WhyStopped, WhyUnfed, WhyUnreported, WhyUnplayed, WhyUnprinted, IsAnswered, HasUnread, IsCutShort, IsUnwritten, IsAnsweredFor, IsCutShortFor, NeedsOthers, OfCommand};
 ghost use Rattle.sn_plain.specs.Runs.{OnOneThread, whole};
 ghost use Rattle.sn_words.specs.Command.{IsInRange, input_of, source_of, trace_of, usage_text};
 ghost use Rattle.sn_words.specs.Words.{command_of};
 
+use crate::feeding::feed_program;
 use crate::outside::{read_file, write_line};
 use crate::ready::prepare;
 use crate::replaying::{TRACE_LIMIT, print_replay};
@@ -134,6 +135,40 @@ fn run_replay<F: Files, O: Sink>(
     }
 }
 
+/// Feeds an input that may be long to a source on one thread, and prints what comes out as it comes.
+fn run_feed<F: Files, O: Sink>(
+    alloc: Global,
+    source_name: &[u8],
+    input_name: &[u8],
+    batch: u32,
+    fuel: u64,
+    depth: u32,
+    files: &mut F,
+    out: &mut O,
+) -> Result<(), Stop>
+    requires limits { AreLimits (limits_of fuel depth) }
+    requires some { 0 < batch }
+    requires few { batch ≤ 1_048_576 }
+    ensures done { OnOk result ((p : List ℕ)
+        × FindsFeed (limits_of fuel depth) (F.bytes_of files.old source_name.now) (F.bytes_of files.old input_name.now) (Ok (whole p))
+        × (O.held out.new ≡ appended (O.held out.old) p)) }
+    ensures stopped { IfErr result (WhyUnfed (limits_of fuel depth)
+        (seen_file F.bytes_of F.faults files.old files.new source_name.now)
+        (seen_file F.bytes_of F.faults files.old files.new input_name.now)
+        (seen_sink O.held O.faults out.old out.new)) }
+    ensures same { (name : List ℕ) → F.bytes_of files.new name ≡ F.bytes_of files.old name }
+    ensures later { (name : List ℕ) → F.faults files.old name ≤ F.faults files.new name }
+    ensures asked { F.asked files.new ≤ max (F.asked files.old) 1_048_576 }
+    ensures out_later { O.faults out.old ≤ O.faults out.new }
+{
+    let source = read_file(alloc, files, Which::Source, source_name, SOURCE_LIMIT)?;
+    let program = load_source(alloc, source.as_slice())?;
+    match feed_program(alloc, program, input_name, batch, fuel, depth, files, out)? {
+        None => Ok(()),
+        Some(fault) => Err(Stop::Faulted(fault)),
+    }
+}
+
 /// Whether the calling thread does the command alone.
 pub fn is_plain(command: &Command) -> bool
     ensures { result ≡ is_plain command.now }
@@ -144,7 +179,8 @@ pub fn is_plain(command: &Command) -> bool
         | Command::Check { .. }
         | Command::Print { .. }
         | Command::Plan { .. }
-        | Command::Replay { .. } => true,
+        | Command::Replay { .. }
+        | Command::Feed { .. } => true,
     }
 }
 
@@ -165,6 +201,7 @@ fn work_alone<F: Files, O: Sink>(
         (seen_sink O.held O.faults out.old out.new)) }
     ensures same { (name : List ℕ) → F.bytes_of files.new name ≡ F.bytes_of files.old name }
     ensures later { (name : List ℕ) → F.faults files.old name ≤ F.faults files.new name }
+    ensures asked { AsksFew command.now (F.asked files.old) (F.asked files.new) }
     ensures out_later { O.faults out.old ≤ O.faults out.new }
 {
     match command {
@@ -200,6 +237,22 @@ fn work_alone<F: Files, O: Sink>(
             source.as_slice(),
             input.as_slice(),
             trace.as_slice(),
+            *fuel,
+            *depth,
+            files,
+            out,
+        ),
+        Command::Feed {
+            source,
+            input,
+            batch,
+            fuel,
+            depth,
+        } => run_feed(
+            alloc,
+            source.as_slice(),
+            input.as_slice(),
+            *batch,
             *fuel,
             *depth,
             files,
@@ -255,6 +308,7 @@ pub fn serve_plain<F: Files, O: Sink, E: Sink>(
         → IsUnwritten command.now (seen F.bytes_of F.faults O.held O.faults E.held E.faults files.old files.new out.old out.new err.old err.new) }
     ensures same { (name : List ℕ) → F.bytes_of files.new name ≡ F.bytes_of files.old name }
     ensures later { (name : List ℕ) → F.faults files.old name ≤ F.faults files.new name }
+    ensures asked { AsksFew command.now (F.asked files.old) (F.asked files.new) }
     ensures out_later { O.faults out.old ≤ O.faults out.new }
     ensures err_later { E.faults err.old ≤ E.faults err.new }
 {

@@ -87,6 +87,23 @@ pub(crate) fn shown_in(
     Ok(shown)
 }
 
+/// Prints the line of each record among items, up to the first fault, and answers that.
+pub(crate) fn print_items<O: Sink>(
+    alloc: Global,
+    names: &Names,
+    items: Items,
+    out: &mut O,
+) -> Result<Option<Fault>, Stop>
+    ensures ended { IfOk result (λ fault. fault ≡ ending (map modelled items)) }
+    ensures whole { OnOk result (O.held out.new ≡ appended (O.held out.old) (printed names.now (map modelled items))) }
+    ensures stopped { IfErr result (WhyCutOff (seen_sink O.held O.faults out.old out.new) (printed names.now (map modelled items))) }
+    ensures later { O.faults out.old ≤ O.faults out.new }
+{
+    let Transcript { text, fault } = shown_in(alloc, Seq::new(alloc), names, items)?;
+    write_whole(out, text.as_slice())?;
+    Ok(fault)
+}
+
 /// Prints what the network of a run gives on one thread for typed records, and answers the fault that ends it. What comes of a
 /// record is written before the next is taken, and nothing is taken behind a fault.
 fn print_run<O: Sink>(

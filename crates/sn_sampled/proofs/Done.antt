@@ -15,7 +15,7 @@ use Rattle.sn_sampled.proofs.Program.{the_program, source_accepted, samples_type
 pub never_refused : (number count : ℕ) (refusal : Refusal) → FindsSample number count (Err refusal) → ⊥
 never_refused number count refusal finds =
     let prints : FindsSample number count (Ok (tallied the_program number count)) =
-    (the_program, source_accepted, record { typed = samples_typed number count; bytes_are = refl; ending_is = refl }) in
+    (the_program, source_accepted, record { typed = samples_typed number count; bytes_are = refl; ending_is = refl; unrefused = refl }) in
     let same : ◌≡◌ {A = Result Printout Refusal} (Err refusal) (Ok (tallied the_program number count)) =
     finds_sample_once number count (Err refusal) (Ok (tallied the_program number count)) finds prints in
     cc

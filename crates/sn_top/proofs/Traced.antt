@@ -14,7 +14,7 @@ use Rattle.sn_plain.specs.Traces.{BegunTrace, IsRunOver, Traced}
 
 module _ (s : Setting) (net : Net) (records : List Entries) (names : List (List ℕ)) (out : Sink) (run : Run) (over : IsRunOver s net records run) where
   pub trace_printed : (end : Option Fault) → HasTrace run out.before out.now end → HasPrinted (Traced s net records names) out end
-  trace_printed end has = (has.text, (run, over, record { items = has.items; replays = has.replays; ending_is = sym has.ends }), has.all)
+  trace_printed end has = (has.text, (run, over, record { items = has.items; replays = has.replays; ending_is = sym has.ends; unrefused = refl }), has.all)
 
   pub trace_begun : HasTracePart run out.before out.now → HasBegun (BegunTrace s net records names) out
   trace_begun has =

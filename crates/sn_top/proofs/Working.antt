@@ -50,7 +50,7 @@ module _ (limits : Limits) (ready : Ready) (out : Sink) (formed : FitsBoxes read
     pub farm_printed : (end : Option Fault) → FarmHasPrinted ready.names run end out.before out.now → HasPrinted Shown out end
     farm_printed end has = (
       has.text,
-      ∥∥₁_elim has.stream ∥∥₁_prop (λ some. shown some.0 (ended has.text end) (may_answer some.0 some.1) (record { bytes_are = some.2; ending_is = some.3 })),
+      ∥∥₁_elim has.stream ∥∥₁_prop (λ some. shown some.0 (ended has.text end) (may_answer some.0 some.1) (record { bytes_are = some.2; ending_is = some.3; unrefused = refl })),
       has.all,
     )
 
@@ -58,4 +58,4 @@ module _ (limits : Limits) (ready : Ready) (out : Sink) (formed : FitsBoxes read
     farm_begun has =
         ∥∥₁_map has (λ some.
         let p : Printout = ended (printed ready.names some.0) (ending some.0) in
-        (p, shown some.0 p (may_answer some.0 some.1) (record { bytes_are = refl; ending_is = refl }), some.2))
+        (p, shown some.0 p (may_answer some.0 some.1) (record { bytes_are = refl; ending_is = refl; unrefused = refl }), some.2))

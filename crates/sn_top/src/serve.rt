@@ -193,7 +193,8 @@ fn work_together<R: Threads + Wait + Sync, F: Files, O: Sink, G: Gate>(
         | Command::Check { .. }
         | Command::Print { .. }
         | Command::Plan { .. }
-        | Command::Replay { .. } => unreachable!(),
+        | Command::Replay { .. }
+        | Command::Feed { .. } => unreachable!(),
     }
 }
 

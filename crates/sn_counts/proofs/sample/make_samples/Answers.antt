@@ -19,9 +19,6 @@ first_is c = ap₂ (λ (vs : List Labels) (xs : List Item). first_untyped vs xs)
 below : (c : goal.In-Some) → c.in-Some.i < c.args.count
 below c = untyped_below c.args.names c.args.claim.now c.args.number c.args.count c.enter_labels.new.names c.in_ok-enter_labels.ensures.entered c.in_ok-enter_labels.ensures.room c.in_ok-items.items c.in_ok-items.ensures c.in-Some.i (first_is c)
 
-pub overflow_cast-result : goal.overflow_cast-result
-overflow_cast-result c = omega (arith, below c, c.ranges.count.fits)
-
 pub overflow_add-result : goal.overflow_add-result
 overflow_add-result c = omega (arith, below c, c.ranges.count.fits)
 

@@ -1,7 +1,7 @@
 use Rattle.std.proofs.Common.{not, sym, ap, ◌∙◌, arith}
 use Rattle.std.specs.FinMap as finite
 use Rattle.sn_record.specs.Record.{Entries}
-use Rattle.sn_load.specs.Load.{is_of_type}
+use Rattle.sn_pieces.specs.Lines.{is_of_type}
 use Rattle.sn_load.proofs.Loading.{first_at, none_at}
 use Rattle.sn_load.proofs.load.first_untyped.Goals as goal
 

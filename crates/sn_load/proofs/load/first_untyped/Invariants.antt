@@ -1,6 +1,6 @@
 use Rattle.std.proofs.Common.{◌≡◌, ◌<◌, ℕ, get_or, not, false}
 use Rattle.sn_record.specs.Record.{Entries}
-use Rattle.sn_load.specs.Load.{is_of_type}
+use Rattle.sn_pieces.specs.Lines.{is_of_type}
 use Rattle.sn_load.proofs.load.first_untyped.Given as goal
 
 abbrev pub invariant-loop-i : goal.invariant-loop-i

@@ -2,7 +2,8 @@ use Rattle.std.proofs.Common.{◌≡◌, List, Some, None, not, ap₂, sym, ◌�
 use Rattle.std.specs.List.{position}
 use Rattle.sn_record.specs.LabelSet.{Labels}
 use Rattle.sn_record.specs.Record.{Entries}
-use Rattle.sn_load.specs.Load.{IsTypedFile, is_of_type}
+use Rattle.sn_load.specs.Load.{IsTypedFile}
+use Rattle.sn_pieces.specs.Lines.{is_of_type}
 use Rattle.sn_load.proofs.Loading.{line_there, typed, untyped}
 use Rattle.sn_load.proofs.Typing.{records_typed}
 use Rattle.sn_load.proofs.load.read_input.Goals as goal

@@ -46,3 +46,9 @@ returns-in-Replay-clause-stopped g c =
     let out : Sink = seen_sink g.O.Sink.held g.O.Sink.faults c.args.out.now c.run_replay.new.out in
     subst (λ (command : Command). IfErr c.run_replay.result (WhyEnded command file out)) (sym c.in-Replay.is)
     (rw (c.as_slice-in-Replay.ensures, c.as_slice-in-Replay-2.ensures, c.as_slice-in-Replay-3.ensures) at c.run_replay.ensures.stopped)
+
+pub returns-in-Feed-clause-stopped : goal.returns-in-Feed-clause-stopped
+returns-in-Feed-clause-stopped g c =
+    let file : List ℕ → File = seen_file g.F.Files.bytes_of g.F.Files.faults c.args.files.now c.run_feed.new.files in
+    let out : Sink = seen_sink g.O.Sink.held g.O.Sink.faults c.args.out.now c.run_feed.new.out in
+    subst (λ (command : Command). IfErr c.run_feed.result (WhyEnded command file out)) (sym c.in-Feed.is) (rw (c.as_slice-in-Feed.ensures, c.as_slice-in-Feed-2.ensures) at c.run_feed.ensures.stopped)

@@ -4,7 +4,7 @@ use Rattle.sn_net.specs.Item.{modelled}
 use Rattle.sn_io.specs.Told.{AppendsPrefix, appended}
 use Rattle.sn_io.proofs.Told.{prefix_none}
 use Rattle.sn_output.specs.Printed.{printed}
-use Rattle.sn_plain.proofs.replaying.print_items.Goals as goal
+use Rattle.sn_plain.proofs.transcript.print_items.Goals as goal
 
 pub returns-in_err-text-clause-stopped : goal.returns-in_err-text-clause-stopped
 returns-in_err-text-clause-stopped g c =
