@@ -12,8 +12,14 @@ use Rattle.sn_outcomes.specs.Told.{AreTold}
 use Rattle.sn_output.specs.Printed.{printed, ending}
 use Rattle.sn_sample.specs.Source.{source_text}
 use Rattle.sn_sample.specs.Tally.{counted, counts_line}
-use Rattle.sn_plain.specs.Answer.{Finds, FindsReplay, FindsSample, FindsReport, FindsText, FindsFor, IsAccepted, IsAnswered, IsRefused, IsRefusedInput, Outside, found_status}
+use Rattle.sn_plain.specs.Answer.{Finds, FindsFeed, FindsReplay, FindsSample, FindsReport, FindsText, FindsFor, IsAccepted, IsAnswered, IsRefused, IsRefusedAlone, IsRefusedInput, Outside, found_status}
 use Rattle.sn_net.specs.Net.{nodes}
+use Rattle.sn_net.specs.declared.expr.BoxProgram.{BoxProgram}
+use Rattle.sn_stream_labels.specs.Known.{Knows}
+use Rattle.sn_source_labels.proofs.Sources.{source_knows}
+use Rattle.sn_pieces.specs.Known.{is_known}
+use Rattle.sn_plain.specs.Feeding.{IsFed, fed_of}
+use Rattle.sn_outcomes.proofs.Fed.{fed_once}
 use Rattle.sn_planned.proofs.Unique.{one_plan}
 use Rattle.sn_plain.specs.Reports.{HasReport, plan_line}
 use Rattle.sn_plain.specs.declared.reports.Report.{Report}
@@ -219,25 +225,60 @@ same_report report.Plan program text other (count, (planned, is_plan, count_is),
 reports_once : (about : Report) (program : Program) (found other : Found) → Reports about program found → Reports about program other → found ≡ other
 reports_once about program found other a b = a.is ∙ ap (λ text. Ok (whole text)) (same_report about program a.text b.text a.has b.has) ∙ sym b.is
 
+-- the checks of a source alone refuse
+refused_alone : (bytes : List ℕ) (P : Program → Found → Type 0) (refusal : Refusal) → IsRefusedAlone (Some bytes) refusal → Goes bytes P (Err refusal)
+refused_alone bytes P (TooLarge Source) f = Goes.large f
+refused_alone bytes P (TooLarge InputFile) f = absurd f
+refused_alone bytes P (TooLarge TraceFile) f = absurd f
+refused_alone bytes P (SourceAt fault at) f = wrong_goes bytes P (SourceAt fault at) f
+refused_alone bytes P NoMain f = wrong_goes bytes P NoMain f
+refused_alone bytes P (TooDeep at) f = wrong_goes bytes P (TooDeep at) f
+refused_alone bytes P (LargeTree at) f = wrong_goes bytes P (LargeTree at) f
+refused_alone bytes P TooManyNames f = wrong_goes bytes P TooManyNames f
+refused_alone bytes P (IllTyped fault at variant) f = wrong_goes bytes P (IllTyped fault at variant) f
+refused_alone bytes P (Variants at) f = wrong_goes bytes P (Variants at) f
+refused_alone bytes P (Line fault) f = absurd f
+refused_alone bytes P (Trace fault) f = absurd f
+
 pub reported : (about : Report) (bytes : List ℕ) (found : Found) → FindsReport about (Some bytes) found → Goes bytes (Reports about) found
-reported about bytes (Err (TooLarge Source)) f = Goes.large f
-reported about bytes (Err (TooLarge InputFile)) f = absurd f
-reported about bytes (Err (TooLarge TraceFile)) f = absurd f
-reported about bytes (Err (Trace fault)) f = absurd f
-reported about bytes (Err (SourceAt fault at)) f = wrong_goes bytes (Reports about) (SourceAt fault at) f
-reported about bytes (Err NoMain) f = wrong_goes bytes (Reports about) NoMain f
-reported about bytes (Err (TooDeep at)) f = wrong_goes bytes (Reports about) (TooDeep at) f
-reported about bytes (Err (LargeTree at)) f = wrong_goes bytes (Reports about) (LargeTree at) f
-reported about bytes (Err TooManyNames) f = wrong_goes bytes (Reports about) TooManyNames f
-reported about bytes (Err (IllTyped fault at variant)) f = wrong_goes bytes (Reports about) (IllTyped fault at variant) f
-reported about bytes (Err (Variants at)) f = wrong_goes bytes (Reports about) (Variants at) f
-reported about bytes (Err (Line fault)) f = absurd f
+reported about bytes (Err refusal) f = refused_alone bytes (Reports about) refusal f
 reported about bytes (Ok p) (program, accepted, has, ends) = program_goes bytes (Reports about) (Ok p) program accepted (record { text = p.bytes; has = has; is = ap Ok ends })
 
 finds_report_once : (about : Report) (bytes : List ℕ) (source : Option (List ℕ)) (found other : Found) → source ≡ Some bytes → FindsReport about source found → FindsReport about source other → found ≡ other
 finds_report_once about bytes source found other s f g =
     goes_once bytes (Reports about) (Reports about) (reports_once about) found other (reported about bytes found (subst (λ x. FindsReport about x found) s f))
     (reported about bytes other (subst (λ x. FindsReport about x other) s g))
+
+-- WHAT IS FOUND OF A LONG INPUT
+pub record Feeding (limits : Limits) (more : List ℕ) (program : Program) (found : Found) : Type 0 where
+  pub printout : Printout
+  pub knows : Knows (is_known program.names) program.boxes program.claim.net
+  pub fed : IsFed (fed_of limits program) more printout
+  pub is : found ≡ Ok printout
+
+-- the names of an accepted program know its labels
+pub program_knows : (bytes : List ℕ) (program : Program) → IsAccepted bytes program → Knows (is_known program.names) program.boxes program.claim.net
+program_knows bytes program accepted =
+    let resolved = accepted.main.resolved in
+    let main = accepted.main.so in
+    subst (λ (x : List (List ℕ) × List BoxProgram). Knows (is_known x.0) x.1 program.claim.net) (λ i. (sym main.names_are i, sym main.boxes_are i))
+    (source_knows resolved.tree accepted.main.parts accepted.main.parts.main program.claim resolved.is main.main)
+
+feeding_once : (limits : Limits) (more : List ℕ) (program : Program) (found other : Found) → Feeding limits more program found → Feeding limits more program other → found ≡ other
+feeding_once limits more program found other a b = a.is ∙ ap Ok (fed_once (fed_of limits program) a.knows more a.printout b.printout a.fed b.fed) ∙ sym b.is
+
+pub feeding : (limits : Limits) (bytes more : List ℕ) (source input : Option (List ℕ)) (found : Found) → source ≡ Some bytes → input ≡ Some more → FindsFeed limits source input found
+    → Goes bytes (Feeding limits more) found
+feeding limits bytes more source input found s i f = by found (subst (λ (x : Option (List ℕ) × Option (List ℕ)). FindsFeed limits x.0 x.1 found) (λ j. (s j, i j)) f)
+  where
+    by : (found : Found) → FindsFeed limits (Some bytes) (Some more) found → Goes bytes (Feeding limits more) found
+    by (Err refusal) f = refused_alone bytes (Feeding limits more) refusal f
+    by (Ok p) (program, accepted, is_fed) = program_goes bytes (Feeding limits more) (Ok p) program accepted (record { printout = p; knows = program_knows bytes program accepted; fed = is_fed; is = refl })
+
+pub finds_feed_once : (limits : Limits) (bytes more : List ℕ) (source input : Option (List ℕ)) (found other : Found) → source ≡ Some bytes → input ≡ Some more → FindsFeed limits source input found
+    → FindsFeed limits source input other → found ≡ other
+finds_feed_once limits bytes more source input found other s i f g =
+    goes_once bytes (Feeding limits more) (Feeding limits more) (feeding_once limits more) found other (feeding limits bytes more source input found s i f) (feeding limits bytes more source input other s i g)
 
 -- the whole text of a source, or its refusal
 abbrev text_found : Result (List ℕ) Refusal → Found
@@ -341,7 +382,8 @@ command_once (Plan source) file found other told f g = finds_report_once report.
 command_once (ATrace source input workers fuel depth queue) file found other told f g = absurd told
 command_once (Replay source input trace fuel depth) file found other told f g =
     finds_replay_once (limits_of fuel depth) told.0.bytes told.1.bytes told.2.bytes (file source).told (file input).told (file trace).told found other told.0.are told.1.are told.2.are f g
-command_once (Feed source input batch fuel depth) file found other told f g = absurd told
+command_once (Feed source input batch fuel depth) file found other told f g =
+    finds_feed_once (limits_of fuel depth) told.0.bytes told.1.bytes (file source).told (file input).told found other told.0.are told.1.are f g
 command_once (Sample number count) file found other told f g = finds_sample_once number count found other f g
 
 -- and so there is one status

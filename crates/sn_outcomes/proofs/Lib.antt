@@ -17,6 +17,8 @@ pub mod Flows
 pub mod Judging
 pub mod Runs
 pub mod Traced
+pub mod Fed
 pub mod Commands
 pub mod SourceAlone
+pub mod Feeding
 pub mod Done

@@ -29,7 +29,7 @@ AreTold (Print source) file = IsTold (file source)
 AreTold (Plan source) file = IsTold (file source)
 AreTold (ATrace source input workers fuel depth queue) file = ⊥
 AreTold (Replay source input trace fuel depth) file = IsTold (file source) × IsTold (file input) × IsTold (file trace)
-AreTold (Feed source input batch fuel depth) file = ⊥
+AreTold (Feed source input batch fuel depth) file = IsTold (file source) × IsTold (file input)
 AreTold (Sample number count) file = Unit {0}
 
 -- no input is refused so

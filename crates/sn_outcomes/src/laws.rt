@@ -3,11 +3,14 @@
 //! Each layer is said by a relation between what is read and what comes of it. These laws say that such a relation holds of
 //! one outcome alone, so that "this is found where this is so" can be read as "and nothing else is". The last law says when
 //! that outcome is no refusal.
-ghost use Rattle.std.specs.Prelude.{◌≡◌, ◌≢◌, ◌≤◌, ℕ, List, length, Option, Some, Result, Ok, Err};
+ghost use Rattle.std.specs.Prelude.{◌≡◌, ◌≢◌, ◌≤◌, ◌++◌, ℕ, List, length, Option, Some, Result, Ok, Err};
 ghost use Rattle.sn_ast.specs.declared.declaration.Decl.{Decl as SomeDecl};
 ghost use Rattle.sn_ast.specs.declared.declaration.Program.{Program as SomeTree};
 ghost use Rattle.sn_ast.specs.declared.measure.Measured.{Measured as SomeMeasured};
 ghost use Rattle.sn_ast.specs.declared.terminal.Terminal.{Terminal as SomeTerminal};
+ghost use Rattle.sn_feed.specs.Counted.{counted};
+ghost use Rattle.sn_feed.specs.declared.feed.TheConstants.{MOST_INPUT};
+ghost use Rattle.sn_input.specs.Line.{lines_of};
 ghost use Rattle.sn_input.specs.Reading.{ReadsFile};
 ghost use Rattle.sn_input.specs.declared.input.Input.{Input as SomeInput};
 ghost use Rattle.sn_input.specs.declared.input.InputFault.{InputFault as SomeInputFault};
@@ -17,13 +20,16 @@ ghost use Rattle.sn_lexer.specs.declared.token.LexFault.TheVariants as lex_fault
 ghost use Rattle.sn_lexer.specs.declared.token.Token.{Token as SomeToken};
 ghost use Rattle.sn_net.specs.declared.net.Claim.{Claim as SomeClaim};
 ghost use Rattle.sn_net.specs.Item.{ModelItem};
+ghost use Rattle.sn_outcomes.specs.Fed.{AreShort, fed_whole};
 ghost use Rattle.sn_outcomes.specs.Told.{AreTold, IsOfSource, IsTold, MergesInOrder};
 ghost use Rattle.sn_output.specs.Printed.{ending};
 ghost use Rattle.sn_parser.specs.Answer.{Faults, IsFault as IsParseFault, IsProgram as IsTree, Spell, Spells};
 ghost use Rattle.sn_ast.specs.declared.fault.ParseFault.{ParseFault as SomeParseFault};
 ghost use Rattle.sn_ast.specs.declared.fault.ParseFault.TheVariants as parse_fault;
 ghost use Rattle.sn_sample.specs.Source.{source_text};
-ghost use Rattle.sn_plain.specs.Answer.{Finds, FindsFor, IsAccepted, IsAnswered, Outside, ending_status};
+ghost use Rattle.sn_pieces.specs.Lines.{Reading, ReadsLines};
+ghost use Rattle.sn_plain.specs.Answer.{BeginsFor, Finds, FindsFor, IsAccepted, IsAnswered, Outside, ending_status};
+ghost use Rattle.sn_plain.specs.Feeding.{answer_of, fed_of};
 ghost use Rattle.sn_plain.specs.Runs.{ComesOut, OnOneThread, Printout, WithWorkers};
 ghost use Rattle.sn_load.specs.Load.{IsTypedFile, Limits, WhyNoRecords, limits_of, setting, stream_of};
 ghost use Rattle.sn_plain.specs.Sample.{AreTypedSamples, answers_to};
@@ -40,7 +46,7 @@ ghost use Rattle.sn_stop.specs.declared.refusal.Refusal.{Refusal as SomeRefusal}
 ghost use Rattle.sn_stop.specs.declared.status.Status.{Status as SomeStatus};
 ghost use Rattle.sn_stop.specs.declared.status.Status.TheVariants as status;
 ghost use Rattle.sn_words.specs.declared.command.Command.{Command as SomeCommand};
-ghost use Rattle.sn_words.specs.declared.command.Command.TheVariants.{Check, Once, Plan, Print, Replay, Run, Sample, Trace as ATrace};
+ghost use Rattle.sn_words.specs.declared.command.Command.TheVariants.{Check, Feed, Once, Plan, Print, Replay, Run, Sample, Trace as ATrace};
 
 /// The bytes of a source give one list of tokens, or one refusal at one place, and never both. Want of memory is said of
 /// any source, and so it is left out, here and below.
@@ -122,6 +128,22 @@ pub fn command_has_one_outcome()
         → Finds WithWorkers limits (Some bytes) input (Err refusal) → Finds WithWorkers limits (Some bytes) input other → other ≡ Err refusal }
 {}
 
+/// A feed answers its whole input: what it prints is the network's one answer on one thread to the lines that count, up to the first that is
+/// refused, however the input is cut into pieces, and also where a fault ended it before all of them were read. Where it is cut off, what it printed
+/// stands first in that. Of an input that `once` accepts, no line of which is too long, it prints what `once` prints.
+pub fn feeds_answer_the_whole_input()
+    ensures whole { (file : List ℕ → File) (source input : List ℕ) (batch fuel depth : ℕ) (bytes more : List ℕ) (program : SomeProgram) (reading : Reading) (found : Result Printout SomeRefusal)
+        → (file source).told ≡ Some bytes → (file input).told ≡ Some more → IsAccepted bytes program
+        → ReadsLines program.claim.input 1 program.names (counted more) reading → FindsFor (Feed source input batch fuel depth) file found
+        → found ≡ Ok (fed_whole (fed_of (limits_of fuel depth) program) more reading) }
+    ensures begins { (file : List ℕ → File) (source input : List ℕ) (batch fuel depth : ℕ) (bytes more : List ℕ) (program : SomeProgram) (reading : Reading) (p : Printout)
+        → (file source).told ≡ Some bytes → (file input).told ≡ Some more → IsAccepted bytes program
+        → ReadsLines program.claim.input 1 program.names (counted more) reading → BeginsFor (Feed source input batch fuel depth) file p
+        → (rest : List ℕ) × ((fed_whole (fed_of (limits_of fuel depth) program) more reading).bytes ≡ p.bytes ++ rest) }
+    ensures as_once { (file : List ℕ → File) (source input : List ℕ) (batch fuel depth : ℕ) (more : List ℕ) (p : Printout) (found : Result Printout SomeRefusal) → IsTold (file source)
+        → (file input).told ≡ Some more → AreShort more → FindsFor (Once source input fuel depth) file (Ok p) → FindsFor (Feed source input batch fuel depth) file found → found ≡ Ok p }
+{}
+
 /// Where each choice, star and split of the main network of a source merges in order, a run finds what one thread does, with any number
 /// of workers, and by the planned network as by the one that was written.
 pub fn runs_in_order_are_as_on_one_thread()
@@ -141,7 +163,7 @@ pub fn traces_are_of_runs()
 
 /// An accepted source and a record file of its input type are enough: where their bytes are told, no answer of a command is a
 /// refusal. A run ends as its stream does, whole or at a fault, with workers as one of the streams that may come out, and so does one that is
-/// traced; the replay of a trace ends as what comes out by it; a run over stated records ends as its stream does, where these find room for their
+/// traced; the replay of a trace ends as what comes out by it; a feed ends as the answer to its lines does, where none is refused; a run over stated records ends as its stream does, where these find room for their
 /// names and are of the input type; a check ends well, and so do a plan and a printing, which needs only that the source has a text.
 pub fn accepted_commands_are_done()
     ensures once { (outside : Outside) (source input : List ℕ) (fuel depth : ℕ) (bytes more : List ℕ) (program : SomeProgram) (records : SomeInput) (left : SomeStatus)
@@ -163,6 +185,10 @@ pub fn accepted_commands_are_done()
         → IsTypedFile program.names program.claim more records → length more ≤ INPUT_LIMIT → length text ≤ TRACE_LIMIT
         → IsRunOver (setting program (limits_of fuel depth)) program.claim.net records.records run → Replays run text items
         → IsAnswered (Replay source input trace fuel depth) outside left → left ≡ ending_status (ending items) }
+    ensures feed { (outside : Outside) (source input : List ℕ) (batch fuel depth : ℕ) (bytes more : List ℕ) (program : SomeProgram) (reading : Reading) (left : SomeStatus)
+        → (outside.file source).told ≡ Some bytes → (outside.file input).told ≡ Some more → IsAccepted bytes program
+        → length more ≤ MOST_INPUT → ReadsLines program.claim.input 1 program.names (lines_of more) reading → reading.refused ≡ None
+        → IsAnswered (Feed source input batch fuel depth) outside left → left ≡ ending_status (ending (answer_of (fed_of (limits_of fuel depth) program) reading)) }
     ensures check { (outside : Outside) (source bytes : List ℕ) (program : SomeProgram) (left : SomeStatus) → (outside.file source).told ≡ Some bytes
         → IsAccepted bytes program → IsAnswered (Check source) outside left → left ≡ status.Ok }
     ensures plan { (outside : Outside) (source bytes : List ℕ) (program : SomeProgram) (left : SomeStatus) → (outside.file source).told ≡ Some bytes

@@ -350,6 +350,18 @@ is_plain (Replay source input trace fuel depth) = true
 is_plain (Feed source input batch fuel depth) = true
 is_plain (Sample number count) = false
 
+-- the command reads a whole input before anything is printed
+abbrev pub reads_whole : Command → Bool
+reads_whole (Run source input workers fuel depth queue plan) = true
+reads_whole (Once source input fuel depth) = true
+reads_whole (Check source) = false
+reads_whole (Print source) = false
+reads_whole (Plan source) = false
+reads_whole (Trace source input workers fuel depth queue) = true
+reads_whole (Replay source input trace fuel depth) = true
+reads_whole (Feed source input batch fuel depth) = false
+reads_whole (Sample number count) = false
+
 -- the command needs other threads, and nothing was written
 pub record NeedsOthers (command : Command) (outside : Outside) : Type 0 where
   pub many : is_plain command ≡ false

@@ -5,7 +5,7 @@ ghost use Rattle.sn_io.specs.Told.{appended};
 ghost use Rattle.sn_load.specs.Load.{AreLimits, limits_of};
 ghost use Rattle.sn_plain.specs.Seen.{GotLine, seen_file, seen_sink};
 ghost use Rattle.sn_stop.specs.Status.{stop_line};
-ghost use Rattle.sn_plain.specs.Answer.{GotEnd, end_status, is_plain, seen, Finds, AsksFew, FindsFeed, FindsFor, FindsReplay, FindsReport, FindsText, WhyEnded, WhyStopped, WhyUnfed, WhyUnreported, WhyUnplayed, WhyUnprinted, IsAnswered, HasUnread, IsCutShort, IsUnwritten, IsAnsweredFor, IsCutShortFor, NeedsOthers, OfCommand};
+ghost use Rattle.sn_plain.specs.Answer.{GotEnd, end_status, is_plain, reads_whole, seen, Finds, AsksFew, FindsFeed, FindsFor, FindsReplay, FindsReport, FindsText, WhyEnded, WhyStopped, WhyUnfed, WhyUnreported, WhyUnplayed, WhyUnprinted, IsAnswered, HasUnread, IsCutShort, IsUnwritten, IsAnsweredFor, IsCutShortFor, NeedsOthers, OfCommand};
 ghost use Rattle.sn_plain.specs.Runs.{OnOneThread, whole};
 ghost use Rattle.sn_words.specs.Command.{IsInRange, input_of, source_of, trace_of, usage_text};
 ghost use Rattle.sn_words.specs.Words.{command_of};
@@ -184,14 +184,15 @@ pub fn is_plain(command: &Command) -> bool
     }
 }
 
-/// Does a command on the calling thread alone.
-fn work_alone<F: Files, O: Sink>(
+/// Does a command that reads its whole input at once, on the calling thread alone.
+fn work_on_whole<F: Files, O: Sink>(
     alloc: Global,
     command: &Command,
     files: &mut F,
     out: &mut O,
 ) -> Result<(), Stop>
     requires plain { is_plain command.now ≡ true }
+    requires input { reads_whole command.now ≡ true }
     requires numbers { IsInRange command.now }
     ensures done { OnOk result ((p : List ℕ)
         × FindsFor command.now (seen_file F.bytes_of F.faults files.old files.new) (Ok (whole p))
@@ -219,13 +220,6 @@ fn work_alone<F: Files, O: Sink>(
             files,
             out,
         ),
-        Command::Check { source } => {
-            run_report(alloc, source.as_slice(), Report::Flows, files, out)
-        }
-        Command::Print { source } => run_print(alloc, source.as_slice(), files, out),
-        Command::Plan { source } => {
-            run_report(alloc, source.as_slice(), Report::Plan, files, out)
-        }
         Command::Replay {
             source,
             input,
@@ -242,6 +236,38 @@ fn work_alone<F: Files, O: Sink>(
             files,
             out,
         ),
+        Command::Run { .. }
+        | Command::Check { .. }
+        | Command::Print { .. }
+        | Command::Plan { .. }
+        | Command::Trace { .. }
+        | Command::Feed { .. }
+        | Command::Sample { .. } => unreachable!(),
+    }
+}
+
+/// Does a command on the calling thread alone.
+fn work_alone<F: Files, O: Sink>(
+    alloc: Global,
+    command: &Command,
+    files: &mut F,
+    out: &mut O,
+) -> Result<(), Stop>
+    requires plain { is_plain command.now ≡ true }
+    requires numbers { IsInRange command.now }
+    ensures done { OnOk result ((p : List ℕ)
+        × FindsFor command.now (seen_file F.bytes_of F.faults files.old files.new) (Ok (whole p))
+        × (O.held out.new ≡ appended (O.held out.old) p)) }
+    ensures stopped { IfErr result (WhyEnded command.now
+        (seen_file F.bytes_of F.faults files.old files.new)
+        (seen_sink O.held O.faults out.old out.new)) }
+    ensures same { (name : List ℕ) → F.bytes_of files.new name ≡ F.bytes_of files.old name }
+    ensures later { (name : List ℕ) → F.faults files.old name ≤ F.faults files.new name }
+    ensures asked { AsksFew command.now (F.asked files.old) (F.asked files.new) }
+    ensures out_later { O.faults out.old ≤ O.faults out.new }
+{
+    match command {
+        Command::Once { .. } | Command::Replay { .. } => work_on_whole(alloc, command, files, out),
         Command::Feed {
             source,
             input,
@@ -258,6 +284,13 @@ fn work_alone<F: Files, O: Sink>(
             files,
             out,
         ),
+        Command::Check { source } => {
+            run_report(alloc, source.as_slice(), Report::Flows, files, out)
+        }
+        Command::Print { source } => run_print(alloc, source.as_slice(), files, out),
+        Command::Plan { source } => {
+            run_report(alloc, source.as_slice(), Report::Plan, files, out)
+        }
         Command::Run { .. } | Command::Trace { .. } | Command::Sample { .. } => unreachable!(),
     }
 }

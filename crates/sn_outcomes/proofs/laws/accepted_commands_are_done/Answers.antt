@@ -1,4 +1,5 @@
 use Rattle.sn_outcomes.proofs.Done.{once_done, run_done, trace_done, replay_done, check_done, plan_done, print_done, sample_done}
+use Rattle.sn_outcomes.proofs.Feeding.{feed_done}
 use Rattle.sn_outcomes.proofs.laws.accepted_commands_are_done.Goals as goal
 
 pub returns-clause-once : goal.returns-clause-once
@@ -24,3 +25,6 @@ returns-clause-trace c = trace_done
 
 pub returns-clause-replay : goal.returns-clause-replay
 returns-clause-replay c = replay_done
+
+pub returns-clause-feed : goal.returns-clause-feed
+returns-clause-feed c = feed_done

@@ -6,17 +6,6 @@ use Rattle.sn_plain.specs.Seen.{File, Sink, seen_file, seen_sink}
 use Rattle.sn_words.specs.Command.{IsInRange}
 use Rattle.sn_plain.proofs.serve.work_alone.Goals as goal
 
-pub run_once-requires : goal.run_once-requires
-run_once-requires g c =
-    let numbers = subst IsInRange c.in-Once.is c.requires.numbers in
-    record { fuel = record { some = numbers.0; few = numbers.1 }; depth = record { some = numbers.2; few = numbers.3 } }
-
-pub returns-in-Once-clause-stopped : goal.returns-in-Once-clause-stopped
-returns-in-Once-clause-stopped g c =
-    let file : List ℕ → File = seen_file g.F.Files.bytes_of g.F.Files.faults c.args.files.now c.run_once.new.files in
-    let out : Sink = seen_sink g.O.Sink.held g.O.Sink.faults c.args.out.now c.run_once.new.out in
-    subst (λ (command : Command). IfErr c.run_once.result (WhyEnded command file out)) (sym c.in-Once.is) (rw (c.as_slice.ensures, c.as_slice-in-Once.ensures) at c.run_once.ensures.stopped)
-
 pub returns-in-Check-clause-stopped : goal.returns-in-Check-clause-stopped
 returns-in-Check-clause-stopped g c =
     let file : List ℕ → File = seen_file g.F.Files.bytes_of g.F.Files.faults c.args.files.now c.run_report.new.files in
@@ -35,20 +24,8 @@ returns-in-Plan-clause-stopped g c =
     let out : Sink = seen_sink g.O.Sink.held g.O.Sink.faults c.args.out.now c.run_report-in-Plan.new.out in
     subst (λ (command : Command). IfErr c.run_report-in-Plan.result (WhyEnded command file out)) (sym c.in-Plan.is) (rw c.as_slice-in-Plan.ensures at c.run_report-in-Plan.ensures.stopped)
 
-pub run_replay-requires : goal.run_replay-requires
-run_replay-requires g c =
-    let numbers = subst IsInRange c.in-Replay.is c.requires.numbers in
-    record { fuel = record { some = numbers.0; few = numbers.1 }; depth = record { some = numbers.2; few = numbers.3 } }
-
-pub returns-in-Replay-clause-stopped : goal.returns-in-Replay-clause-stopped
-returns-in-Replay-clause-stopped g c =
-    let file : List ℕ → File = seen_file g.F.Files.bytes_of g.F.Files.faults c.args.files.now c.run_replay.new.files in
-    let out : Sink = seen_sink g.O.Sink.held g.O.Sink.faults c.args.out.now c.run_replay.new.out in
-    subst (λ (command : Command). IfErr c.run_replay.result (WhyEnded command file out)) (sym c.in-Replay.is)
-    (rw (c.as_slice-in-Replay.ensures, c.as_slice-in-Replay-2.ensures, c.as_slice-in-Replay-3.ensures) at c.run_replay.ensures.stopped)
-
 pub returns-in-Feed-clause-stopped : goal.returns-in-Feed-clause-stopped
 returns-in-Feed-clause-stopped g c =
     let file : List ℕ → File = seen_file g.F.Files.bytes_of g.F.Files.faults c.args.files.now c.run_feed.new.files in
     let out : Sink = seen_sink g.O.Sink.held g.O.Sink.faults c.args.out.now c.run_feed.new.out in
-    subst (λ (command : Command). IfErr c.run_feed.result (WhyEnded command file out)) (sym c.in-Feed.is) (rw (c.as_slice-in-Feed.ensures, c.as_slice-in-Feed-2.ensures) at c.run_feed.ensures.stopped)
+    subst (λ (command : Command). IfErr c.run_feed.result (WhyEnded command file out)) (sym c.in-Feed.is) (rw (c.as_slice.ensures, c.as_slice-in-Feed.ensures) at c.run_feed.ensures.stopped)
