@@ -3,6 +3,8 @@
 #![tactic(auto)]
 
 #[cfg(test)]
+mod fed;
+#[cfg(test)]
 mod holding;
 #[cfg(test)]
 mod hostile;
