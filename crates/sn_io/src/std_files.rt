@@ -7,7 +7,7 @@ use std::alloc::Global;
 use std::io::{Read, Seek, SeekFrom};
 use std::{fs, rt};
 
-/// The most bytes that one call of the system is asked for.
+/// The most bytes that one call of the system is asked for, and the room that is made for them where no fewer are wanted.
 const CHUNK: usize = 64 * 1024;
 
 /// A file that a part was read of, and the place up to which it was.
@@ -99,10 +99,12 @@ fn read_most<F: Read>(
 }
 
 fn read_opened<F: Read>(alloc: Global, file: &mut F, most: u64) -> Result<Bytes, FilesFault>
+    requires { 0 < most }
     ensures within { IfOk result (λ bytes. length bytes ≤ most) }
     ensures small { result ≢ Err FilesFault.TooLarge }
 {
-    match vec![in alloc; 0u8; CHUNK] {
+    let room = CHUNK.min(most as usize);
+    match vec![in alloc; 0u8; room] {
         Ok(mut chunk) => read_most(alloc, file, chunk.as_mut_slice(), most),
         Err(_) => Err(FilesFault::Memory),
     }
@@ -143,6 +145,7 @@ impl<R: rt::Files> StdFiles<R> {
         from: u64,
         most: u64,
     ) -> Result<Bytes, FilesFault>
+        requires { 0 < most }
         ensures within { IfOk result (λ bytes. length bytes ≤ most) }
         ensures small { result ≢ Err FilesFault.TooLarge }
         ensures faults { self.new.faults ≡ self.old.faults }
