@@ -1,5 +1,5 @@
 -- What one line gives, and what it does to what was read before it.
-use Rattle.std.proofs.Common.{◌≡◌, ◌∙◌, ℕ, ◌<◌, ◌≤◌, false, true, IsTrue, List, [], ◌∷◌, ◌++◌, length, refl, sym, ap, subst, inl, inr, arith}
+use Rattle.std.proofs.Common.{◌≡◌, ◌∙◌, ℕ, ◌<◌, ◌≤◌, false, true, List, length, refl, sym, ap, subst, inl, inr, arith}
 use Rattle.std.specs.Prelude.{Bool, Option, None, Some, Result, Ok, Err, ◌⊎◌, ◌==◌, nat_le}
 use Rattle.std.proofs.lemmas.Bool.{eqb-true}
 use Rattle.std.proofs.lemmas.Bool.Decides.{nat_tests}
@@ -15,12 +15,12 @@ use Rattle.sn_input.specs.declared.input.Input.{Input}
 use Rattle.sn_input.specs.declared.input.InputFault.{InputFault}
 use Rattle.sn_input.specs.declared.input.InputFault.TheVariants as file
 use Rattle.sn_input.specs.declared.input.RecordFault.{RecordFault}
-use Rattle.sn_input.specs.declared.input.RecordFault.TheVariants.{BadLine, Twice, TooManyNames, Memory}
-use Rattle.sn_input.specs.Line.{is_blank_line, SpellsLine}
+use Rattle.sn_input.specs.declared.input.RecordFault.TheVariants.{Twice, TooManyNames, Memory}
+use Rattle.sn_input.specs.Line.{SpellsLine}
 use Rattle.sn_input.specs.Numbered.{with_entries, record_of, repeated}
 use Rattle.sn_input.specs.OneLine.{Found, GivesLine}
 use Rattle.sn_input.specs.Reading.{most_names, most_records, with_record}
-use Rattle.sn_input.specs.Steps.{Adds, EndsWith, GoesOn, HasRoom, IsTwice, LacksRoom, Repeats, SpellsOnly, told}
+use Rattle.sn_input.specs.Steps.{Adds, EndsWith, GoesOn, IsTwice, LacksRoom, Repeats, SpellsOnly, told}
 use Rattle.std.proofs.lemmas.Option.{same_Some}
 use Rattle.sn_input.proofs.Blanks.{blank_spells_none}
 use Rattle.sn_input.proofs.Going.{bad_ends, blank_goes, room_ends, taken_goes, twice_ends}

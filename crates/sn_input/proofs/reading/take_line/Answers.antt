@@ -1,5 +1,4 @@
-use Rattle.std.proofs.Common.{◌≤◌, length, sym, subst, inl, inr, refl, arith}
-use Rattle.std.proofs.lemmas.List.{length_push}
+use Rattle.std.proofs.Common.{sym, subst, inl, inr, refl}
 use Rattle.std.proofs.lemmas.Result.{MatchResult-weaker}
 use Rattle.sn_input.specs.Steps.{EndsWith}
 use Rattle.sn_input.proofs.Going.{on_ok_both}

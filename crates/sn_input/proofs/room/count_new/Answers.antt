@@ -1,6 +1,6 @@
 use Rattle.std.proofs.Common.{◌∙◌, ◌+◌, ap, not, take}
 use Rattle.sn_input.specs.Numbered.{with_entries}
-use Rattle.sn_input.proofs.Rooms.{none_yet, one_known, one_new, with_more}
+use Rattle.sn_input.proofs.Rooms.{one_known, one_new, with_more}
 use Rattle.sn_input.proofs.room.count_new.Goals as goal
 use Rattle.sn_input.proofs.room.count_new.Goals.{then-is_none+in_ok-enter, else-is_none}
 

@@ -3,7 +3,6 @@ use Rattle.std.specs.Prelude.{IfErr}
 use Rattle.sn_words.specs.declared.command.Command.{Command}
 use Rattle.sn_plain.specs.Answer.{WhyEnded}
 use Rattle.sn_plain.specs.Seen.{File, Sink, seen_file, seen_sink}
-use Rattle.sn_words.specs.Command.{IsInRange}
 use Rattle.sn_plain.proofs.serve.work_alone.Goals as goal
 
 pub returns-in-Check-clause-stopped : goal.returns-in-Check-clause-stopped
