@@ -37,6 +37,7 @@ Shows shape.Place given number x = ShowsSource given number x
 Shows shape.PlaceForVariant given number x = ShowsSource given number x
 Shows shape.Line given number x = ShowsInput given number x
 Shows shape.LineAndLabel given number x = ShowsInput given number x
+Shows shape.TraceLine given number x = ⊥
 
 -- it has the line as it came, and shows what the line names
 pub record IsAbout (given : Given) (line : List ℕ) (e : Explanation) : Type 0 where

@@ -37,6 +37,10 @@ words_of kind.LargeTree = codes "limit: TooLarge at "
 words_of kind.Names = codes "limit: Names"
 words_of kind.Variants = codes "limit: Variants at "
 words_of kind.Records = codes "limit: Records at line "
+words_of kind.LongLine = codes "limit: Line "
+words_of kind.BadEvent = codes "trace: BadLine "
+words_of kind.NotEnabled = codes "trace: NotEnabled "
+words_of kind.Unfinished = codes "trace: Unfinished"
 
 abbrev pub shape_of : Kind → Shape
 shape_of kind.Usage = shape.Name
@@ -70,3 +74,7 @@ shape_of kind.LargeTree = shape.Place
 shape_of kind.Names = shape.Nothing
 shape_of kind.Variants = shape.Place
 shape_of kind.Records = shape.Line
+shape_of kind.LongLine = shape.Line
+shape_of kind.BadEvent = shape.TraceLine
+shape_of kind.NotEnabled = shape.TraceLine
+shape_of kind.Unfinished = shape.Nothing

@@ -163,6 +163,7 @@ fn excerpt_of<'a>(
     match refusal.kind.shape() {
         Shape::Nothing => Ok(None),
         Shape::Name => Ok(None),
+        Shape::TraceLine => Ok(None),
         Shape::Place => source_excerpt(alloc, given, refusal.number),
         Shape::PlaceForVariant => source_excerpt(alloc, given, refusal.number),
         Shape::Line => input_excerpt(alloc, given, refusal.number, &[]),
@@ -175,6 +176,7 @@ fn names_place(shape: Shape) -> bool {
     match shape {
         Shape::Nothing => false,
         Shape::Name => false,
+        Shape::TraceLine => false,
         Shape::Place => true,
         Shape::PlaceForVariant => true,
         Shape::Line => true,

@@ -38,6 +38,10 @@ pub enum Kind {
     Names,
     Variants,
     Records,
+    LongLine,
+    BadEvent,
+    NotEnabled,
+    Unfinished,
 }
 
 /// What stands in a line behind the words of its kind.
@@ -52,12 +56,14 @@ pub enum Shape {
     Line,
     /// The number of a line of the input, and a label.
     LineAndLabel,
+    /// The number of a line of a trace, which is not among the files.
+    TraceLine,
     /// A name, or other words.
     Name,
 }
 
 /// All kinds.
-pub static KINDS: [Kind; 31] = [
+pub static KINDS: [Kind; 35] = [
     Kind::Usage,
     Kind::Read,
     Kind::TooLarge,
@@ -89,6 +95,10 @@ pub static KINDS: [Kind; 31] = [
     Kind::Names,
     Kind::Variants,
     Kind::Records,
+    Kind::LongLine,
+    Kind::BadEvent,
+    Kind::NotEnabled,
+    Kind::Unfinished,
 ];
 
 impl Kind {
@@ -128,6 +138,10 @@ impl Kind {
             Kind::Names => b"limit: Names",
             Kind::Variants => b"limit: Variants at ",
             Kind::Records => b"limit: Records at line ",
+            Kind::LongLine => b"limit: Line ",
+            Kind::BadEvent => b"trace: BadLine ",
+            Kind::NotEnabled => b"trace: NotEnabled ",
+            Kind::Unfinished => b"trace: Unfinished",
         }
     }
 
@@ -167,6 +181,10 @@ impl Kind {
             Kind::Names => Shape::Nothing,
             Kind::Variants => Shape::Place,
             Kind::Records => Shape::Line,
+            Kind::LongLine => Shape::Line,
+            Kind::BadEvent => Shape::TraceLine,
+            Kind::NotEnabled => Shape::TraceLine,
+            Kind::Unfinished => Shape::Nothing,
         }
     }
 
@@ -204,6 +222,10 @@ impl Kind {
             Kind::Names => sentences::NAMES,
             Kind::Variants => sentences::VARIANTS,
             Kind::Records => sentences::RECORDS,
+            Kind::LongLine => sentences::LONG_LINE,
+            Kind::BadEvent => sentences::BAD_EVENT,
+            Kind::NotEnabled => sentences::NOT_ENABLED,
+            Kind::Unfinished => sentences::UNFINISHED,
         }
     }
 }

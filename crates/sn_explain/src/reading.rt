@@ -5,7 +5,7 @@ ghost use Rattle.sn_explain.specs.Explanations.{Tells};
 
 use crate::kind::{KINDS, Kind, Shape};
 
-/// What a line of standard error says: its kind, the place in the source or the number of a line of the input, if it has one, and the words
+/// What a line of standard error says: its kind, the place in the source or the number of a line of the input or of a trace, if it has one, and the words
 /// behind it.
 #[derive(Clone, Copy)]
 pub struct Refusal<'a> {
@@ -66,7 +66,7 @@ fn read_rest(kind: Kind, rest: &[u8]) -> Option<Refusal<'_>>
                 detail: rest,
             })
         }
-        Shape::Place | Shape::Line => {
+        Shape::Place | Shape::Line | Shape::TraceLine => {
             let (number, count) = read_number(rest)?;
             if count < rest.len() {
                 return None;

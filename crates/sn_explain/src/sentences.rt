@@ -90,3 +90,15 @@ pub(crate) const VARIANTS: &[u8] =
 
 pub(crate) const RECORDS: &[u8] =
     b"The input has more than 1,048,576 records; this line is the first past them. Split the input into several runs.";
+
+pub(crate) const LONG_LINE: &[u8] =
+    b"This line of an input that is read in pieces has more than 1,048,576 bytes. Write what is long in it as several records.";
+
+pub(crate) const BAD_EVENT: &[u8] =
+    b"The line is none of a trace, or it stands behind the event by which the first fault comes out.";
+
+pub(crate) const NOT_ENABLED: &[u8] =
+    b"The line names an event that cannot happen then. The text is the trace of another run: of another source, input, fuel or depth, or it was changed.";
+
+pub(crate) const UNFINISHED: &[u8] =
+    b"The text ends before the run does. Its end is missing, as where the run that wrote it was broken off.";
