@@ -33,6 +33,17 @@ pub struct Done {
 }
 
 impl Done {
+    /// What a call gave that was made elsewhere, as it was told.
+    pub fn made(run: Arc<Run>, job: Job, items: Items) -> Done
+        requires of_run { IsJobOf run.value job }
+        requires is_answer { IsAnswer run.value job items }
+        ensures run { result.run.value ≡ run.value }
+        ensures job { result.job ≡ job }
+        ensures items { result.items ≡ items }
+    {
+        Done { run, job, items }
+    }
+
     /// The run that it is of.
     pub fn run(&self) -> &Run
         ensures { result.now ≡ self.now.run.value }
@@ -44,6 +55,13 @@ impl Done {
         ensures { result.now ≡ self.now.job }
     {
         &self.job
+    }
+
+    /// What the box answered.
+    pub fn items(&self) -> &Items
+        ensures { result.now ≡ self.now.items }
+    {
+        &self.items
     }
 
     /// The job, and what the box answered.
