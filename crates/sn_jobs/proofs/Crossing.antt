@@ -16,34 +16,35 @@ use Rattle.crossbeam_queue.proofs.array_queue.Slotted.TheSendSync.{the_send, the
 use Rattle.sn_boxrun.proofs.Crossing.{done_send, job_send}
 use Rattle.sn_boxrun.specs.contracts.job.Done as done
 use Rattle.sn_boxrun.specs.contracts.job.Job as job
+use Rattle.sn_model.specs.contracts.run.Run as run
 use Rattle.sn_jobs.specs.contracts.ends.JobHand as hand
 use Rattle.sn_jobs.specs.contracts.ends.JobOwner as owner
 use Rattle.sn_jobs.specs.contracts.ends.Lines as lines
 use Rattle.sn_jobs.specs.contracts.rule.Dones as dones
-use Rattle.sn_jobs.specs.contracts.rule.DonesProtocolDoneKnownDone.TheImpl as done_rule
+use Rattle.sn_jobs.specs.contracts.rule.DonesProtocolDoneKnownRunDone.TheImpl as done_rule
 use Rattle.sn_jobs.specs.contracts.rule.Jobs as jobs
-use Rattle.sn_jobs.specs.contracts.rule.JobsProtocolJobKnownJob.TheImpl as job_rule
-use Rattle.sn_jobs.specs.contracts.rule.Known as known
+use Rattle.sn_jobs.specs.contracts.rule.JobsProtocolJobKnownRunJob.TheImpl as job_rule
+use Rattle.sn_ruled.specs.contracts.rule.Known as known
 
-jobs_send : IsSend (slotted.the_row (option.the_row job.the_row) (doing.the_row job.the_row (known.the_row job.the_row)) (turns.the_row jobs.the_row) global.the_row (rule.ghosts job.the_row (known.the_row job.the_row) jobs.the_row job_rule.ghosts job_rule.dict) ghosts)
+jobs_send : IsSend (slotted.the_row (option.the_row job.the_row) (doing.the_row job.the_row (known.the_row run.the_row job.the_row)) (turns.the_row jobs.the_row) global.the_row (rule.ghosts job.the_row (known.the_row run.the_row job.the_row) jobs.the_row job_rule.ghosts job_rule.dict) ghosts)
 jobs_send =
-    the_send (option.the_row job.the_row) (doing.the_row job.the_row (known.the_row job.the_row)) (turns.the_row jobs.the_row) global.the_row
-    (rule.ghosts job.the_row (known.the_row job.the_row) jobs.the_row job_rule.ghosts job_rule.dict) ghosts (option_crosses.the_send job.the_row job_send) send frees
+    the_send (option.the_row job.the_row) (doing.the_row job.the_row (known.the_row run.the_row job.the_row)) (turns.the_row jobs.the_row) global.the_row
+    (rule.ghosts job.the_row (known.the_row run.the_row job.the_row) jobs.the_row job_rule.ghosts job_rule.dict) ghosts (option_crosses.the_send job.the_row job_send) send frees
 
-jobs_sync : IsSync (slotted.the_row (option.the_row job.the_row) (doing.the_row job.the_row (known.the_row job.the_row)) (turns.the_row jobs.the_row) global.the_row (rule.ghosts job.the_row (known.the_row job.the_row) jobs.the_row job_rule.ghosts job_rule.dict) ghosts)
+jobs_sync : IsSync (slotted.the_row (option.the_row job.the_row) (doing.the_row job.the_row (known.the_row run.the_row job.the_row)) (turns.the_row jobs.the_row) global.the_row (rule.ghosts job.the_row (known.the_row run.the_row job.the_row) jobs.the_row job_rule.ghosts job_rule.dict) ghosts)
 jobs_sync =
-    the_sync (option.the_row job.the_row) (doing.the_row job.the_row (known.the_row job.the_row)) (turns.the_row jobs.the_row) global.the_row
-    (rule.ghosts job.the_row (known.the_row job.the_row) jobs.the_row job_rule.ghosts job_rule.dict) ghosts (option_crosses.the_send job.the_row job_send) send sync frees
+    the_sync (option.the_row job.the_row) (doing.the_row job.the_row (known.the_row run.the_row job.the_row)) (turns.the_row jobs.the_row) global.the_row
+    (rule.ghosts job.the_row (known.the_row run.the_row job.the_row) jobs.the_row job_rule.ghosts job_rule.dict) ghosts (option_crosses.the_send job.the_row job_send) send sync frees
 
-dones_send : IsSend (slotted.the_row (option.the_row done.the_row) (doing.the_row done.the_row (known.the_row done.the_row)) (turns.the_row dones.the_row) global.the_row (rule.ghosts done.the_row (known.the_row done.the_row) dones.the_row done_rule.ghosts done_rule.dict) ghosts)
+dones_send : IsSend (slotted.the_row (option.the_row done.the_row) (doing.the_row done.the_row (known.the_row run.the_row done.the_row)) (turns.the_row dones.the_row) global.the_row (rule.ghosts done.the_row (known.the_row run.the_row done.the_row) dones.the_row done_rule.ghosts done_rule.dict) ghosts)
 dones_send =
-    the_send (option.the_row done.the_row) (doing.the_row done.the_row (known.the_row done.the_row)) (turns.the_row dones.the_row) global.the_row
-    (rule.ghosts done.the_row (known.the_row done.the_row) dones.the_row done_rule.ghosts done_rule.dict) ghosts (option_crosses.the_send done.the_row done_send) send frees
+    the_send (option.the_row done.the_row) (doing.the_row done.the_row (known.the_row run.the_row done.the_row)) (turns.the_row dones.the_row) global.the_row
+    (rule.ghosts done.the_row (known.the_row run.the_row done.the_row) dones.the_row done_rule.ghosts done_rule.dict) ghosts (option_crosses.the_send done.the_row done_send) send frees
 
-dones_sync : IsSync (slotted.the_row (option.the_row done.the_row) (doing.the_row done.the_row (known.the_row done.the_row)) (turns.the_row dones.the_row) global.the_row (rule.ghosts done.the_row (known.the_row done.the_row) dones.the_row done_rule.ghosts done_rule.dict) ghosts)
+dones_sync : IsSync (slotted.the_row (option.the_row done.the_row) (doing.the_row done.the_row (known.the_row run.the_row done.the_row)) (turns.the_row dones.the_row) global.the_row (rule.ghosts done.the_row (known.the_row run.the_row done.the_row) dones.the_row done_rule.ghosts done_rule.dict) ghosts)
 dones_sync =
-    the_sync (option.the_row done.the_row) (doing.the_row done.the_row (known.the_row done.the_row)) (turns.the_row dones.the_row) global.the_row
-    (rule.ghosts done.the_row (known.the_row done.the_row) dones.the_row done_rule.ghosts done_rule.dict) ghosts (option_crosses.the_send done.the_row done_send) send sync frees
+    the_sync (option.the_row done.the_row) (doing.the_row done.the_row (known.the_row run.the_row done.the_row)) (turns.the_row dones.the_row) global.the_row
+    (rule.ghosts done.the_row (known.the_row run.the_row done.the_row) dones.the_row done_rule.ghosts done_rule.dict) ghosts (option_crosses.the_send done.the_row done_send) send sync frees
 
 lines_send : IsSend lines.the_row
 lines_send = declared_send lines.the_type (jobs_send, (dones_send, (search (sendable, crosses), tt)))

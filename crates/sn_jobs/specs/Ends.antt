@@ -7,10 +7,10 @@ use Rattle.sn_model.specs.declared.run.Run.{Run}
 use Rattle.sn_boxrun.specs.declared.job.Done.{Done}
 use Rattle.sn_boxrun.specs.declared.job.Job.{Job}
 use Rattle.sn_jobs.specs.declared.ends.Lines.{Lines}
-use Rattle.sn_jobs.specs.declared.rule.Known.{Known}
-use Rattle.sn_jobs.specs.declared.rule.Role.TheVariants.{Pusher, Popper}
+use Rattle.sn_ruled.specs.declared.rule.Known.{Known}
+use Rattle.sn_ruled.specs.declared.rule.Role.TheVariants.{Pusher, Popper}
 use Rattle.sn_jobs.specs.Queues.{DoneMoment, JobMoment}
-use Rattle.sn_jobs.specs.Rule.{IsLastOf, known}
+use Rattle.sn_ruled.specs.Rule.{IsLastOf, known}
 
 -- of which `make` an end is: the run, how many values each queue has room for, and which two queues they are
 pub record Made : Type 0 where
@@ -78,17 +78,17 @@ made_of lines = record {
   results = lines.results.table.shared.table_id;
 }
 
-abbrev pub HasPasses : Lines → Pass Job (Known Job) → Pass Done (Known Done) → Type 0
+abbrev pub HasPasses : Lines → Pass Job (Known Run Job) → Pass Done (Known Run Done) → Type 0
 HasPasses lines jobs results = IsPassOf lines.jobs jobs × IsPassOf lines.results results × (ruled_capacity lines.results ≡ ruled_capacity lines.jobs)
 
 -- its passes are of these queues, and have its roles
-abbrev pub IsOwnerOf : Lines → Pass Job (Known Job) → Pass Done (Known Done) → Type 0
+abbrev pub IsOwnerOf : Lines → Pass Job (Known Run Job) → Pass Done (Known Run Done) → Type 0
 IsOwnerOf lines jobs results =
     HasPasses lines jobs results
     × (view jobs ≡ known (Pusher lines.run.value) (view jobs).pushed [])
     × (view results ≡ known (Popper lines.run.value) [] (view results).popped)
 
-abbrev pub IsHandOf : Lines → Pass Job (Known Job) → Pass Done (Known Done) → Type 0
+abbrev pub IsHandOf : Lines → Pass Job (Known Run Job) → Pass Done (Known Run Done) → Type 0
 IsHandOf lines jobs results =
     HasPasses lines jobs results
     × (view jobs ≡ known (Popper lines.run.value) [] (view jobs).popped)

@@ -1,4 +1,3 @@
-pub mod Rule
 pub mod Queues
 pub mod Ends
 pub mod Coding

@@ -10,13 +10,12 @@ ghost use Rattle.sn_boxrun.specs.Job.{IsJobOf};
 ghost use Rattle.sn_jobs.specs.Ends.{answers, collects, gives, joined, new_hand, new_owner, takes, WasFullOfAnswers, WasFullOfJobs, WasWithoutAnswers, WasWithoutJobs};
 ghost use Rattle.sn_jobs.specs.Queues.{IsDoneOf};
 
-use crate::rule::{
-    Answers, Collects, DoneLine, Gives, JobLine, Known, Opens, Running, Shares, Takes,
-};
+use crate::rule::{Answers, Collects, DoneLine, Gives, JobLine, Takes};
 use crossbeam_queue::Pass;
 use sn_boxrun::{Done, Job};
 use sn_list::Memory;
 use sn_model::Run;
+use sn_ruled::{Known, Opens, Owned, Shares};
 use std::alloc::Global;
 use std::marker::{Brand, Model};
 use std::snapshot::Snapshot;
@@ -34,8 +33,8 @@ pub struct Lines {
 #[derive(Drop)]
 pub struct JobOwner {
     lines: Arc<Lines>,
-    job_pass: Pass<Job, Known<Job>>,
-    done_pass: Pass<Done, Known<Done>>,
+    job_pass: Pass<Job, Known<Run, Job>>,
+    done_pass: Pass<Done, Known<Run, Done>>,
 }
 
 impl Model for JobOwner {
@@ -56,8 +55,8 @@ impl Model for JobOwner {
 #[derive(Drop)]
 pub struct JobHand {
     lines: Arc<Lines>,
-    job_pass: Pass<Job, Known<Job>>,
-    done_pass: Pass<Done, Known<Done>>,
+    job_pass: Pass<Job, Known<Run, Job>>,
+    done_pass: Pass<Done, Known<Run, Done>>,
 }
 
 impl Model for JobHand {
@@ -164,12 +163,12 @@ impl JobHand {
     }
 }
 
-fn made<J: Running>(
+fn made<J: Owned<Run>>(
     alloc: Global,
     run: &Arc<Run>,
     capacity: u32,
 ) -> Result<(JobOwner, JobHand), Memory>
-    requires run { J.run ≡ Some run.now.value }
+    requires run { J.owner ≡ Some run.now.value }
     requires capacity { 0 < capacity }
     ensures owner { IfOk result (λ ends. ends.0 ≡ new_owner ends.0.made) }
     ensures hand { IfOk result (λ ends. ends.1 ≡ new_hand ends.0.made) }

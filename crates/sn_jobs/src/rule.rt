@@ -1,35 +1,15 @@
 //! The rules of both queues, and what their steps tell. All of it stands in proofs alone: no value of these types is made.
 use crossbeam_queue::RuledArrayQueue;
-use crossbeam_queue::protocol::{Join, Lesson, Outcome, Protocol, Split};
+use crossbeam_queue::protocol::{Lesson, Outcome, Protocol};
 use sn_boxrun::{Done, Job};
 use sn_model::Run;
-use std::collections::LinkedList;
-use std::marker::{Brand, PhantomData};
-
-/// What a pass is for.
-pub enum Role {
-    /// The first pass, until it is split. It knows no run yet.
-    Maker,
-    /// Pushes values of the run.
-    Pusher(Run),
-    /// Pops values of the run.
-    Popper(Run),
-    /// Nothing more: it was given back.
-    GivenBack,
-}
-
-/// What a pass knows: what it is for, and what it pushed and popped so far.
-pub struct Known<T> {
-    pub role: Role,
-    pub pushed: LinkedList<T>,
-    pub popped: LinkedList<T>,
-}
+use sn_ruled::Known;
 
 /// The rule of the queue of jobs, into which one pass pushes.
 pub struct Jobs;
 
-impl Protocol<Job, Known<Job>> for Jobs {
-    ghost use Rattle.sn_jobs.specs.Rule.{maker};
+impl Protocol<Job, Known<Run, Job>> for Jobs {
+    ghost use Rattle.sn_ruled.specs.Rule.{maker};
     ghost use Rattle.sn_jobs.specs.Queues.{JobRule};
 
     ghost holds = { JobRule };
@@ -40,8 +20,8 @@ impl Protocol<Job, Known<Job>> for Jobs {
 /// The rule of the queue of answers, from which one pass pops.
 pub struct Dones;
 
-impl Protocol<Done, Known<Done>> for Dones {
-    ghost use Rattle.sn_jobs.specs.Rule.{maker};
+impl Protocol<Done, Known<Run, Done>> for Dones {
+    ghost use Rattle.sn_ruled.specs.Rule.{maker};
     ghost use Rattle.sn_jobs.specs.Queues.{DoneRule};
 
     ghost holds = { DoneRule };
@@ -49,64 +29,17 @@ impl Protocol<Done, Known<Done>> for Dones {
     ghost first = { maker };
 }
 
-/// Which run it is. Each call that makes the queues picks it.
-pub trait Running {
-    ghost use Rattle.std.specs.Prelude.{Option};
-    ghost use Rattle.sn_model.specs.declared.run.Run.{Run};
-
-    ghost run: { Option Run };
-}
-
-impl Running for Brand {
-    ghost use Rattle.std.specs.Prelude.{None};
-
-    ghost run = { None };
-}
-
-/// The maker's split, at which the run is written into both views.
-pub struct Opens<J> {
-    of: PhantomData<J>,
-}
-
-impl<T, J: Running> Split<Known<T>> for Opens<J> {
-    ghost use Rattle.std.specs.Prelude.{[]};
-    ghost use Rattle.sn_jobs.specs.Rule.{known, pusher_of, popper_of};
-
-    ghost left = { λ v. known (pusher_of J.run) [] [] };
-
-    ghost right = { λ v. known (popper_of J.run) [] [] };
-}
-
-/// A later split makes a pass of the same role that has done nothing yet, and a join takes in what the other did.
-pub struct Shares;
-
-impl<T> Split<Known<T>> for Shares {
-    ghost use Rattle.sn_jobs.specs.Rule.{fresh};
-
-    ghost left = { λ v. v };
-
-    ghost right = { fresh };
-}
-
-impl<T> Join<Known<T>> for Shares {
-    ghost use Rattle.sn_jobs.specs.Rule.{both, given_back};
-
-    ghost both = { both };
-
-    ghost spent = { given_back };
-}
-
 /// A push of a job.
 pub struct Gives;
 
-impl Outcome<Job, Known<Job>> for Gives {
-    ghost use Rattle.sn_jobs.specs.Rule.{Pushed};
+impl Outcome<Job, Known<Run, Job>> for Gives {
+    ghost use Rattle.sn_ruled.specs.Rule.{Pushed};
 
     ghost then = { Pushed };
 }
 
-impl Lesson<Job, Known<Job>> for Gives {
-    ghost use Rattle.sn_jobs.specs.Rule.{IsLastOf};
+impl Lesson<Job, Known<Run, Job>> for Gives {
+    ghost use Rattle.sn_ruled.specs.Rule.{IsLastOf};
 
     ghost fact = { λ v waiting. IsLastOf v.pushed waiting };
 }
@@ -114,14 +47,14 @@ impl Lesson<Job, Known<Job>> for Gives {
 /// A pop of a job.
 pub struct Takes;
 
-impl Outcome<Job, Known<Job>> for Takes {
+impl Outcome<Job, Known<Run, Job>> for Takes {
     ghost use Rattle.sn_boxrun.specs.Job.{IsJobOf};
-    ghost use Rattle.sn_jobs.specs.Rule.{Popped};
+    ghost use Rattle.sn_ruled.specs.Rule.{Popped};
 
     ghost then = { Popped IsJobOf };
 }
 
-impl Lesson<Job, Known<Job>> for Takes {
+impl Lesson<Job, Known<Run, Job>> for Takes {
     ghost use Rattle.sn_jobs.specs.Queues.{JobMoment};
 
     ghost fact = { JobMoment };
@@ -130,13 +63,13 @@ impl Lesson<Job, Known<Job>> for Takes {
 /// A push of an answer.
 pub struct Answers;
 
-impl Outcome<Done, Known<Done>> for Answers {
-    ghost use Rattle.sn_jobs.specs.Rule.{Pushed};
+impl Outcome<Done, Known<Run, Done>> for Answers {
+    ghost use Rattle.sn_ruled.specs.Rule.{Pushed};
 
     ghost then = { Pushed };
 }
 
-impl Lesson<Done, Known<Done>> for Answers {
+impl Lesson<Done, Known<Run, Done>> for Answers {
     ghost use Rattle.sn_jobs.specs.Queues.{DoneMoment};
 
     ghost fact = { DoneMoment };
@@ -145,19 +78,19 @@ impl Lesson<Done, Known<Done>> for Answers {
 /// A pop of an answer.
 pub struct Collects;
 
-impl Outcome<Done, Known<Done>> for Collects {
+impl Outcome<Done, Known<Run, Done>> for Collects {
     ghost use Rattle.sn_jobs.specs.Queues.{IsDoneOf};
-    ghost use Rattle.sn_jobs.specs.Rule.{Popped};
+    ghost use Rattle.sn_ruled.specs.Rule.{Popped};
 
     ghost then = { Popped IsDoneOf };
 }
 
-impl Lesson<Done, Known<Done>> for Collects {
+impl Lesson<Done, Known<Run, Done>> for Collects {
     ghost use Rattle.sn_jobs.specs.Queues.{DoneMoment};
 
     ghost fact = { DoneMoment };
 }
 
-pub type JobLine = RuledArrayQueue<Job, Known<Job>, Jobs>;
+pub type JobLine = RuledArrayQueue<Job, Known<Run, Job>, Jobs>;
 
-pub type DoneLine = RuledArrayQueue<Done, Known<Done>, Dones>;
+pub type DoneLine = RuledArrayQueue<Done, Known<Run, Done>, Dones>;

@@ -1,7 +1,7 @@
 use Rattle.std.proofs.Common.{true, false}
 use Rattle.sn_boxrun.specs.Job.{IsJobOf}
 use Rattle.sn_jobs.specs.Queues.{IsDoneOf}
-use Rattle.sn_jobs.proofs.Agrees.{begins, opens}
+use Rattle.sn_ruled.proofs.Agrees.{begins, opens}
 use Rattle.sn_jobs.proofs.ends.made.Goals as goal
 
 pub ruled-requires-clause-rule : goal.ruled-requires-clause-rule

@@ -2,4 +2,4 @@ use Rattle.std.proofs.Common.{Some}
 use Rattle.sn_jobs.proofs.ends.make.Given as goal
 
 abbrev pub ghosts-made : goal.ghosts-made
-ghosts-made a = record { run = Some a.run.now.value }
+ghosts-made a = record { owner = Some a.run.now.value }

@@ -1,6 +1,6 @@
 use Rattle.std.proofs.Common.{ap, true, false}
 use Rattle.sn_jobs.specs.Queues.{IsDoneOf}
-use Rattle.sn_jobs.proofs.Agrees.{moment, pushes}
+use Rattle.sn_ruled.proofs.Agrees.{moment, pushes}
 use Rattle.sn_jobs.proofs.ends.JobHand.answer.Goals as goal
 
 pub push_as-requires-clause-rule : goal.push_as-requires-clause-rule

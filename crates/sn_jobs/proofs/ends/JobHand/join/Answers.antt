@@ -1,7 +1,7 @@
 use Rattle.std.proofs.Common.{ap, refl, sym, subst, true, false}
 use Rattle.sn_boxrun.specs.Job.{IsJobOf}
 use Rattle.sn_jobs.specs.Queues.{IsDoneOf}
-use Rattle.sn_jobs.proofs.Agrees.{IsShared, joins}
+use Rattle.sn_ruled.proofs.Agrees.{IsShared, joins}
 use Rattle.sn_jobs.proofs.ends.JobHand.join.Goals as goal
 
 pub absorb-requires-clause-rule : goal.absorb-requires-clause-rule

@@ -1,7 +1,7 @@
 use Rattle.std.proofs.Common.{ap, refl, sym, subst, true, false}
 use Rattle.sn_boxrun.specs.Job.{IsJobOf}
 use Rattle.sn_jobs.specs.Queues.{IsDoneOf}
-use Rattle.sn_jobs.proofs.Agrees.{IsShared, shares}
+use Rattle.sn_ruled.proofs.Agrees.{IsShared, shares}
 use Rattle.sn_jobs.proofs.ends.JobHand.split.Goals as goal
 
 pub another-job_pass-requires-clause-rule : goal.another-job_pass-requires-clause-rule

@@ -1,6 +1,6 @@
 use Rattle.std.proofs.Common.{ap, true, false}
 use Rattle.sn_jobs.specs.Queues.{IsDoneOf}
-use Rattle.sn_jobs.proofs.Agrees.{moment, pops}
+use Rattle.sn_ruled.proofs.Agrees.{moment, pops}
 use Rattle.sn_jobs.proofs.ends.JobOwner.collect.Goals as goal
 
 pub pop_as-requires-clause-rule : goal.pop_as-requires-clause-rule

@@ -1,6 +1,6 @@
 use Rattle.std.proofs.Common.{ap, refl, true, false}
 use Rattle.sn_boxrun.specs.Job.{IsJobOf}
-use Rattle.sn_jobs.proofs.Agrees.{last_of, pushes}
+use Rattle.sn_ruled.proofs.Agrees.{last_of, pushes}
 use Rattle.sn_jobs.proofs.ends.JobOwner.give.Goals as goal
 
 pub push_as-requires-clause-rule : goal.push_as-requires-clause-rule

@@ -6,7 +6,7 @@ use mathlib.Core.Option.{some, some-injective, some-ne-none}
 use lib.ListN.{get_elem?}
 use native.Mathlib.Omega.{arith}
 use Rattle.crossbeam_queue.proofs.Lists.{at_set, at_snoc}
-use Rattle.sn_jobs.specs.Rule.{Every}
+use Rattle.sn_ruled.specs.Rule.{Every}
 
 module _ {V : Type 0} where
   -- the fact holds of each, at its place
