@@ -139,11 +139,13 @@ impl Texts {
                 self.put(network.at, exit_text(alloc, *det, exit, guard)?)?;
                 self.add_network(alloc, body.get(), node)
             }
-            NetForm::Split { spread: true, body, .. } => {
-                self.put(network.at, Seq::from_slice(alloc, b"@")?)?;
-                self.add_network(alloc, body.get(), None)
+            NetForm::Split { spread, body, .. } => {
+                if *spread {
+                    self.put(network.at, Seq::from_slice(alloc, b"@")?)?;
+                    return self.add_network(alloc, body.get(), None);
+                }
+                self.add_network(alloc, body.get(), node)
             }
-            NetForm::Split { body, .. } => self.add_network(alloc, body.get(), node),
             NetForm::Placed { body, node } => self.add_network(alloc, body.get(), Some(*node)),
         }
     }
