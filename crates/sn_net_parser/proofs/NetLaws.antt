@@ -1,5 +1,5 @@
 -- What a parser that embeds the parser of networks needs to know of its states.
-use Rattle.std.proofs.Common.{ℕ, List, [], ◌∷◌, ◌≡◌, pos, true, false, refl}
+use Rattle.std.proofs.Common.{ℕ, List, [], ◌∷◌, pos, true, false, refl}
 use Rattle.sn_ast.specs.Kept.{Kept, kept}
 use Rattle.sn_ast.specs.Labels.{IsVariant, variant, no_labels}
 use Rattle.sn_ast.specs.Networks.{bare, filter, final, last, last_pattern, name, sync_at, with_guarded_star, with_place, with_split, with_star}
@@ -8,18 +8,16 @@ use Rattle.sn_ast.specs.TagExprs.{TagExpr, plain, disjunction, no_or, conjunctio
 use Rattle.sn_ast.specs.declared.tag_expr.TForm.TheVariants as tag_form
 use Rattle.sn_ast.specs.declared.label.Variant.{Variant}
 use Rattle.sn_ast.specs.declared.network.NetExpr.{NetExpr}
-use Rattle.sn_ast.specs.declared.terminal.Bracket.TheVariants.{Brace}
 use Rattle.sn_ast.specs.declared.terminal.Symbol.TheVariants.{CloseBrace, CloseBracket, CloseParen, CloseSync, OpenBrace, OpenParen, Semicolon}
-use Rattle.sn_ast.specs.declared.terminal.Keyword.TheVariants.{If}
 use Rattle.sn_ast.specs.declared.terminal.Terminal.{Terminal}
-use Rattle.sn_ast.specs.declared.terminal.Terminal.TheVariants.{Name, Tag, Number, Symbol, Keyword}
+use Rattle.sn_ast.specs.declared.terminal.Terminal.TheVariants.{Name, Tag, Number, Symbol}
 use Rattle.sn_expr_parser.proofs.TagLaws.{no_end as no_end_guard, completable as completes_guard}
 use Rattle.sn_filter_parser.proofs.FilterLaws.{no_end as no_end_filter, completable as completes_filter}
 use Rattle.sn_expr_parser.specs.TagResidual.{read as read_guard}
 use Rattle.sn_expr_parser.specs.declared.tags.TagParser.{TagParser}
 use Rattle.sn_filter_parser.specs.declared.filter.FilterParser.{FilterParser}
 use Rattle.sn_net_parser.specs.Levels.{finished, identity_node, name_node}
-use Rattle.sn_net_parser.specs.Residual.{Up, Down, Next, AfterBracket, InFilter, AfterPattern, NextPattern, InPattern, NextGuard, InGuard, AfterExit, NextExit, InExit, NextTag, NextSpreadTag, NextNode, Completes, CompletesIn, Read, read, variant_at, whole, closed, down, next, closed_bracket, some_filter, in_filter, after_pattern, next_pattern, in_pattern, next_guard, in_guard, unguarded, guarded, next_exit, in_exit, next_tag, next_spread_tag, next_node}
+use Rattle.sn_net_parser.specs.Residual.{Down, Next, AfterBracket, InFilter, AfterPattern, NextPattern, InPattern, NextGuard, InGuard, AfterExit, NextExit, InExit, NextTag, NextSpreadTag, NextNode, Completes, CompletesIn, Read, read, variant_at, whole, closed, down, next, closed_bracket, some_filter, in_filter, after_pattern, next_pattern, in_pattern, next_guard, in_guard, unguarded, next_exit, in_exit, next_tag, next_spread_tag, next_node}
 use Rattle.sn_net_parser.specs.declared.level.Level.{Level}
 use Rattle.sn_net_parser.specs.declared.machine.Around.{Around}
 use Rattle.sn_net_parser.specs.declared.machine.Mode.{Mode}

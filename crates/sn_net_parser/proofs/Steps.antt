@@ -1,10 +1,9 @@
 -- One token at a time: what completes the state before it begins with it, and goes on as what completes the state after it.
-use Rattle.std.proofs.Common.{ℕ, ℤ, pos, Bool, true, false, List, [], ◌∷◌, ◌++◌, ◌≡◌, ◌↔◌, Option, Some, None, refl, sym, ◌∙◌, subst}
+use Rattle.std.specs.Prelude.{int_lt, unsigned_abs, negsuc}
+use Rattle.std.proofs.Common.{ℕ, ℤ, pos, Bool, true, false, List, [], ◌∷◌, ◌≡◌, ◌↔◌, Some, None, refl, sym, ◌∙◌, subst}
 use Rattle.sn_ast.specs.Kept.{Kept, kept}
-use Rattle.sn_ast.specs.Labels.{Labels, IsVariant, variant}
-use Rattle.sn_ast.specs.Networks.{Atom, Filter, filter, MorePatterns, Patterns, Post, Posts, Serial, MoreSerial, Network, MoreBranches, GoesOn, name, identity, filtered, sync, parens, patterns, last_pattern, more_patterns, post, bare, star, guarded_star, split, spread_split, placed, serial, last, dots, network, final, branch, sync_at, with_guarded_star, with_place, with_split, with_star}
-use Rattle.sn_ast.specs.Rows.{append}
-use Rattle.sn_ast.specs.TagExprs.{TagExpr}
+use Rattle.sn_ast.specs.Labels.{variant}
+use Rattle.sn_ast.specs.Networks.{filter, Network, GoesOn, name, identity, filtered, sync, parens, patterns, last_pattern, more_patterns, post, bare, star, guarded_star, split, spread_split, placed, serial, last, dots, network, final, branch, sync_at, with_place, with_split, with_star}
 use Rattle.sn_ast.specs.Terminals.{link_of}
 use Rattle.sn_ast.specs.declared.label.Ident.{Ident}
 use Rattle.sn_ast.specs.declared.label.Variant.{Variant}
@@ -16,7 +15,7 @@ use Rattle.sn_ast.specs.declared.terminal.Symbol.TheVariants.{OpenParen, ClosePa
 use Rattle.sn_ast.specs.declared.terminal.Terminal.{Terminal}
 use Rattle.sn_ast.specs.declared.terminal.Terminal.TheVariants.{Name, Tag, Number, Keyword, Symbol}
 use Rattle.sn_net_parser.specs.Levels.{after_bar, after_dots, finished, fresh, identity_node, name_node}
-use Rattle.sn_net_parser.specs.Residual.{Up, Down, Next, AfterBracket, AfterPattern, NextPattern, NextGuard, AfterExit, NextExit, NextTag, NextSpreadTag, NextNode, Read, read, Ends, semicolon, whole, closed, down, next, closed_bracket, some_filter, after_pattern, next_pattern, next_guard, unguarded, guarded, next_exit, next_tag, next_mark, next_spread_tag, next_node}
+use Rattle.sn_net_parser.specs.Residual.{Down, Next, AfterBracket, AfterPattern, NextPattern, NextGuard, AfterExit, NextExit, NextTag, NextSpreadTag, NextNode, Read, read, Ends, semicolon, whole, closed, down, next, closed_bracket, some_filter, after_pattern, next_pattern, next_guard, unguarded, guarded, next_exit, next_tag, next_mark, next_spread_tag, next_node}
 use Rattle.sn_net_parser.specs.declared.level.Level.{Level}
 use Rattle.sn_net_parser.specs.declared.node.Placing.{Placing}
 use Rattle.sn_net_parser.specs.declared.node.Repeated.{Repeated}
@@ -178,11 +177,13 @@ spread_tag_from (next_spread_tag d) = d
 pub spread_tag_to : {ls : List Level} {l : Level} {w : List Terminal} {t : Read} {r : Repeated} {i : Ident} → Down ls l (with_split kept r.det true r.at r.body i) w t → NextSpreadTag ls l r (Tag i ∷ w) t
 spread_tag_to d = next_spread_tag d
 
-pub node_from : {ls : List Level} {l : Level} {w : List Terminal} {t : Read} {p : Placing} {node at : ℕ} → NextNode ls l p (Number (pos node) at ∷ w) t → Down ls l (with_place kept p.at p.body node) w t
-node_from (next_node d) = d
-
-pub node_to : {ls : List Level} {l : Level} {w : List Terminal} {t : Read} {p : Placing} {node at : ℕ} → Down ls l (with_place kept p.at p.body node) w t → NextNode ls l p (Number (pos node) at ∷ w) t
-node_to d = next_node d
+pub node_here : {ls : List Level} {l : Level} {w : List Terminal} {t : Read} {p : Placing} {at : ℕ} (n : ℤ) (k : ℕ) → k ≡ unsigned_abs n → int_lt n (pos 0) ≡ false →
+    NextNode ls l p (Number n at ∷ w) t ↔ Down ls l (with_place kept p.at p.body k) w t
+node_here {ls} {l} {w} {t} {p} {at} (pos node) k is h = rw is (from, next_node)
+  where
+    from : NextNode ls l p (Number (pos node) at ∷ w) t → Down ls l (with_place kept p.at p.body node) w t
+    from (next_node d) = d
+node_here (negsuc n) k is h = absurd cc
 
 pub guard_if_from : {ls : List Level} {l : Level} {w : List Terminal} {t : Read} {r : Repeated} {v : Variant} {at : ℕ} → AfterExit ls l r v (Keyword If at ∷ w) t → NextGuard ls l r v w t
 guard_if_from (unguarded (down bare last final u)) = elim u [ ]
@@ -300,10 +301,13 @@ pub no_guard : {ls : List Level} {l : Level} {r : Repeated} {v : Variant} {w : L
     NextGuard ls l r v (x ∷ w) t → ⊥
 no_guard x n (next_guard {at} g d) = n at refl
 
-pub no_tag : {ls : List Level} {l : Level} {r : Repeated} {w : List Terminal} {t : Read} (x : Terminal) → ((i : Ident) → x ≡ Tag i → ⊥) → ((o : ℕ) → x ≡ Symbol At o → ⊥) →
+pub no_tag : {ls : List Level} {l : Level} {r : Repeated} {w : List Terminal} {t : Read} (x : Terminal) → ((i : Ident) → x ≡ Tag i → ⊥) → ((s : SomeSymbol) (at : ℕ) → x ≡ Symbol s at → ⊥) →
     NextTag ls l r (x ∷ w) t → ⊥
 no_tag x n m (next_tag {tag = i} d) = n i refl
-no_tag x n m (next_mark {at} d) = m at refl
+no_tag x n m (next_mark {at} d) = m At at refl
+
+pub no_mark : {ls : List Level} {l : Level} {r : Repeated} {w : List Terminal} {t : Read} {at : ℕ} (s : SomeSymbol) → (s ≡ At → ⊥) → NextTag ls l r (Symbol s at ∷ w) t → ⊥
+no_mark s n (next_mark d) = n refl
 
 pub no_spread_tag : {ls : List Level} {l : Level} {r : Repeated} {w : List Terminal} {t : Read} (x : Terminal) → ((i : Ident) → x ≡ Tag i → ⊥) → NextSpreadTag ls l r (x ∷ w) t → ⊥
 no_spread_tag x n (next_spread_tag {tag = i} d) = n i refl

@@ -22,7 +22,6 @@ use Rattle.sn_filter_parser.specs.declared.filter.FilterParser.{FilterParser}
 use Rattle.sn_net_parser.specs.Levels.{identity_node}
 use Rattle.sn_net_parser.specs.declared.level.Level.{Level}
 use Rattle.sn_net_parser.specs.declared.machine.Around.{Around}
-use Rattle.sn_net_parser.specs.declared.node.Cell.{Cell}
 use Rattle.sn_net_parser.specs.declared.machine.Mode.{Mode}
 use Rattle.sn_net_parser.specs.declared.machine.Mode.TheVariants as mode
 use Rattle.sn_net_parser.specs.declared.machine.NetParser.{NetParser}

@@ -221,28 +221,33 @@ fn guarded(
 pub fn index(around: Around, split: Repeated, token: Terminal) -> Result<NetParser, NetStop>
     ensures { StepsIn around (some_mode.Index split) token result }
 {
-    if let Some(_) = token.symbol_at(Symbol::At) {
-        return Ok(NetParser {
+    match token {
+        Terminal::Tag(tag) => Ok(NetParser {
+            around,
+            mode: Mode::Have {
+                part: split.split(false, tag),
+            },
+        }),
+        Terminal::Symbol { symbol, at } => marked(around, split, symbol, at),
+        _ => Err(NetStop::Refused),
+    }
+}
+
+/// Takes a symbol before the tag of a split, which must be the mark that it is spread.
+fn marked(around: Around, split: Repeated, symbol: Symbol, at: u32) -> Result<NetParser, NetStop>
+    ensures { StepsIn around (some_mode.Index split) (some_token.Symbol symbol at) result }
+{
+    match symbol {
+        Symbol::At => Ok(NetParser {
             around,
             mode: Mode::SpreadIndex { split },
-        });
+        }),
+        _ => Err(NetStop::Refused),
     }
-    let Terminal::Tag(tag) = token else {
-        return Err(NetStop::Refused);
-    };
-    let part = split.split(false, tag);
-    Ok(NetParser {
-        around,
-        mode: Mode::Have { part },
-    })
 }
 
 /// Takes the token where the tag of a split that is spread comes next.
-pub fn spread_index(
-    around: Around,
-    split: Repeated,
-    token: Terminal,
-) -> Result<NetParser, NetStop>
+pub fn spread_index(around: Around, split: Repeated, token: Terminal) -> Result<NetParser, NetStop>
     ensures { StepsIn around (some_mode.SpreadIndex split) token result }
 {
     let Terminal::Tag(tag) = token else {
@@ -265,7 +270,7 @@ pub fn node(around: Around, placing: Placing, token: Terminal) -> Result<NetPars
     if value < 0 {
         return Err(NetStop::Refused);
     }
-    let part = placing.on(value.cast_unsigned());
+    let part = placing.on(value.unsigned_abs());
     Ok(NetParser {
         around,
         mode: Mode::Have { part },

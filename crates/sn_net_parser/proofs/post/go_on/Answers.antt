@@ -15,7 +15,7 @@ returns-in_ok-split-in-Some-Split c = λ w t.
     let i = sym c.link.ensures ∙ (c.in-Some-Split.is ∙ ap Some c.in-Some-Split.field-0-is) in
     rw (c.in-Symbol.is, c.in_ok-split-in-Some-Split.ensures) (split_from i, split_to i)
 
-pub returns-in_ok-placing : goal.returns-in_ok-placing
-returns-in_ok-placing c = λ w t.
+pub returns-in_ok-placing-in-Some-Place : goal.returns-in_ok-placing-in-Some-Place
+returns-in_ok-placing-in-Some-Place c = λ w t.
     let i = sym c.link.ensures ∙ (c.in-Some-Place.is ∙ ap Some c.in-Some-Place.field-0-is) in
-    rw (c.in-Symbol.is, c.in_ok-placing.ensures) (place_from i, place_to i)
+    rw (c.in-Symbol.is, c.in_ok-placing-in-Some-Place.ensures) (place_from i, place_to i)
