@@ -1,12 +1,12 @@
 -- A map of parts carries the grammar of networks both ways.
-use Rattle.std.proofs.Common.{ℕ, Bool, List, [], ◌≡◌, Option, Some, None, refl, ◌∙◌, ap}
+use Rattle.std.proofs.Common.{ℕ, Bool, true, false, List, [], ◌≡◌, Option, Some, None, refl, ◌∙◌, ap}
 use Rattle.sn_ast.proofs.Maps.{Map, each_of, join_of, row_of, pair_of, node_of, parens_of}
 use Rattle.sn_ast.proofs.TransferTags.{to_tag_expr, from_tag_expr}
 use Rattle.sn_ast.specs.Measures.{Measuring}
-use Rattle.sn_ast.specs.Networks.{computed_item, arm_of, filter_at, serial_at, choice_at, star_at, split_at, with_star, with_guarded_star, with_split, serial_of, chained, choice_with, branched, GoesOn}
+use Rattle.sn_ast.specs.Networks.{computed_item, arm_of, filter_at, serial_at, choice_at, star_at, split_at, placed_at, with_star, with_guarded_star, with_split, with_place, serial_of, chained, choice_with, branched, GoesOn}
 use Rattle.sn_ast.specs.Networks.{Item, same, renamed, computed, MoreItems, last_item, more_items, Items, no_items, items, Template, template, MoreTemplates, last_template, more_templates, Filter, filter}
 use Rattle.sn_ast.specs.Networks.{ArmTemplates, arm_ends, arm_goes_on, Arm, arm, MoreArms, last_arm, more_arms, Arms, no_arms, arms, LastTemplates, last_templates}
-use Rattle.sn_ast.specs.Networks.{Atom, name, identity, filtered, sync, parens, Post, post, Posts, bare, star, guarded_star, split, Serial, serial, MoreSerial, last, dots, Network, network, MoreBranches, final, branch}
+use Rattle.sn_ast.specs.Networks.{Atom, name, identity, filtered, sync, parens, Post, post, Posts, bare, star, guarded_star, split, spread_split, placed, Serial, serial, MoreSerial, last, dots, Network, network, MoreBranches, final, branch}
 use Rattle.sn_ast.specs.Rows.{no_parts, with_part}
 use Rattle.sn_ast.specs.declared.label.Variant.{Variant}
 use Rattle.sn_ast.specs.declared.network.ArmAt.{ArmAt}
@@ -186,6 +186,8 @@ module _ {F G : Type 0 → Type 0} (m : Measuring F) (n : Measuring G) (h : Map 
     to_posts (star i v d) = star i v (rw (h.of_raise, h.of_each) at (to_posts d))
     to_posts (guarded_star i v g d) = guarded_star i v (to_tag_expr m n h g) (rw (h.of_raise, h.of_join) at (to_posts d))
     to_posts (split i d) = split i (rw (h.of_raise, h.of_each) at (to_posts d))
+    to_posts (spread_split i d) = spread_split i (rw (h.of_raise, h.of_each) at (to_posts d))
+    to_posts (placed i d) = placed i (rw (h.of_raise, h.of_each) at (to_posts d))
 
     to_serial : {e : F NetExpr} {ts us : List Terminal} → Serial m ts e us → Serial n ts (h.map e) us
     to_serial (serial a d) = serial (to_post a) (to_more_serial d)
@@ -226,8 +228,14 @@ module _ {F G : Type 0 → Type 0} (m : Measuring F) (n : Measuring G) (h : Map 
         let r = from_posts d (with_guarded_star m det at p exit g.0) (pair_of m n h (λ b c. star_at det at exit (Some c) b) s g.2) in
         (r.0, guarded_star i v g.1 r.1, r.2)
     from_posts (split {at} {det} {tag} i d) p s =
-        let r = from_posts d (with_split m det at p tag) (node_of m n h (split_at det at tag) s) in
+        let r = from_posts d (with_split m det false at p tag) (node_of m n h (split_at det false at tag) s) in
         (r.0, split i r.1, r.2)
+    from_posts (spread_split {at} {det} {tag} i d) p s =
+        let r = from_posts d (with_split m det true at p tag) (node_of m n h (split_at det true at tag) s) in
+        (r.0, spread_split i r.1, r.2)
+    from_posts (placed {at} {node} i d) p s =
+        let r = from_posts d (with_place m at p node) (node_of m n h (placed_at at node) s) in
+        (r.0, placed i r.1, r.2)
 
     from_serial : {y : G NetExpr} {ts us : List Terminal} → Serial n ts y us → (e : F NetExpr) × Serial m ts e us × (h.map e ≡ y)
     from_serial (serial a d) = let p = from_post a in let r = from_more_serial d None p.0 refl p.2 in (r.0, serial p.1 r.1, r.2)

@@ -1,5 +1,5 @@
 -- The grammar of networks: which tokens spell which of them. In each relation the last list is what follows.
-use Rattle.std.specs.Prelude.{ℕ, Bool, true, false, List, [], ◌∷◌, ◌≡◌, Option, Some, None}
+use Rattle.std.specs.Prelude.{ℕ, pos, Bool, true, false, List, [], ◌∷◌, ◌≡◌, Option, Some, None}
 use Rattle.sn_ast.specs.Labels.{IsVariant}
 use Rattle.sn_ast.specs.Measures.{Measuring}
 use Rattle.sn_ast.specs.Rows.{append, no_parts, with_part}
@@ -16,11 +16,11 @@ use Rattle.sn_ast.specs.declared.network.NetForm.TheVariants as net_form
 use Rattle.sn_ast.specs.declared.network.TemplateAt.{TemplateAt}
 use Rattle.sn_ast.specs.declared.tag_expr.TExpr.{TExpr}
 use Rattle.sn_ast.specs.declared.terminal.Keyword.TheVariants.{If, Else}
-use Rattle.sn_ast.specs.declared.terminal.Link.TheVariants.{Branch as BranchLink, Star as StarLink, Split as SplitLink}
+use Rattle.sn_ast.specs.declared.terminal.Link.TheVariants.{Branch as BranchLink, Star as StarLink, Split as SplitLink, Place as PlaceLink}
 use Rattle.sn_ast.specs.declared.terminal.Symbol.{Symbol as SomeSymbol}
-use Rattle.sn_ast.specs.declared.terminal.Symbol.TheVariants.{OpenParen, CloseParen, OpenBrace, CloseBrace, OpenBracket, CloseBracket, OpenSync, CloseSync, Comma, Semicolon, Assign, Arrow, Dots}
+use Rattle.sn_ast.specs.declared.terminal.Symbol.TheVariants.{OpenParen, CloseParen, OpenBrace, CloseBrace, OpenBracket, CloseBracket, OpenSync, CloseSync, Comma, Semicolon, Assign, Arrow, Dots, At}
 use Rattle.sn_ast.specs.declared.terminal.Terminal.{Terminal}
-use Rattle.sn_ast.specs.declared.terminal.Terminal.TheVariants.{Name, Tag, Keyword, Symbol}
+use Rattle.sn_ast.specs.declared.terminal.Terminal.TheVariants.{Name, Tag, Number, Keyword, Symbol}
 
 -- the items of a template
 abbrev pub same_item : LabelAt → ItemAt
@@ -52,8 +52,11 @@ choice_at det at branches = record { at = at; form = net_form.Choice det branche
 abbrev pub star_at : Bool → ℕ → Variant → Option TExpr → NetExpr → NetExpr
 star_at det at exit guard body = record { at = at; form = net_form.Star det body exit guard }
 
-abbrev pub split_at : Bool → ℕ → Ident → NetExpr → NetExpr
-split_at det at tag body = record { at = at; form = net_form.Split det body tag }
+abbrev pub split_at : Bool → Bool → ℕ → Ident → NetExpr → NetExpr
+split_at det spread at tag body = record { at = at; form = net_form.Split det spread body tag }
+
+abbrev pub placed_at : ℕ → ℕ → NetExpr → NetExpr
+placed_at at node body = record { at = at; form = net_form.Placed body node }
 
 module _ {F : Type 0 → Type 0} (m : Measuring F) where
   abbrev pub with_star : Bool → ℕ → F NetExpr → Variant → F NetExpr
@@ -62,8 +65,11 @@ module _ {F : Type 0 → Type 0} (m : Measuring F) where
   abbrev pub with_guarded_star : Bool → ℕ → F NetExpr → Variant → F TExpr → F NetExpr
   with_guarded_star det at body exit guard = m.raise (m.join (λ b g. star_at det at exit (Some g) b) body guard)
 
-  abbrev pub with_split : Bool → ℕ → F NetExpr → Ident → F NetExpr
-  with_split det at body tag = m.raise (m.each (split_at det at tag) body)
+  abbrev pub with_split : Bool → Bool → ℕ → F NetExpr → Ident → F NetExpr
+  with_split det spread at body tag = m.raise (m.each (split_at det spread at tag) body)
+
+  abbrev pub with_place : ℕ → F NetExpr → ℕ → F NetExpr
+  with_place at body node = m.raise (m.each (placed_at at node) body)
 
   -- the part p after those of a serial list, if there are any; the place of a serial list is that of its first dots
   abbrev pub serial_of : Option (ℕ × F (List NetExpr)) → F NetExpr → F NetExpr
@@ -177,11 +183,11 @@ mutual
     parens : {at close : ℕ} {n : F NetExpr} {ts us : List Terminal} →
         Network m ts n (Symbol CloseParen close ∷ us) → Atom m (Symbol OpenParen at ∷ ts) (m.parens n) us
 
-  -- post = atom { star | split }
+  -- post = atom { star | split | placed }
   pub data Post {F : Type 0 → Type 0} (m : Measuring F) : List Terminal → F NetExpr → List Terminal → Type 0 where
     post : {p q : F NetExpr} {ts us vs : List Terminal} → Atom m ts p us → Posts m p us q vs → Post m ts q vs
 
-  -- star = ( "**" | "*" ) variant [ "if" "(" texpr ")" ], split = ( "!!" | "!" ) TAG
+  -- star = ( "**" | "*" ) variant [ "if" "(" texpr ")" ], split = ( "!!" | "!" ) [ "@" ] TAG, placed = "@" NUMBER
   pub data Posts {F : Type 0 → Type 0} (m : Measuring F) : F NetExpr → List Terminal → F NetExpr → List Terminal → Type 0 where
     bare : {p : F NetExpr} {us : List Terminal} → Posts m p us p us
     star : {at : ℕ} {s : SomeSymbol} {det : Bool} {exit : Variant} {p q : F NetExpr} {ts us vs : List Terminal} →
@@ -192,7 +198,13 @@ mutual
         TagExpr m us g (Symbol CloseParen close ∷ vs) → Posts m (with_guarded_star m det at p exit g) vs q ws →
         Posts m p (Symbol s at ∷ ts) q ws
     split : {at : ℕ} {s : SomeSymbol} {det : Bool} {tag : Ident} {p q : F NetExpr} {us vs : List Terminal} →
-        link_of s ≡ Some (SplitLink det) → Posts m (with_split m det at p tag) us q vs → Posts m p (Symbol s at ∷ Tag tag ∷ us) q vs
+        link_of s ≡ Some (SplitLink det) → Posts m (with_split m det false at p tag) us q vs → Posts m p (Symbol s at ∷ Tag tag ∷ us) q vs
+    spread_split : {at spread_at : ℕ} {s : SomeSymbol} {det : Bool} {tag : Ident} {p q : F NetExpr} {us vs : List Terminal} →
+        link_of s ≡ Some (SplitLink det) → Posts m (with_split m det true at p tag) us q vs →
+        Posts m p (Symbol s at ∷ Symbol At spread_at ∷ Tag tag ∷ us) q vs
+    placed : {at number_at node : ℕ} {s : SomeSymbol} {p q : F NetExpr} {us vs : List Terminal} →
+        link_of s ≡ Some PlaceLink → Posts m (with_place m at p node) us q vs →
+        Posts m p (Symbol s at ∷ Number (pos node) number_at ∷ us) q vs
 
   -- serial = post { ".." post }
   pub data Serial {F : Type 0 → Type 0} (m : Measuring F) : List Terminal → F NetExpr → List Terminal → Type 0 where

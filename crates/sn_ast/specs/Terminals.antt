@@ -7,11 +7,11 @@ use Rattle.sn_ast.specs.declared.terminal.Bracket.TheVariants.{Paren, Brace, Squ
 use Rattle.sn_ast.specs.declared.terminal.Infix.{Infix}
 use Rattle.sn_ast.specs.declared.terminal.Infix.TheVariants.{Product, Sum, Comparison, Conjunction, Disjunction}
 use Rattle.sn_ast.specs.declared.terminal.Link.{Link}
-use Rattle.sn_ast.specs.declared.terminal.Link.TheVariants.{Branch, Star as StarLink, Split}
+use Rattle.sn_ast.specs.declared.terminal.Link.TheVariants.{Branch, Star as StarLink, Split, Place}
 use Rattle.sn_ast.specs.declared.terminal.Sign.{Sign}
 use Rattle.sn_ast.specs.declared.terminal.Sign.TheVariants.{Minus as Negative, Not}
 use Rattle.sn_ast.specs.declared.terminal.Symbol.{Symbol}
-use Rattle.sn_ast.specs.declared.terminal.Symbol.TheVariants.{Equal, NotEqual, Less, LessEqual, Greater, GreaterEqual, Plus, Minus, Star, Slash, Percent, AndAnd, BarBar, Bar, Bang, BangBang, StarStar, CloseParen, CloseBrace, CloseBracket}
+use Rattle.sn_ast.specs.declared.terminal.Symbol.TheVariants.{Equal, NotEqual, Less, LessEqual, Greater, GreaterEqual, Plus, Minus, Star, Slash, Percent, AndAnd, BarBar, Bar, Bang, BangBang, StarStar, At, CloseParen, CloseBrace, CloseBracket}
 use Rattle.sn_ast.specs.declared.terminal.Terminal.{Terminal}
 use Rattle.sn_ast.specs.declared.terminal.Terminal.TheVariants as terminal
 
@@ -46,7 +46,7 @@ sign_of Minus = Some Negative
 sign_of Bang = Some Not
 sign_of symbol = None
 
--- what a symbol is after a part of a network: the doubled one is deterministic
+-- what a symbol is after a part of a network: the doubled one is deterministic, and one places it
 abbrev pub link_of : Symbol → Option Link
 link_of BarBar = Some (Branch true)
 link_of Bar = Some (Branch false)
@@ -54,6 +54,7 @@ link_of StarStar = Some (StarLink true)
 link_of Star = Some (StarLink false)
 link_of BangBang = Some (Split true)
 link_of Bang = Some (Split false)
+link_of At = Some Place
 link_of symbol = None
 
 -- a name is the label of a field, and a tag that of a tag

@@ -3,7 +3,7 @@ use crate::tag_expr::TExpr;
 use sn_list::{Boxed, Seq};
 
 /// A network. Its place is that of the name where it is one, of its opening bracket, of its first `..` or choice
-/// operator, or of the operator of a star or split.
+/// operator, of the operator of a star or split, or of its `@`.
 #[cycle(network)]
 #[derive(Drop)]
 pub struct NetExpr {
@@ -40,8 +40,15 @@ pub enum NetForm {
     },
     Split {
         det: bool,
+        /// Whether the replicas are spread over the logical nodes, each to that of its tag.
+        spread: bool,
         body: Boxed<NetExpr>,
         tag: Ident,
+    },
+    /// A part that runs on a logical node.
+    Placed {
+        body: Boxed<NetExpr>,
+        node: u64,
     },
 }
 

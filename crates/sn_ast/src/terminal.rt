@@ -55,6 +55,7 @@ pub enum Symbol {
     Dots,
     Arrow,
     Question,
+    At,
 }
 
 /// The brackets that labels and arguments stand in.
@@ -82,13 +83,14 @@ pub enum Sign {
     Not,
 }
 
-/// What stands between the branches of a choice, or after a part of a network that is repeated. `det` tells the
-/// deterministic form, which is written with the doubled symbol.
+/// What stands between the branches of a choice, or after a part of a network that is repeated or placed. `det` tells
+/// the deterministic form, which is written with the doubled symbol.
 #[derive(Clone, Copy, PartialEq, Eq)]
 pub enum Link {
     Branch { det: bool },
     Star { det: bool },
     Split { det: bool },
+    Place,
 }
 
 impl Bracket {
@@ -127,7 +129,7 @@ impl Symbol {
         }
     }
 
-    /// What the symbol is after a part of a network, if it chooses or repeats.
+    /// What the symbol is after a part of a network, if it chooses, repeats or places.
     pub fn link(self) -> Option<Link>
         ensures { result ≡ link_of self }
     {
@@ -138,6 +140,7 @@ impl Symbol {
             Symbol::Star => Some(Link::Star { det: false }),
             Symbol::BangBang => Some(Link::Split { det: true }),
             Symbol::Bang => Some(Link::Split { det: false }),
+            Symbol::At => Some(Link::Place),
             _ => None,
         }
     }

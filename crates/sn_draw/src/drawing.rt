@@ -52,6 +52,18 @@ fn placed(places: &Places<'_>, text: Text, between: &[u8], place: u32) -> Result
     Ok(label)
 }
 
+/// A label, and behind it the node on which the part is put, if it is.
+fn on_node(label: Text, node: Option<u64>) -> Result<Text, Memory> {
+    let mut label = label;
+    let Some(node) = node else {
+        return Ok(label);
+    };
+    let mut digits = Buffer::new();
+    label.extend_from_slice(b" on node ")?;
+    label.extend_from_slice(digits.format(node).as_bytes())?;
+    Ok(label)
+}
+
 /// How a merge is drawn, and told.
 fn merge_shape(merge: Merge) -> (Shape, &'static [u8]) {
     match merge {
@@ -160,11 +172,12 @@ impl Drawing<'_> {
         Ok(Ends { entry, exit })
     }
 
-    /// A box, a filter or a cell, by its text.
+    /// A box, a filter or a cell, by its text, with its place and its node.
     fn component(&mut self, shape: Shape, text: &[u8], place: u32) -> Result<Ends, Memory>
         ensures { OnOk result (count_nodes self.new.statements ≡ count_nodes self.old.statements + 1) }
     {
         let label = placed(self.places, wrapped(self.alloc, text)?, b"\nat ", place)?;
+        let label = on_node(label, self.texts.node_at(place))?;
         let number = self.push_node(shape, label)?;
         Ok(Ends {
             entry: number,
@@ -284,7 +297,9 @@ impl Drawing<'_> {
     ) -> Result<Ends, Memory>
         ensures { OnOk result (count_nodes self.new.statements ≡ count_nodes self.old.statements + (2 + drawn body.now)) }
     {
-        let mut text = Seq::from_slice(self.alloc, operator(merge, b"split !! ", b"split ! "))?;
+        let mut text = Seq::from_slice(self.alloc, operator(merge, b"split !!", b"split !"))?;
+        text.extend_from_slice(self.texts.at(place))?;
+        text.extend_from_slice(b" ")?;
         push_label(&mut text, Kind::Tag, self.names.name_or_none(tag))?;
         let label = placed(self.places, text, b" at ", place)?;
         let mut fork = Seq::from_slice(self.alloc, b"by ")?;

@@ -7,12 +7,14 @@ use sn_stack::append;
 use std::alloc::Global;
 use std::collections::BTreeMap;
 
-/// The canonical texts of a source's boxes, in the order of their declarations, and of its filters, synchrocells and what stands behind the
-/// bodies of its stars, by their places.
+/// The canonical texts of a source's boxes, in the order of their declarations, and of its filters, synchrocells, what stands behind the
+/// bodies of its stars and the marks of its spread splits, by their places. Also the logical node of each box, filter and cell that stands in a placed
+/// part of a network, where no inner part is placed elsewhere or spread.
 #[derive(Drop)]
 pub struct Texts {
     boxes: Seq<Text>,
     places: BTreeMap<u32, Text>,
+    nodes: BTreeMap<u32, u64>,
 }
 
 impl Texts {
@@ -21,6 +23,7 @@ impl Texts {
         let mut texts = Texts {
             boxes: Seq::new(alloc),
             places: BTreeMap::new(alloc),
+            nodes: BTreeMap::new(alloc),
         };
         texts.add_all(alloc, program.decls.as_slice())?;
         Ok(texts)
@@ -39,6 +42,25 @@ impl Texts {
         match self.places.get(&place) {
             Some(text) => text.as_slice(),
             None => &[],
+        }
+    }
+
+    /// The logical node on which the part at the place is put, if it is.
+    pub fn node_at(&self, place: u32) -> Option<u64> {
+        match self.nodes.get(&place) {
+            Some(node) => Some(*node),
+            None => None,
+        }
+    }
+
+    /// The part at the place is on the node, if it is put on one.
+    fn put_node(&mut self, place: u32, node: Option<u64>) -> Result<(), Memory> {
+        let Some(node) = node else {
+            return Ok(());
+        };
+        match self.nodes.insert(place, node) {
+            Ok(_) => Ok(()),
+            Err(_) => Err(Memory),
         }
     }
 
@@ -75,27 +97,39 @@ impl Texts {
     #[cycle(declared)]
     fn add_net(&mut self, alloc: Global, declared: &NetDecl) -> Result<(), Memory> {
         self.add_all(alloc, declared.decls.as_slice())?;
-        self.add_network(alloc, &declared.connect)
+        self.add_network(alloc, &declared.connect, None)
     }
 
     #[cycle(networks)]
-    fn add_networks(&mut self, alloc: Global, networks: &[NetExpr]) -> Result<(), Memory> {
+    fn add_networks(
+        &mut self,
+        alloc: Global,
+        networks: &[NetExpr],
+        node: Option<u64>,
+    ) -> Result<(), Memory> {
         for network in networks {
-            self.add_network(alloc, network)?;
+            self.add_network(alloc, network, node)?;
         }
         Ok(())
     }
 
-    /// Adds what a network has, as deep in calls as it is high.
+    /// Adds what a network has that is put on a node, as deep in calls as it is high.
     #[cycle(networks)]
-    fn add_network(&mut self, alloc: Global, network: &NetExpr) -> Result<(), Memory> {
+    fn add_network(
+        &mut self,
+        alloc: Global,
+        network: &NetExpr,
+        node: Option<u64>,
+    ) -> Result<(), Memory> {
         match &network.form {
-            NetForm::Name(_) => Ok(()),
-            NetForm::Identity => self.put(network.at, network_text(alloc, network)?),
-            NetForm::Filter { .. } => self.put(network.at, network_text(alloc, network)?),
-            NetForm::Sync { .. } => self.put(network.at, network_text(alloc, network)?),
-            NetForm::Serial { parts } => self.add_networks(alloc, parts.as_slice()),
-            NetForm::Choice { branches, .. } => self.add_networks(alloc, branches.as_slice()),
+            NetForm::Name(_) => self.put_node(network.at, node),
+            NetForm::Identity => self.add_leaf(alloc, network, node),
+            NetForm::Filter { .. } => self.add_leaf(alloc, network, node),
+            NetForm::Sync { .. } => self.add_leaf(alloc, network, node),
+            NetForm::Serial { parts } => self.add_networks(alloc, parts.as_slice(), node),
+            NetForm::Choice { branches, .. } => {
+                self.add_networks(alloc, branches.as_slice(), node)
+            }
             NetForm::Star {
                 det,
                 body,
@@ -103,9 +137,27 @@ impl Texts {
                 guard,
             } => {
                 self.put(network.at, exit_text(alloc, *det, exit, guard)?)?;
-                self.add_network(alloc, body.get())
+                self.add_network(alloc, body.get(), node)
             }
-            NetForm::Split { body, .. } => self.add_network(alloc, body.get()),
+            NetForm::Split { spread, body, .. } => {
+                if *spread {
+                    self.put(network.at, Seq::from_slice(alloc, b"@")?)?;
+                    return self.add_network(alloc, body.get(), None);
+                }
+                self.add_network(alloc, body.get(), node)
+            }
+            NetForm::Placed { body, node } => self.add_network(alloc, body.get(), Some(*node)),
         }
+    }
+
+    /// Adds a part that has no others.
+    fn add_leaf(
+        &mut self,
+        alloc: Global,
+        network: &NetExpr,
+        node: Option<u64>,
+    ) -> Result<(), Memory> {
+        self.put(network.at, network_text(alloc, network)?)?;
+        self.put_node(network.at, node)
     }
 }

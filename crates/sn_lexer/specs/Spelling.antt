@@ -72,7 +72,7 @@ pub record IsText (word : List ℕ) : Type 0 where
 
 -- each character of this text is a symbol
 abbrev pub lone_symbols : List ℕ
-lone_symbols = codes "(){}[],;:=<>+-*/%|!?"
+lone_symbols = codes "(){}[],;:=<>+-*/%|!?@"
 
 -- and each of these pairs
 abbrev pub paired_symbols : List (List ℕ)

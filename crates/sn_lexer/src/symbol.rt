@@ -5,9 +5,9 @@ ghost use Rattle.sn_lexer.specs.Fronts.{BeginsNoSymbol, IsSymbolUpTo};
 
 use crate::text::split_first;
 
-const LONE: [char; 20] = [
+const LONE: [char; 21] = [
     '(', ')', '{', '}', '[', ']', ',', ';', ':', '=', '<', '>', '+', '-', '*', '/', '%', '|', '!',
-    '?',
+    '?', '@',
 ];
 
 const PAIRS: [(char, char); 12] = [

@@ -1,5 +1,5 @@
 -- The parsers that a network's parser embeds: what completes them goes on as what completes the network.
-use Rattle.std.proofs.Common.{ℕ, List, [], ◌∷◌, ◌++◌, ◌≡◌, ◌↔◌, Result, Ok, Err, refl, sym, ◌∙◌, ap, subst}
+use Rattle.std.proofs.Common.{ℕ, List, [], ◌∷◌, ◌≡◌, ◌↔◌, Result, Ok, Err, refl, sym, ◌∙◌, ap, subst}
 use Rattle.sn_ast.specs.Kept.{Kept, kept}
 use Rattle.sn_ast.specs.Labels.{Labels, variant}
 use Rattle.sn_ast.specs.Networks.{Filter, with_guarded_star}

@@ -1,30 +1,29 @@
 -- What a parser that embeds the parser of networks needs to know of its states.
-use Rattle.std.proofs.Common.{ℕ, List, [], ◌∷◌, ◌≡◌, true, refl}
+use Rattle.std.proofs.Common.{ℕ, List, [], ◌∷◌, pos, true, false, refl}
 use Rattle.sn_ast.specs.Kept.{Kept, kept}
 use Rattle.sn_ast.specs.Labels.{IsVariant, variant, no_labels}
-use Rattle.sn_ast.specs.Networks.{bare, filter, final, last, last_pattern, name, sync_at, with_guarded_star, with_split, with_star}
+use Rattle.sn_ast.specs.Networks.{bare, filter, final, last, last_pattern, name, sync_at, with_guarded_star, with_place, with_split, with_star}
 use Rattle.sn_ast.specs.Rows.{append}
 use Rattle.sn_ast.specs.TagExprs.{TagExpr, plain, disjunction, no_or, conjunction, no_and, no_compare, sum, no_sum, product, no_product, tag}
 use Rattle.sn_ast.specs.declared.tag_expr.TForm.TheVariants as tag_form
 use Rattle.sn_ast.specs.declared.label.Variant.{Variant}
 use Rattle.sn_ast.specs.declared.network.NetExpr.{NetExpr}
-use Rattle.sn_ast.specs.declared.terminal.Bracket.TheVariants.{Brace}
 use Rattle.sn_ast.specs.declared.terminal.Symbol.TheVariants.{CloseBrace, CloseBracket, CloseParen, CloseSync, OpenBrace, OpenParen, Semicolon}
-use Rattle.sn_ast.specs.declared.terminal.Keyword.TheVariants.{If}
 use Rattle.sn_ast.specs.declared.terminal.Terminal.{Terminal}
-use Rattle.sn_ast.specs.declared.terminal.Terminal.TheVariants.{Name, Tag, Symbol, Keyword}
+use Rattle.sn_ast.specs.declared.terminal.Terminal.TheVariants.{Name, Tag, Number, Symbol}
 use Rattle.sn_expr_parser.proofs.TagLaws.{no_end as no_end_guard, completable as completes_guard}
 use Rattle.sn_filter_parser.proofs.FilterLaws.{no_end as no_end_filter, completable as completes_filter}
 use Rattle.sn_expr_parser.specs.TagResidual.{read as read_guard}
 use Rattle.sn_expr_parser.specs.declared.tags.TagParser.{TagParser}
 use Rattle.sn_filter_parser.specs.declared.filter.FilterParser.{FilterParser}
 use Rattle.sn_net_parser.specs.Levels.{finished, identity_node, name_node}
-use Rattle.sn_net_parser.specs.Residual.{Up, Down, Next, AfterBracket, InFilter, AfterPattern, NextPattern, InPattern, NextGuard, InGuard, AfterExit, NextExit, InExit, NextTag, Completes, CompletesIn, Read, read, variant_at, whole, closed, down, next, closed_bracket, some_filter, in_filter, after_pattern, next_pattern, in_pattern, next_guard, in_guard, unguarded, guarded, next_exit, in_exit, next_tag}
+use Rattle.sn_net_parser.specs.Residual.{Down, Next, AfterBracket, InFilter, AfterPattern, NextPattern, InPattern, NextGuard, InGuard, AfterExit, NextExit, InExit, NextTag, NextSpreadTag, NextNode, Completes, CompletesIn, Read, read, variant_at, whole, closed, down, next, closed_bracket, some_filter, in_filter, after_pattern, next_pattern, in_pattern, next_guard, in_guard, unguarded, next_exit, in_exit, next_tag, next_spread_tag, next_node}
 use Rattle.sn_net_parser.specs.declared.level.Level.{Level}
 use Rattle.sn_net_parser.specs.declared.machine.Around.{Around}
 use Rattle.sn_net_parser.specs.declared.machine.Mode.{Mode}
 use Rattle.sn_net_parser.specs.declared.machine.Mode.TheVariants as mode
 use Rattle.sn_net_parser.specs.declared.machine.NetParser.{NetParser}
+use Rattle.sn_net_parser.specs.declared.node.Placing.{Placing}
 use Rattle.sn_net_parser.specs.declared.node.Repeated.{Repeated}
 use Rattle.sn_type_parser.proofs.LabelLaws.{no_end as no_end_labels, completable as completes_labels}
 use Rattle.sn_type_parser.proofs.Witnesses.{a_name}
@@ -72,6 +71,12 @@ no_end_in_guard {s = s} (in_guard close g us c d) = no_end_guard s (read_guard g
 no_end_tag : {ls : List Level} {l : Level} {r : Repeated} {t : Read} → NextTag ls l r [] t → ⊥
 no_end_tag d = elim d [ ]
 
+no_end_spread_tag : {ls : List Level} {l : Level} {r : Repeated} {t : Read} → NextSpreadTag ls l r [] t → ⊥
+no_end_spread_tag d = elim d [ ]
+
+no_end_node : {ls : List Level} {l : Level} {p : Placing} {t : Read} → NextNode ls l p [] t → ⊥
+no_end_node d = elim d [ ]
+
 no_end_in : (a : Around) (m : Mode) (t : Read) → CompletesIn a m [] t → ⊥
 no_end_in a mode.Want t h = no_end_next h
 no_end_in a (mode.Have p) t h = no_end_down h
@@ -86,6 +91,8 @@ no_end_in a (mode.AfterExit star exit) t h = no_end_after_exit h
 no_end_in a (mode.Guard star exit) t h = no_end_next_guard h
 no_end_in a (mode.InGuard star exit guard) t h = no_end_in_guard h
 no_end_in a (mode.Index split) t h = no_end_tag h
+no_end_in a (mode.SpreadIndex split) t h = no_end_spread_tag h
+no_end_in a (mode.Node placing) t h = no_end_node h
 
 pub no_end : (s : NetParser) (t : Read) → Completes s [] t → ⊥
 no_end s t h = no_end_in s.around s.mode t h
@@ -155,7 +162,11 @@ completes_in a (mode.InGuard star exit s) at us =
     let r = completes_down a.outer a.level (with_guarded_star kept star.det star.at star.body exit k.1) at us in
     (k.0, r.0, in_guard 0 k.1 (closers a.outer at us) k.2 r.1)
 completes_in a (mode.Index split) at us =
-    let r = completes_down a.outer a.level (with_split kept split.det split.at split.body a_name) at us in (Tag a_name ∷ closers a.outer at us, r.0, next_tag r.1)
+    let r = completes_down a.outer a.level (with_split kept split.det false split.at split.body a_name) at us in (Tag a_name ∷ closers a.outer at us, r.0, next_tag r.1)
+completes_in a (mode.SpreadIndex split) at us =
+    let r = completes_down a.outer a.level (with_split kept split.det true split.at split.body a_name) at us in (Tag a_name ∷ closers a.outer at us, r.0, next_spread_tag r.1)
+completes_in a (mode.Node placing) at us =
+    let r = completes_down a.outer a.level (with_place kept placing.at placing.body 0) at us in (Number (pos 0) 0 ∷ closers a.outer at us, r.0, next_node r.1)
 
 pub completable : (s : NetParser) (at : ℕ) (us : List Terminal) → (w : List Terminal) × (n : Kept NetExpr) × Completes s w (read n (Symbol Semicolon at ∷ us))
 completable s at us = completes_in s.around s.mode at us

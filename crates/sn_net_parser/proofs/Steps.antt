@@ -1,23 +1,23 @@
 -- One token at a time: what completes the state before it begins with it, and goes on as what completes the state after it.
-use Rattle.std.proofs.Common.{ℕ, Bool, List, [], ◌∷◌, ◌++◌, ◌≡◌, ◌↔◌, Option, Some, None, refl, sym, ◌∙◌, subst}
+use Rattle.std.specs.Prelude.{int_lt, unsigned_abs, negsuc}
+use Rattle.std.proofs.Common.{ℕ, ℤ, pos, Bool, true, false, List, [], ◌∷◌, ◌≡◌, ◌↔◌, Some, None, refl, sym, ◌∙◌, subst}
 use Rattle.sn_ast.specs.Kept.{Kept, kept}
-use Rattle.sn_ast.specs.Labels.{Labels, IsVariant, variant}
-use Rattle.sn_ast.specs.Networks.{Atom, Filter, filter, MorePatterns, Patterns, Post, Posts, Serial, MoreSerial, Network, MoreBranches, GoesOn, name, identity, filtered, sync, parens, patterns, last_pattern, more_patterns, post, bare, star, guarded_star, split, serial, last, dots, network, final, branch, sync_at, with_guarded_star, with_split, with_star}
-use Rattle.sn_ast.specs.Rows.{append}
-use Rattle.sn_ast.specs.TagExprs.{TagExpr}
+use Rattle.sn_ast.specs.Labels.{variant}
+use Rattle.sn_ast.specs.Networks.{filter, Network, GoesOn, name, identity, filtered, sync, parens, patterns, last_pattern, more_patterns, post, bare, star, guarded_star, split, spread_split, placed, serial, last, dots, network, final, branch, sync_at, with_place, with_split, with_star}
 use Rattle.sn_ast.specs.Terminals.{link_of}
 use Rattle.sn_ast.specs.declared.label.Ident.{Ident}
 use Rattle.sn_ast.specs.declared.label.Variant.{Variant}
 use Rattle.sn_ast.specs.declared.network.NetExpr.{NetExpr}
 use Rattle.sn_ast.specs.declared.terminal.Keyword.TheVariants.{If}
-use Rattle.sn_ast.specs.declared.terminal.Link.TheVariants.{Branch as BranchLink, Star as StarLink, Split as SplitLink}
+use Rattle.sn_ast.specs.declared.terminal.Link.TheVariants.{Branch as BranchLink, Star as StarLink, Split as SplitLink, Place as PlaceLink}
 use Rattle.sn_ast.specs.declared.terminal.Symbol.{Symbol as SomeSymbol}
-use Rattle.sn_ast.specs.declared.terminal.Symbol.TheVariants.{OpenParen, CloseParen, OpenBrace, OpenBracket, CloseBracket, OpenSync, CloseSync, Comma, Dots, Semicolon}
+use Rattle.sn_ast.specs.declared.terminal.Symbol.TheVariants.{OpenParen, CloseParen, OpenBrace, OpenBracket, CloseBracket, OpenSync, CloseSync, Comma, Dots, Semicolon, At}
 use Rattle.sn_ast.specs.declared.terminal.Terminal.{Terminal}
-use Rattle.sn_ast.specs.declared.terminal.Terminal.TheVariants.{Name, Tag, Keyword, Symbol}
+use Rattle.sn_ast.specs.declared.terminal.Terminal.TheVariants.{Name, Tag, Number, Keyword, Symbol}
 use Rattle.sn_net_parser.specs.Levels.{after_bar, after_dots, finished, fresh, identity_node, name_node}
-use Rattle.sn_net_parser.specs.Residual.{Up, Down, Next, AfterBracket, AfterPattern, NextPattern, NextGuard, AfterExit, NextExit, NextTag, Read, read, Ends, semicolon, whole, closed, down, next, closed_bracket, some_filter, after_pattern, next_pattern, next_guard, unguarded, guarded, next_exit, next_tag}
+use Rattle.sn_net_parser.specs.Residual.{Down, Next, AfterBracket, AfterPattern, NextPattern, NextGuard, AfterExit, NextExit, NextTag, NextSpreadTag, NextNode, Read, read, Ends, semicolon, whole, closed, down, next, closed_bracket, some_filter, after_pattern, next_pattern, next_guard, unguarded, guarded, next_exit, next_tag, next_mark, next_spread_tag, next_node}
 use Rattle.sn_net_parser.specs.declared.level.Level.{Level}
+use Rattle.sn_net_parser.specs.declared.node.Placing.{Placing}
 use Rattle.sn_net_parser.specs.declared.node.Repeated.{Repeated}
 
 pub name_from : {ls : List Level} {l : Level} {w : List Terminal} {t : Read} {i : Ident} → Next ls l (Name i ∷ w) t → Down ls l (name_node i) w t
@@ -72,6 +72,8 @@ dots_from (down bare last (branch e g q o) u) = absurd cc
 dots_from (down (star e v ps) m o u) = absurd cc
 dots_from (down (guarded_star e v g ps) m o u) = absurd cc
 dots_from (down (split e ps) m o u) = absurd cc
+dots_from (down (spread_split e ps) m o u) = absurd cc
+dots_from (down (placed e ps) m o u) = absurd cc
 
 pub dots_to : {ls : List Level} {l : Level} {w : List Terminal} {t : Read} {p : Kept NetExpr} {at : ℕ} → Next ls (after_dots l at p) w t → Down ls l p (Symbol Dots at ∷ w) t
 dots_to (next a (down ps m o u)) = down bare (dots (post a ps) m) o u
@@ -94,6 +96,8 @@ branch_from i (down bare (dots q m) o u) = absurd cc
 branch_from i (down (star e v ps) m o u) = absurd cc
 branch_from i (down (guarded_star e v g ps) m o u) = absurd cc
 branch_from i (down (split e ps) m o u) = absurd cc
+branch_from i (down (spread_split e ps) m o u) = absurd cc
+branch_from i (down (placed e ps) m o u) = absurd cc
 
 pub branch_to : {ls : List Level} {l : Level} {w : List Terminal} {t : Read} {p : Kept NetExpr} {at : ℕ} {s : SomeSymbol} {det : Bool} →
     link_of s ≡ Some (BranchLink det) → GoesOn l.choice det → Next ls (after_bar l det at p) w t → Down ls l p (Symbol s at ∷ w) t
@@ -107,6 +111,8 @@ pub star_from : {ls : List Level} {l : Level} {w : List Terminal} {t : Read} {p 
 star_from {s} i (down (star e v ps) m o u) = rw (same_star s i e) (next_exit v (unguarded (down ps m o u)))
 star_from {s} i (down (guarded_star e v g ps) m o u) = rw (same_star s i e) (next_exit v (guarded (next_guard g (down ps m o u))))
 star_from i (down (split e ps) m o u) = absurd cc
+star_from i (down (spread_split e ps) m o u) = absurd cc
+star_from i (down (placed e ps) m o u) = absurd cc
 star_from i (down bare last (branch e g q o) u) = absurd cc
 star_from i (down bare last final whole) = absurd cc
 star_from i (down bare last final (closed d)) = absurd cc
@@ -120,6 +126,8 @@ star_to i (next_exit v (guarded (next_guard g (down ps m o u)))) = down (guarded
 pub split_from : {ls : List Level} {l : Level} {w : List Terminal} {t : Read} {p : Kept NetExpr} {at : ℕ} {s : SomeSymbol} {det : Bool} →
     link_of s ≡ Some (SplitLink det) → Down ls l p (Symbol s at ∷ w) t → NextTag ls l (repeated det at p) w t
 split_from {s} i (down (split e ps) m o u) = rw (same_split s i e) (next_tag (down ps m o u))
+split_from {s} i (down (spread_split e ps) m o u) = rw (same_split s i e) (next_mark (next_spread_tag (down ps m o u)))
+split_from i (down (placed e ps) m o u) = absurd cc
 split_from i (down (star e v ps) m o u) = absurd cc
 split_from i (down (guarded_star e v g ps) m o u) = absurd cc
 split_from i (down bare last (branch e g q o) u) = absurd cc
@@ -130,12 +138,52 @@ split_from i (down bare (dots q m) o u) = absurd cc
 pub split_to : {ls : List Level} {l : Level} {w : List Terminal} {t : Read} {p : Kept NetExpr} {at : ℕ} {s : SomeSymbol} {det : Bool} →
     link_of s ≡ Some (SplitLink det) → NextTag ls l (repeated det at p) w t → Down ls l p (Symbol s at ∷ w) t
 split_to i (next_tag (down ps m o u)) = down (split i ps) m o u
+split_to i (next_mark (next_spread_tag (down ps m o u))) = down (spread_split i ps) m o u
 
-pub tag_from : {ls : List Level} {l : Level} {w : List Terminal} {t : Read} {r : Repeated} {i : Ident} → NextTag ls l r (Tag i ∷ w) t → Down ls l (with_split kept r.det r.at r.body i) w t
+abbrev pub placing_at : ℕ → Kept NetExpr → Placing
+placing_at at p = record { at = at; body = p }
+
+pub place_from : {ls : List Level} {l : Level} {w : List Terminal} {t : Read} {p : Kept NetExpr} {at : ℕ} {s : SomeSymbol} →
+    link_of s ≡ Some PlaceLink → Down ls l p (Symbol s at ∷ w) t → NextNode ls l (placing_at at p) w t
+place_from i (down (placed e ps) m o u) = next_node (down ps m o u)
+place_from i (down (split e ps) m o u) = absurd cc
+place_from i (down (spread_split e ps) m o u) = absurd cc
+place_from i (down (star e v ps) m o u) = absurd cc
+place_from i (down (guarded_star e v g ps) m o u) = absurd cc
+place_from i (down bare last (branch e g q o) u) = absurd cc
+place_from i (down bare last final whole) = absurd cc
+place_from i (down bare last final (closed d)) = absurd cc
+place_from i (down bare (dots q m) o u) = absurd cc
+
+pub place_to : {ls : List Level} {l : Level} {w : List Terminal} {t : Read} {p : Kept NetExpr} {at : ℕ} {s : SomeSymbol} →
+    link_of s ≡ Some PlaceLink → NextNode ls l (placing_at at p) w t → Down ls l p (Symbol s at ∷ w) t
+place_to i (next_node (down ps m o u)) = down (placed i ps) m o u
+
+pub tag_from : {ls : List Level} {l : Level} {w : List Terminal} {t : Read} {r : Repeated} {i : Ident} → NextTag ls l r (Tag i ∷ w) t → Down ls l (with_split kept r.det false r.at r.body i) w t
 tag_from (next_tag d) = d
 
-pub tag_to : {ls : List Level} {l : Level} {w : List Terminal} {t : Read} {r : Repeated} {i : Ident} → Down ls l (with_split kept r.det r.at r.body i) w t → NextTag ls l r (Tag i ∷ w) t
+pub tag_to : {ls : List Level} {l : Level} {w : List Terminal} {t : Read} {r : Repeated} {i : Ident} → Down ls l (with_split kept r.det false r.at r.body i) w t → NextTag ls l r (Tag i ∷ w) t
 tag_to d = next_tag d
+
+pub mark_from : {ls : List Level} {l : Level} {w : List Terminal} {t : Read} {r : Repeated} {at : ℕ} → NextTag ls l r (Symbol At at ∷ w) t → NextSpreadTag ls l r w t
+mark_from (next_mark d) = d
+
+pub mark_to : {ls : List Level} {l : Level} {w : List Terminal} {t : Read} {r : Repeated} {at : ℕ} → NextSpreadTag ls l r w t → NextTag ls l r (Symbol At at ∷ w) t
+mark_to d = next_mark d
+
+pub spread_tag_from : {ls : List Level} {l : Level} {w : List Terminal} {t : Read} {r : Repeated} {i : Ident} → NextSpreadTag ls l r (Tag i ∷ w) t → Down ls l (with_split kept r.det true r.at r.body i) w t
+spread_tag_from (next_spread_tag d) = d
+
+pub spread_tag_to : {ls : List Level} {l : Level} {w : List Terminal} {t : Read} {r : Repeated} {i : Ident} → Down ls l (with_split kept r.det true r.at r.body i) w t → NextSpreadTag ls l r (Tag i ∷ w) t
+spread_tag_to d = next_spread_tag d
+
+pub node_here : {ls : List Level} {l : Level} {w : List Terminal} {t : Read} {p : Placing} {at : ℕ} (n : ℤ) (k : ℕ) → k ≡ unsigned_abs n → int_lt n (pos 0) ≡ false →
+    NextNode ls l p (Number n at ∷ w) t ↔ Down ls l (with_place kept p.at p.body k) w t
+node_here {ls} {l} {w} {t} {p} {at} (pos node) k is h = rw is (from, next_node)
+  where
+    from : NextNode ls l p (Number (pos node) at ∷ w) t → Down ls l (with_place kept p.at p.body node) w t
+    from (next_node d) = d
+node_here (negsuc n) k is h = absurd cc
 
 pub guard_if_from : {ls : List Level} {l : Level} {w : List Terminal} {t : Read} {r : Repeated} {v : Variant} {at : ℕ} → AfterExit ls l r v (Keyword If at ∷ w) t → NextGuard ls l r v w t
 guard_if_from (unguarded (down bare last final u)) = elim u [ ]
@@ -159,6 +207,8 @@ close_from (down bare last (branch e g q o) u) = absurd cc
 close_from (down (star e v ps) m o u) = absurd cc
 close_from (down (guarded_star e v g ps) m o u) = absurd cc
 close_from (down (split e ps) m o u) = absurd cc
+close_from (down (spread_split e ps) m o u) = absurd cc
+close_from (down (placed e ps) m o u) = absurd cc
 
 pub close_to : {ls : List Level} {k l : Level} {w : List Terminal} {p : Kept NetExpr} {t : Read} {at : ℕ} → Down ls k (kept.parens (finished l p)) w t → Down (k ∷ ls) l p (Symbol CloseParen at ∷ w) t
 close_to d = down bare last final (closed d)
@@ -169,6 +219,8 @@ end_from (down bare last (branch e g q o) u) = absurd cc
 end_from (down (star e v ps) m o u) = absurd cc
 end_from (down (guarded_star e v g ps) m o u) = absurd cc
 end_from (down (split e ps) m o u) = absurd cc
+end_from (down (spread_split e ps) m o u) = absurd cc
+end_from (down (placed e ps) m o u) = absurd cc
 
 pub end_to : {l : Level} {w : List Terminal} {p : Kept NetExpr} {t : Read} {at : ℕ} → read (finished l p) (Symbol Semicolon at ∷ w) ≡ t → Down [] l p (Symbol Semicolon at ∷ w) t
 end_to {l} {w} {p} {t} {at} e = let P : Read → Type 0 = λ x. Down [] l p (Symbol Semicolon at ∷ w) x in subst P e (down bare last final whole)
@@ -204,6 +256,8 @@ no_have x n (down bare (dots {at} q m) o u) = n Dots at refl
 no_have x n (down (star {at} {s} e v ps) m o u) = n s at refl
 no_have x n (down (guarded_star {at} {s = s} e v g ps) m o u) = n s at refl
 no_have x n (down (split {at} {s} e ps) m o u) = n s at refl
+no_have x n (down (spread_split {at} {s = s} e ps) m o u) = n s at refl
+no_have x n (down (placed {at} {s = s} e ps) m o u) = n s at refl
 
 pub no_link : {ls : List Level} {l : Level} {w : List Terminal} {p : Kept NetExpr} {t : Read} {at : ℕ} (s : SomeSymbol) → link_of s ≡ None →
     (s ≡ Dots → ⊥) → (s ≡ CloseParen → ⊥) → (s ≡ Semicolon → ⊥) → Down ls l p (Symbol s at ∷ w) t → ⊥
@@ -214,6 +268,8 @@ no_link s i n m k (down bare (dots q r) o u) = n refl
 no_link s i n m k (down (star e v ps) r o u) = cc
 no_link s i n m k (down (guarded_star e v g ps) r o u) = cc
 no_link s i n m k (down (split e ps) r o u) = cc
+no_link s i n m k (down (spread_split e ps) r o u) = cc
+no_link s i n m k (down (placed e ps) r o u) = cc
 
 pub no_outer : {l : Level} {w : List Terminal} {p : Kept NetExpr} {t : Read} {at : ℕ} → Down [] l p (Symbol CloseParen at ∷ w) t → ⊥
 no_outer (down bare last final u) = elim u [ ]
@@ -221,6 +277,8 @@ no_outer (down bare last (branch e g q o) u) = absurd cc
 no_outer (down (star e v ps) m o u) = absurd cc
 no_outer (down (guarded_star e v g ps) m o u) = absurd cc
 no_outer (down (split e ps) m o u) = absurd cc
+no_outer (down (spread_split e ps) m o u) = absurd cc
+no_outer (down (placed e ps) m o u) = absurd cc
 
 pub no_inside : {ls : List Level} {k l : Level} {w : List Terminal} {p : Kept NetExpr} {t : Read} {at : ℕ} → Down (k ∷ ls) l p (Symbol Semicolon at ∷ w) t → ⊥
 no_inside (down bare last final u) = elim u [ ]
@@ -228,6 +286,8 @@ no_inside (down bare last (branch e g q o) u) = absurd cc
 no_inside (down (star e v ps) m o u) = absurd cc
 no_inside (down (guarded_star e v g ps) m o u) = absurd cc
 no_inside (down (split e ps) m o u) = absurd cc
+no_inside (down (spread_split e ps) m o u) = absurd cc
+no_inside (down (placed e ps) m o u) = absurd cc
 
 pub no_pattern : {ls : List Level} {l : Level} {at : ℕ} {so_far : List Variant} {w : List Terminal} {t : Read} (x : Terminal) → ((o : ℕ) → x ≡ Symbol OpenBrace o → ⊥) →
     NextPattern ls l at so_far (x ∷ w) t → ⊥
@@ -241,8 +301,19 @@ pub no_guard : {ls : List Level} {l : Level} {r : Repeated} {v : Variant} {w : L
     NextGuard ls l r v (x ∷ w) t → ⊥
 no_guard x n (next_guard {at} g d) = n at refl
 
-pub no_tag : {ls : List Level} {l : Level} {r : Repeated} {w : List Terminal} {t : Read} (x : Terminal) → ((i : Ident) → x ≡ Tag i → ⊥) → NextTag ls l r (x ∷ w) t → ⊥
-no_tag x n (next_tag {tag = i} d) = n i refl
+pub no_tag : {ls : List Level} {l : Level} {r : Repeated} {w : List Terminal} {t : Read} (x : Terminal) → ((i : Ident) → x ≡ Tag i → ⊥) → ((s : SomeSymbol) (at : ℕ) → x ≡ Symbol s at → ⊥) →
+    NextTag ls l r (x ∷ w) t → ⊥
+no_tag x n m (next_tag {tag = i} d) = n i refl
+no_tag x n m (next_mark {at} d) = m At at refl
+
+pub no_mark : {ls : List Level} {l : Level} {r : Repeated} {w : List Terminal} {t : Read} {at : ℕ} (s : SomeSymbol) → (s ≡ At → ⊥) → NextTag ls l r (Symbol s at ∷ w) t → ⊥
+no_mark s n (next_mark d) = n refl
+
+pub no_spread_tag : {ls : List Level} {l : Level} {r : Repeated} {w : List Terminal} {t : Read} (x : Terminal) → ((i : Ident) → x ≡ Tag i → ⊥) → NextSpreadTag ls l r (x ∷ w) t → ⊥
+no_spread_tag x n (next_spread_tag {tag = i} d) = n i refl
+
+pub no_node : {ls : List Level} {l : Level} {p : Placing} {w : List Terminal} {t : Read} (x : Terminal) → ((node at : ℕ) → x ≡ Number (pos node) at → ⊥) → NextNode ls l p (x ∷ w) t → ⊥
+no_node x n (next_node {at} {node} d) = n node at refl
 
 pub no_after : {ls : List Level} {l : Level} {at : ℕ} {so_far : List Variant} {w : List Terminal} {t : Read} (x : Terminal) →
     ((o : ℕ) → x ≡ Symbol Comma o → ⊥) → ((o : ℕ) → x ≡ Symbol CloseSync o → ⊥) → AfterPattern ls l at so_far (x ∷ w) t → ⊥

@@ -1,5 +1,5 @@
 -- What one state takes another takes, where the same completes both from this token on.
-use Rattle.std.proofs.Common.{List, ◌∷◌, ◌≡◌, ◌↔◌, Result, Ok, Err}
+use Rattle.std.proofs.Common.{List, ◌∷◌, ◌↔◌, Result, Ok, Err}
 use Rattle.sn_ast.specs.declared.terminal.Terminal.{Terminal}
 use Rattle.sn_net_parser.specs.Residual.{CompletesIn, StepsIn, Read}
 use Rattle.sn_net_parser.specs.declared.machine.Around.{Around}

@@ -1,8 +1,8 @@
 -- What the open forms of a network still need: which tokens complete it, up to the semicolon that ends it.
-use Rattle.std.specs.Prelude.{ℕ, List, [], ◌∷◌, ◌≡◌, ◌↔◌, Result, Ok, Err}
+use Rattle.std.specs.Prelude.{ℕ, pos, true, false, List, [], ◌∷◌, ◌≡◌, ◌↔◌, Result, Ok, Err}
 use Rattle.sn_ast.specs.Kept.{Kept, kept}
 use Rattle.sn_ast.specs.Labels.{IsVariant}
-use Rattle.sn_ast.specs.Networks.{Atom, Filter, MorePatterns, MoreBranches, MoreSerial, Posts, sync_at, with_guarded_star, with_split, with_star}
+use Rattle.sn_ast.specs.Networks.{Atom, Filter, MorePatterns, MoreBranches, MoreSerial, Posts, sync_at, with_guarded_star, with_place, with_split, with_star}
 use Rattle.sn_ast.specs.Rows.{append}
 use Rattle.sn_ast.specs.TagExprs.{TagExpr}
 use Rattle.sn_ast.specs.declared.label.Ident.{Ident}
@@ -12,9 +12,9 @@ use Rattle.sn_ast.specs.declared.network.NetExpr.{NetExpr}
 use Rattle.sn_ast.specs.declared.tag_expr.TExpr.{TExpr}
 use Rattle.sn_ast.specs.declared.terminal.Keyword.TheVariants.{If}
 use Rattle.sn_ast.specs.declared.terminal.Symbol.{Symbol as SomeSymbol}
-use Rattle.sn_ast.specs.declared.terminal.Symbol.TheVariants.{OpenParen, CloseParen, CloseBracket, Semicolon}
+use Rattle.sn_ast.specs.declared.terminal.Symbol.TheVariants.{OpenParen, CloseParen, CloseBracket, Semicolon, At}
 use Rattle.sn_ast.specs.declared.terminal.Terminal.{Terminal}
-use Rattle.sn_ast.specs.declared.terminal.Terminal.TheVariants.{Tag, Keyword, Symbol}
+use Rattle.sn_ast.specs.declared.terminal.Terminal.TheVariants.{Tag, Number, Keyword, Symbol}
 use Rattle.sn_expr_parser.specs.TagResidual.{Completes as GuardCompletes, read as read_guard}
 use Rattle.sn_expr_parser.specs.declared.tags.TagParser.{TagParser}
 use Rattle.sn_filter_parser.specs.FilterResidual.{Completes as FilterCompletes}
@@ -22,12 +22,12 @@ use Rattle.sn_filter_parser.specs.declared.filter.FilterParser.{FilterParser}
 use Rattle.sn_net_parser.specs.Levels.{identity_node}
 use Rattle.sn_net_parser.specs.declared.level.Level.{Level}
 use Rattle.sn_net_parser.specs.declared.machine.Around.{Around}
-use Rattle.sn_net_parser.specs.declared.node.Cell.{Cell}
 use Rattle.sn_net_parser.specs.declared.machine.Mode.{Mode}
 use Rattle.sn_net_parser.specs.declared.machine.Mode.TheVariants as mode
 use Rattle.sn_net_parser.specs.declared.machine.NetParser.{NetParser}
 use Rattle.sn_net_parser.specs.declared.machine.NetStop.{NetStop}
 use Rattle.sn_net_parser.specs.declared.machine.NetStop.TheVariants.{Memory, Refused, Ended}
+use Rattle.sn_net_parser.specs.declared.node.Placing.{Placing}
 use Rattle.sn_net_parser.specs.declared.node.Repeated.{Repeated}
 use Rattle.sn_type_parser.specs.LabelResidual.{Completes as LabelsComplete}
 use Rattle.sn_type_parser.specs.Reads.{read as read_part}
@@ -125,10 +125,22 @@ pub data InExit : List Level → Level → Repeated → ℕ → LabelParser → 
       (labels : List LabelAt) (us : List Terminal) → LabelsComplete s ts (read_part labels us) →
       AfterExit ls l star (variant_at opening labels) us t → InExit ls l star opening s ts t
 
--- where the tag of a split comes next
+-- where the tag of a split that is spread comes next
+pub data NextSpreadTag : List Level → Level → Repeated → List Terminal → Read → Type 0 where
+  next_spread_tag : {ls : List Level} {l : Level} {split : Repeated} {tag : Ident} {t : Read} {us : List Terminal} →
+      Down ls l (with_split kept split.det true split.at split.body tag) us t → NextSpreadTag ls l split (Tag tag ∷ us) t
+
+-- where the tag of a split comes next, or the mark that it is spread
 pub data NextTag : List Level → Level → Repeated → List Terminal → Read → Type 0 where
   next_tag : {ls : List Level} {l : Level} {split : Repeated} {tag : Ident} {t : Read} {us : List Terminal} →
-      Down ls l (with_split kept split.det split.at split.body tag) us t → NextTag ls l split (Tag tag ∷ us) t
+      Down ls l (with_split kept split.det false split.at split.body tag) us t → NextTag ls l split (Tag tag ∷ us) t
+  next_mark : {at : ℕ} {ls : List Level} {l : Level} {split : Repeated} {t : Read} {us : List Terminal} →
+      NextSpreadTag ls l split us t → NextTag ls l split (Symbol At at ∷ us) t
+
+-- where the number of a placed part's node comes next
+pub data NextNode : List Level → Level → Placing → List Terminal → Read → Type 0 where
+  next_node : {at node : ℕ} {ls : List Level} {l : Level} {placing : Placing} {t : Read} {us : List Terminal} →
+      Down ls l (with_place kept placing.at placing.body node) us t → NextNode ls l placing (Number (pos node) at ∷ us) t
 
 abbrev pub CompletesIn : Around → Mode → List Terminal → Read → Type 0
 CompletesIn a mode.Want w t = Next a.outer a.level w t
@@ -144,6 +156,8 @@ CompletesIn a (mode.AfterExit star exit) w t = AfterExit a.outer a.level star ex
 CompletesIn a (mode.Guard star exit) w t = NextGuard a.outer a.level star exit w t
 CompletesIn a (mode.InGuard star exit guard) w t = InGuard a.outer a.level star exit guard w t
 CompletesIn a (mode.Index split) w t = NextTag a.outer a.level split w t
+CompletesIn a (mode.SpreadIndex split) w t = NextSpreadTag a.outer a.level split w t
+CompletesIn a (mode.Node placing) w t = NextNode a.outer a.level placing w t
 
 abbrev pub Completes : NetParser → List Terminal → Read → Type 0
 Completes s w t = CompletesIn s.around s.mode w t

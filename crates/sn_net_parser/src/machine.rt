@@ -11,7 +11,7 @@ ghost use Rattle.sn_net_parser.specs.Residual.{Completes, Ends, Read, Steps, Ste
 ghost use Rattle.sn_net_parser.specs.declared.machine.Mode.TheVariants as some_mode;
 
 use crate::level::Level;
-use crate::node::{Cell, Repeated};
+use crate::node::{Cell, Placing, Repeated};
 use crate::{atom, post};
 use sn_ast::measure::parens;
 use sn_ast::{Kept, NetExpr, Symbol, Terminal, Variant};
@@ -198,9 +198,17 @@ pub enum Mode {
         exit: Variant,
         guard: TagParser,
     },
-    /// A split's tag.
+    /// A split's tag, or the `@` before it.
     Index {
         split: Repeated,
+    },
+    /// The tag of a split that is spread.
+    SpreadIndex {
+        split: Repeated,
+    },
+    /// The number of a placed part's node.
+    Node {
+        placing: Placing,
     },
 }
 
@@ -263,6 +271,8 @@ impl NetParser {
                 post::in_guard(alloc, around, star, exit, guard, token)
             }
             Mode::Index { split } => post::index(around, split, token),
+            Mode::SpreadIndex { split } => post::spread_index(around, split, token),
+            Mode::Node { placing } => post::node(around, placing, token),
         }
     }
 }

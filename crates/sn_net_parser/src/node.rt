@@ -1,6 +1,6 @@
 ghost use Rattle.std.specs.Prelude.{◌≡◌, IfOk};
 ghost use Rattle.sn_ast.specs.Kept.{kept};
-ghost use Rattle.sn_ast.specs.Networks.{sync_at, with_guarded_star, with_split, with_star};
+ghost use Rattle.sn_ast.specs.Networks.{sync_at, with_guarded_star, with_place, with_split, with_star};
 ghost use Rattle.sn_ast.specs.Rows.{append};
 ghost use Rattle.sn_net_parser.specs.Levels.{choice_node, identity_node, name_node, serial_node};
 
@@ -102,12 +102,51 @@ impl Repeated {
         raise(Some(measure.with(NetExpr { at, form })))
     }
 
-    pub fn split(self, tag: Ident) -> Kept<NetExpr>
-        ensures { result ≡ with_split kept self.det self.at self.body tag }
+    pub fn split(self, spread: bool, tag: Ident) -> Kept<NetExpr>
+        ensures { result ≡ with_split kept self.det spread self.at self.body tag }
     {
         let Repeated { det, at, body } = self;
         let (body, measure) = body?.into_parts();
-        let form = NetForm::Split { det, body, tag };
+        let form = NetForm::Split {
+            det,
+            spread,
+            body,
+            tag,
+        };
+        raise(Some(measure.with(NetExpr { at, form })))
+    }
+}
+
+/// A placed part whose `@` was read, and the network before it, on the heap as a node holds it.
+pub struct Placing {
+    pub at: u32,
+    pub body: Kept<Boxed<NetExpr>>,
+}
+
+/// Written out, so that whoever gives it up calls this, and is not proved over each part of it.
+impl Drop for Placing {
+    fn drop(self) {
+        let Placing {
+            at: _at,
+            body: _body,
+        } = self;
+    }
+}
+
+impl Placing {
+    pub fn new(alloc: Global, at: u32, body: Kept<NetExpr>) -> Result<Placing, Memory>
+        ensures { IfOk result (λ r. r ≡ record { at = at; body = body }) }
+    {
+        let body = boxed(alloc, body)?;
+        Ok(Placing { at, body })
+    }
+
+    pub fn on(self, node: u64) -> Kept<NetExpr>
+        ensures { result ≡ with_place kept self.at self.body node }
+    {
+        let Placing { at, body } = self;
+        let (body, measure) = body?.into_parts();
+        let form = NetForm::Placed { body, node };
         raise(Some(measure.with(NetExpr { at, form })))
     }
 }

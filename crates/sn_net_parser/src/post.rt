@@ -5,7 +5,7 @@ ghost use Rattle.sn_net_parser.specs.Residual.{GuardSteps, StepsIn};
 ghost use Rattle.sn_net_parser.specs.declared.machine.Mode.TheVariants as some_mode;
 
 use crate::machine::{Around, Mode, NetParser, NetStop};
-use crate::node::Repeated;
+use crate::node::{Placing, Repeated};
 use crate::tokens::symbol_at;
 use sn_ast::{Bracket, Kept, Keyword, Link, NetExpr, Symbol, TExpr, Terminal, Variant};
 use sn_expr_parser::{TagParser, TagStop};
@@ -40,11 +40,18 @@ pub fn go_on(
                 mode: Mode::Index { split },
             })
         }
+        Some(Link::Place) => {
+            let placing = Placing::new(alloc, at, part)?;
+            Ok(NetParser {
+                around,
+                mode: Mode::Node { placing },
+            })
+        }
         None => unlinked(alloc, around, part, symbol, at),
     }
 }
 
-/// Takes a symbol that neither chooses nor repeats.
+/// Takes a symbol that neither chooses nor repeats nor places.
 fn unlinked(
     alloc: Global,
     around: Around,
@@ -210,14 +217,60 @@ fn guarded(
     })
 }
 
-/// Takes the token where the tag of a split comes next.
+/// Takes the token where the tag of a split comes next, or the `@` before it.
 pub fn index(around: Around, split: Repeated, token: Terminal) -> Result<NetParser, NetStop>
     ensures { StepsIn around (some_mode.Index split) token result }
+{
+    match token {
+        Terminal::Tag(tag) => Ok(NetParser {
+            around,
+            mode: Mode::Have {
+                part: split.split(false, tag),
+            },
+        }),
+        Terminal::Symbol { symbol, at } => marked(around, split, symbol, at),
+        _ => Err(NetStop::Refused),
+    }
+}
+
+/// Takes a symbol before the tag of a split, which must be the mark that it is spread.
+fn marked(around: Around, split: Repeated, symbol: Symbol, at: u32) -> Result<NetParser, NetStop>
+    ensures { StepsIn around (some_mode.Index split) (some_token.Symbol symbol at) result }
+{
+    match symbol {
+        Symbol::At => Ok(NetParser {
+            around,
+            mode: Mode::SpreadIndex { split },
+        }),
+        _ => Err(NetStop::Refused),
+    }
+}
+
+/// Takes the token where the tag of a split that is spread comes next.
+pub fn spread_index(around: Around, split: Repeated, token: Terminal) -> Result<NetParser, NetStop>
+    ensures { StepsIn around (some_mode.SpreadIndex split) token result }
 {
     let Terminal::Tag(tag) = token else {
         return Err(NetStop::Refused);
     };
-    let part = split.split(tag);
+    let part = split.split(true, tag);
+    Ok(NetParser {
+        around,
+        mode: Mode::Have { part },
+    })
+}
+
+/// Takes the token where the number of a placed part's node comes next.
+pub fn node(around: Around, placing: Placing, token: Terminal) -> Result<NetParser, NetStop>
+    ensures { StepsIn around (some_mode.Node placing) token result }
+{
+    let Terminal::Number { value, .. } = token else {
+        return Err(NetStop::Refused);
+    };
+    if value < 0 {
+        return Err(NetStop::Refused);
+    }
+    let part = placing.on(value.unsigned_abs());
     Ok(NetParser {
         around,
         mode: Mode::Have { part },

@@ -41,6 +41,7 @@ abbrev pub link_rank : Link → ℕ
 link_rank (link.Branch det) = 1
 link_rank (link.Star det) = 3
 link_rank (link.Split det) = 3
+link_rank link.Place = 3
 
 abbrev other_link : SomeSymbol → ℕ
 other_link symbol.Dots = 2

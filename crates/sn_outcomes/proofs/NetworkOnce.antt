@@ -1,8 +1,8 @@
 -- Tokens spell one network, up to what may follow it.
-use Rattle.std.proofs.Common.{◌≡◌, ◌∙◌, ℕ, ◌<◌, Bool, List, [], ◌∷◌, Option, Some, None, refl, sym, ap, subst, arith}
+use Rattle.std.proofs.Common.{◌≡◌, ◌∙◌, ℕ, ◌<◌, Bool, true, false, List, [], ◌∷◌, Option, Some, None, refl, sym, ap, subst, arith}
 use Rattle.sn_ast.specs.Measures.{Measuring}
 use Rattle.sn_ast.specs.Networks.{arm_of, branched, chained, computed_item, filter_at, same_item, sync_at, with_guarded_star, with_split, with_star}
-use Rattle.sn_ast.specs.Networks.{Item, same, renamed, computed, MoreItems, last_item, more_items, Items, no_items, items, Template, template, MoreTemplates, last_template, more_templates, ArmTemplates, arm_ends, arm_goes_on, Arm, arm, MoreArms, last_arm, more_arms, Arms, no_arms, arms, LastTemplates, last_templates, Filter, filter, MorePatterns, last_pattern, more_patterns, Patterns, patterns, Atom, name, identity, filtered, sync, parens, Post, post, Posts, bare, star, guarded_star, split, Serial, serial, MoreSerial, last, dots, Network, network, MoreBranches, final, branch}
+use Rattle.sn_ast.specs.Networks.{Item, same, renamed, computed, MoreItems, last_item, more_items, Items, no_items, items, Template, template, MoreTemplates, last_template, more_templates, ArmTemplates, arm_ends, arm_goes_on, Arm, arm, MoreArms, last_arm, more_arms, Arms, no_arms, arms, LastTemplates, last_templates, Filter, filter, MorePatterns, last_pattern, more_patterns, Patterns, patterns, Atom, name, identity, filtered, sync, parens, Post, post, Posts, bare, star, guarded_star, split, spread_split, placed, Serial, serial, MoreSerial, last, dots, Network, network, MoreBranches, final, branch}
 use Rattle.sn_ast.specs.Rows.{append, no_parts, with_part}
 use Rattle.sn_ast.specs.TagExprs.{TagExpr}
 use Rattle.sn_ast.specs.declared.label.Variant.{Variant}
@@ -164,9 +164,13 @@ module _ {F : Type 0 → Type 0} (m : Measuring F) where
     posts_once bare (star {at} {s} {ts} is v k) p q = let r : net_rank (Symbol s at ∷ ts) ≡ 3 = ap (symbol_link s) is in absurd (omega arith)
     posts_once bare (guarded_star {at} {s = s} {ts} is v g k) p q = let r : net_rank (Symbol s at ∷ ts) ≡ 3 = ap (symbol_link s) is in absurd (omega arith)
     posts_once bare (split {at} {s} {us = ts} is k) p q = let r = ap (symbol_link s) is in absurd (omega arith)
+    posts_once bare (spread_split {s = s} is k) p q = let r = ap (symbol_link s) is in absurd (omega arith)
+    posts_once bare (placed {s = s} is k) p q = let r = ap (symbol_link s) is in absurd (omega arith)
     posts_once (star {at} {s} {ts} is v d) bare p q = let r : net_rank (Symbol s at ∷ ts) ≡ 3 = ap (symbol_link s) is in absurd (omega arith)
     posts_once (guarded_star {at} {s = s} {ts} is v g d) bare p q = let r : net_rank (Symbol s at ∷ ts) ≡ 3 = ap (symbol_link s) is in absurd (omega arith)
     posts_once (split {at} {s} {us = ts} is d) bare p q = let r = ap (symbol_link s) is in absurd (omega arith)
+    posts_once (spread_split {s = s} is d) bare p q = let r = ap (symbol_link s) is in absurd (omega arith)
+    posts_once (placed {s = s} is d) bare p q = let r = ap (symbol_link s) is in absurd (omega arith)
     posts_once {o} {r} {vs} (star {at} {det = det} is v d) (star {det = det'} is' w k) p q =
         let first = variant_once v w in
         let links : Some (link.Star det) ≡ Some (link.Star det') = sym is ∙ is' in
@@ -189,10 +193,23 @@ module _ {F : Type 0 → Type 0} (m : Measuring F) where
     posts_once (split is' k) (star is v d) p q = elim v [ ]
     posts_once (guarded_star is v g d) (split is' k) p q = elim v [ ]
     posts_once (split is' k) (guarded_star is v g d) p q = elim v [ ]
+    posts_once (star is v d) (spread_split is' k) p q = elim v [ ]
+    posts_once (spread_split is' k) (star is v d) p q = elim v [ ]
+    posts_once (guarded_star is v g d) (spread_split is' k) p q = elim v [ ]
+    posts_once (spread_split is' k) (guarded_star is v g d) p q = elim v [ ]
+    posts_once (star is v d) (placed is' k) p q = elim v [ ]
+    posts_once (placed is' k) (star is v d) p q = elim v [ ]
+    posts_once (guarded_star is v g d) (placed is' k) p q = elim v [ ]
+    posts_once (placed is' k) (guarded_star is v g d) p q = elim v [ ]
     posts_once {o} {r} {vs} (split {at} {det = det} {tag = word} {us = ws} is d) (split {det = det'} is' k) p q =
         let links : Some (link.Split det) ≡ Some (link.Split det') = sym is ∙ is' in
         let det_is : det' ≡ det = cc in
-        posts_once d (subst (λ b. Posts m (with_split m b at r word) ws o vs) det_is k) p q
+        posts_once d (subst (λ b. Posts m (with_split m b false at r word) ws o vs) det_is k) p q
+    posts_once {o} {r} {vs} (spread_split {at} {det = det} {tag = word} {us = ws} is d) (spread_split {det = det'} is' k) p q =
+        let links : Some (link.Split det) ≡ Some (link.Split det') = sym is ∙ is' in
+        let det_is : det' ≡ det = cc in
+        posts_once d (subst (λ b. Posts m (with_split m b true at r word) ws o vs) det_is k) p q
+    posts_once (placed is d) (placed is' k) p q = posts_once d k p q
 
     serial_once : {n o : F NetExpr} {ts us vs : List Terminal} → Serial m ts n us → Serial m ts o vs → net_rank us < 2 → net_rank vs < 2 → (n ≡ o) × (us ≡ vs)
     serial_once {o} {vs} (serial a d) (serial b k) p q =

@@ -1,5 +1,6 @@
 -- The texts of networks.
-use Rattle.std.specs.Prelude.{ℕ, List, [], ◌∷◌, ◌++◌, map, codes, Option, Some, None}
+use Rattle.std.specs.Prelude.{ℕ, Bool, List, [], ◌∷◌, ◌++◌, map, codes, Option, Some, None}
+use Rattle.std.specs.Fmt.{decimal}
 use Rattle.std.specs.List.{flat_map}
 use Rattle.sn_ast.specs.declared.network.ArmAt.{ArmAt}
 use Rattle.sn_ast.specs.declared.network.ItemAt.{ItemAt}
@@ -42,6 +43,10 @@ abbrev pub guard_text : Option TExpr → List ℕ
 guard_text None = []
 guard_text (Some e) = codes " if " ++ in_parentheses (tag_text e)
 
+-- the operator of a split, with its mark where the replicas are spread
+abbrev pub split_operator : Bool → Bool → List ℕ
+split_operator det spread = chosen spread (chosen det (codes " !!@ ") (codes " !@ ")) (chosen det (codes " !! ") (codes " ! "))
+
 -- one level of a network
 abbrev pub net_step : NetForm-F Shown Shown → Shown
 net_step (NetForm-F.Name name) = alone name.text
@@ -53,7 +58,8 @@ net_step (NetForm-F.Serial parts) = compound (joined (codes " .. ") (map operand
 net_step (NetForm-F.Choice det branches) = compound (joined (chosen det (codes " || ") (codes " | ")) (map operand branches))
 net_step (NetForm-F.Star det body exit guard) =
     compound (operand body ++ (chosen det (codes " ** ") (codes " * ") ++ (variant_text exit ++ guard_text guard)))
-net_step (NetForm-F.Split det body tag) = compound (operand body ++ (chosen det (codes " !! ") (codes " ! ") ++ in_angles tag.text))
+net_step (NetForm-F.Split det spread body tag) = compound (operand body ++ (split_operator det spread ++ in_angles tag.text))
+net_step (NetForm-F.Placed body node) = compound (operand body ++ (codes "@" ++ decimal node))
 
 abbrev pub net_shown : NetExpr → Shown
 net_shown = fold-NetExpr Shown Shown net_step (λ n. n.form)

@@ -5,7 +5,7 @@ ghost use Rattle.sn_print.specs.Expressions.{arguments, box_shown, box_text, is_
 ghost use Rattle.sn_print.specs.Words.{joined};
 
 use crate::words::{
-    operator_text, push_number, push_quoted, push_separator, push_tag, push_variant_number,
+    operator_text, push_number, push_quoted, push_separator, push_tag, push_unsigned,
 };
 use sn_ast::{BExpr, BForm, Ident, Text};
 use sn_list::Memory;
@@ -47,7 +47,7 @@ fn push_output(text: &mut Text, number: u64) -> Result<(), Memory>
     ensures { OnOk result (text.new ≡ text.old ++ (codes "out " ++ decimal number)) }
 {
     text.extend_from_slice(b"out ")?;
-    push_variant_number(text, number)
+    push_unsigned(text, number)
 }
 
 /// As deep in calls as the expression is high.

@@ -3,12 +3,12 @@ ghost use Rattle.std.specs.Prelude.{◌≡◌, ◌++◌, map, codes, IfOk, OnOk}
 ghost use Rattle.sn_print.specs.Words.{in_parentheses};
 ghost use Rattle.sn_print.specs.Expressions.{is_alone, operand};
 ghost use Rattle.sn_print.specs.Labels.{variant_text};
-ghost use Rattle.sn_print.specs.Networks.{arm_text, arms_text, else_text, guard_text, item_text, net_shown, net_text, source_text, template_text, templates_text};
+ghost use Rattle.sn_print.specs.Networks.{arm_text, arms_text, else_text, guard_text, item_text, net_shown, net_text, source_text, split_operator, template_text, templates_text};
 ghost use Rattle.sn_print.specs.Words.{chosen, joined};
 
 use crate::labels::{push_label, push_variant};
 use crate::tags::push_tag_expr;
-use crate::words::{push_separator, push_tag};
+use crate::words::{push_separator, push_tag, push_unsigned};
 use sn_ast::{ArmAt, ItemAt, ItemSource, NetExpr, NetForm, TExpr, TemplateAt, Text, Variant};
 use sn_list::{Memory, Seq};
 use std::alloc::Global;
@@ -154,6 +154,17 @@ fn operator<'a>(det: bool, doubled: &'a [u8], single: &'a [u8]) -> &'a [u8]
     if det { doubled } else { single }
 }
 
+/// The text of a split's operator, with its mark where the replicas are spread.
+fn split_operator(det: bool, spread: bool) -> &'static [u8]
+    ensures { result.now ≡ split_operator det spread }
+{
+    if spread {
+        operator(det, b" !!@ ", b" !@ ")
+    } else {
+        operator(det, b" !! ", b" ! ")
+    }
+}
+
 /// Whether the network needs no parentheses as a part of another.
 fn stands_alone(n: &NetExpr) -> bool
     ensures { result ≡ is_alone (net_shown n.now).rank }
@@ -194,10 +205,20 @@ pub fn push_network(text: &mut Text, n: &NetExpr) -> Result<(), Memory>
             push_operand(text, body.get())?;
             push_exit(text, operator(*det, b" ** ", b" * "), exit, guard)
         }
-        NetForm::Split { det, body, tag } => {
+        NetForm::Split {
+            det,
+            spread,
+            body,
+            tag,
+        } => {
             push_operand(text, body.get())?;
-            text.extend_from_slice(operator(*det, b" !! ", b" ! "))?;
+            text.extend_from_slice(split_operator(*det, *spread))?;
             push_tag(text, tag.text.as_slice())
+        }
+        NetForm::Placed { body, node } => {
+            push_operand(text, body.get())?;
+            text.extend_from_slice(b"@")?;
+            push_unsigned(text, *node)
         }
     }
 }

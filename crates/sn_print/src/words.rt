@@ -26,8 +26,8 @@ pub fn push_number(text: &mut Text, n: i64) -> Result<(), Memory>
     text.extend_from_slice(buffer.format(n).as_bytes())
 }
 
-/// Appends the number of an output variant.
-pub fn push_variant_number(text: &mut Text, n: u64) -> Result<(), Memory>
+/// Appends a number that has no sign: that of an output variant, or of a node.
+pub fn push_unsigned(text: &mut Text, n: u64) -> Result<(), Memory>
     ensures { OnOk result (text.new ≡ text.old ++ decimal n) }
 {
     let mut digits = Buffer::new();

@@ -1,10 +1,11 @@
 -- Networks read back.
-use Rattle.std.proofs.Common.{◌≡◌, ◌≢◌, ℕ, true, false, Bool, ◌+◌, ◌++◌, List, [], ◌∷◌, map, append-nil, codes, Option, Some, None, refl, sym, ap, ◌∙◌}
+use Rattle.std.proofs.Common.{◌≡◌, ◌≢◌, ◌≤◌, ℕ, true, false, Bool, ◌+◌, ◌++◌, List, [], ◌∷◌, map, append-nil, codes, Option, Some, None, refl, sym, ap, ◌∙◌}
+use Rattle.std.specs.Fmt.{decimal}
 use Rattle.std.specs.List.{flat_map}
 use Rattle.std.proofs.lemmas.Grind.{flat_map-append}
 use Rattle.sn_ast.specs.Labels.{IsVariant}
 use Rattle.sn_ast.specs.Measures.{measured}
-use Rattle.sn_ast.specs.Networks.{same_item, renamed_item, computed_item, arm_of, filter_at, sync_at, serial_at, choice_at, star_at, split_at, with_star, with_guarded_star, with_split, Item, same, renamed, computed, MoreItems, last_item, more_items, Items, no_items, items, Template, template, MoreTemplates, last_template, more_templates, ArmTemplates, arm_ends, arm_goes_on, Arm, arm, MoreArms, last_arm, more_arms, Arms, no_arms, arms as armed, last_templates, filter, MorePatterns, last_pattern, more_patterns, Patterns, patterns, Atom, name as named, identity, filtered, sync, parens, Post, post, Posts, bare, star, guarded_star, split, Serial, serial, MoreSerial, last, dots, Network, network, MoreBranches, final, branch}
+use Rattle.sn_ast.specs.Networks.{same_item, renamed_item, computed_item, arm_of, filter_at, sync_at, serial_at, choice_at, star_at, split_at, placed_at, with_star, with_guarded_star, with_split, with_place, Item, same, renamed, computed, MoreItems, last_item, more_items, Items, no_items, items, Template, template, MoreTemplates, last_template, more_templates, ArmTemplates, arm_ends, arm_goes_on, Arm, arm, MoreArms, last_arm, more_arms, Arms, no_arms, arms as armed, last_templates, filter, MorePatterns, last_pattern, more_patterns, Patterns, patterns, Atom, name as named, identity, filtered, sync, parens, Post, post, Posts, bare, star, guarded_star, split, spread_split, placed, Serial, serial, MoreSerial, last, dots, Network, network, MoreBranches, final, branch}
 use Rattle.sn_ast.specs.Rows.{append, no_parts, with_part}
 use Rattle.sn_ast.specs.TagExprs.{TagExpr}
 use Rattle.sn_ast.specs.Terminals.{link_of}
@@ -23,23 +24,24 @@ use Rattle.sn_ast.specs.declared.network.NetForm.TheVariants as form
 use Rattle.sn_ast.specs.declared.network.TemplateAt.{TemplateAt}
 use Rattle.sn_ast.specs.declared.tag_expr.TExpr.{TExpr}
 use Rattle.sn_ast.specs.declared.terminal.Keyword.TheVariants as keyword
-use Rattle.sn_ast.specs.declared.terminal.Link.TheVariants.{Branch as BranchLink, Star as StarLink, Split as SplitLink}
+use Rattle.sn_ast.specs.declared.terminal.Link.TheVariants.{Branch as BranchLink, Star as StarLink, Split as SplitLink, Place as PlaceLink}
 use Rattle.sn_ast.specs.declared.terminal.Symbol.{Symbol as SomeSymbol}
 use Rattle.sn_ast.specs.declared.terminal.Symbol.TheVariants as symbol
 use Rattle.sn_ast.specs.declared.terminal.Terminal.{Terminal}
 use Rattle.sn_ast.specs.declared.terminal.Terminal.TheVariants.{Keyword, Symbol}
 use Rattle.sn_print.specs.Expressions.{Rank, Alone, Compound, Sequence as SequenceRank, Shown, alone, compound, operand, by_rank}
 use Rattle.sn_print.specs.Labels.{label_text, variant_text}
-use Rattle.sn_print.specs.Networks.{net_shown, net_step, arm_text, else_text, item_text, template_text}
+use Rattle.sn_print.specs.Networks.{net_shown, net_step, arm_text, else_text, item_text, split_operator, template_text}
 use Rattle.sn_print.specs.Words.{chosen, in_angles, in_parentheses, joined}
+use Rattle.sn_terminal.specs.Words.{symbol_word}
 use Rattle.sn_roundtrip.specs.Unplaced.{unplaced_ident, unplaced_variant, unplaced_tag, unplaced_item, unplaced_template, unplaced_arm, unplaced_net, unplaced_net_form, at_no_net_place}
 use Rattle.sn_roundtrip.proofs.Boxes.{spaced_key}
 use Rattle.sn_roundtrip.proofs.Joins.{before, calmly, mildly, wholly}
 use Rattle.sn_roundtrip.proofs.Labels.{IsLabel, one_label, GoodLabel, good_label, GoodVariant, good_variant, SameRow, same_more, same_first}
 use Rattle.sn_roundtrip.proofs.Rereads.{Readable, reread, Shows, Like, like_leaf, like_inside, like_parens, like_loose, like_each, like_raise, like_join, like_row}
 use Rattle.sn_roundtrip.proofs.Rows.{GoodRow, RowOf, not_nil, row_begins, row_goes_on, calm_head}
-use Rattle.sn_roundtrip.proofs.Singles.{gap, keyword_span, symbol_span, tag_span, name_span, spaced_text, spaced}
-use Rattle.sn_roundtrip.proofs.Spans.{HeadAt, Calm, Exactly, Free, Whole}
+use Rattle.sn_roundtrip.proofs.Singles.{gap, keyword_span, number_span, symbol_end, symbol_span, tag_span, name_span, spaced_text, spaced}
+use Rattle.sn_roundtrip.proofs.Spans.{HeadAt, Span, Calm, Exactly, Free, Whole, adjoin}
 use Rattle.sn_roundtrip.proofs.Tags.{GoodTag, good_tag_expr, tag_whole, parens_span}
 use Rattle.sn_roundtrip.specs.Words.{IsIdentifier, IsTagName, AreWords}
 
@@ -74,8 +76,12 @@ module _ {A B : Type 0} (s : NetForm-F A B → A) (t : NetExpr-F A B → B) (at 
   pub fold_star : (det : Bool) (body : NetExpr) (exit : Variant) (guard : Option TExpr) → fold (record { at = at; form = form.Star det body exit guard }) ≡ t (record { at = at; form = s (NetForm-F.Star det (fold body) exit guard) })
   fold_star det body exit guard = of_form (form.Star det body exit guard) (NetForm-F.Star det (fold body) exit guard) (ap (fold-NetForm A B s t) (sym (form.rolls-Star det body exit guard)) ∙ fold-roll-NetForm A B s t (NetForm-F.Star det body exit guard))
 
-  pub fold_split : (det : Bool) (body : NetExpr) (tag : Ident) → fold (record { at = at; form = form.Split det body tag }) ≡ t (record { at = at; form = s (NetForm-F.Split det (fold body) tag) })
-  fold_split det body tag = of_form (form.Split det body tag) (NetForm-F.Split det (fold body) tag) (ap (fold-NetForm A B s t) (sym (form.rolls-Split det body tag)) ∙ fold-roll-NetForm A B s t (NetForm-F.Split det body tag))
+  pub fold_split : (det spread : Bool) (body : NetExpr) (tag : Ident) → fold (record { at = at; form = form.Split det spread body tag }) ≡ t (record { at = at; form = s (NetForm-F.Split det spread (fold body) tag) })
+  fold_split det spread body tag = of_form (form.Split det spread body tag) (NetForm-F.Split det spread (fold body) tag)
+      (ap (fold-NetForm A B s t) (sym (form.rolls-Split det spread body tag)) ∙ fold-roll-NetForm A B s t (NetForm-F.Split det spread body tag))
+
+  pub fold_placed : (body : NetExpr) (node : ℕ) → fold (record { at = at; form = form.Placed body node }) ≡ t (record { at = at; form = s (NetForm-F.Placed (fold body) node) })
+  fold_placed body node = of_form (form.Placed body node) (NetForm-F.Placed (fold body) node) (ap (fold-NetForm A B s t) (sym (form.rolls-Placed body node)) ∙ fold-roll-NetForm A B s t (NetForm-F.Placed body node))
 
 -- items
 abbrev GoodItem : Measured ItemAt → Type 0
@@ -486,24 +492,65 @@ split_link : (det : Bool) → link_of (split_symbol det) ≡ Some (SplitLink det
 split_link true = refl
 split_link false = refl
 
-split_text : (det : Bool) → chosen det (codes " !! ") (codes " ! ") ≡ spaced_text (split_symbol det)
+split_text : (det : Bool) → split_operator det false ≡ spaced_text (split_symbol det)
 split_text true = refl
 split_text false = refl
 
-like_split : (det : Bool) (at other : ℕ) (tag again : Ident) {n again_n : Measured NetExpr} → unplaced_ident again ≡ unplaced_ident tag → Like unplaced_net 0 n again_n →
-    Like unplaced_net 1 (with_split measured det at n tag) (with_split measured det other again_n again)
-like_split det at other tag again is l = like_raise unplaced_net (like_each unplaced_net unplaced_net (λ b. record { at = 0; form = form.Split det b (unplaced_ident tag) }) (split_at det at tag) (split_at det other again)
-    (λ b. fold_split unplaced_net_form at_no_net_place at det b tag)
-    (λ b. fold_split unplaced_net_form at_no_net_place other det b again ∙ ap (λ v. record { at = 0; form = form.Split det (unplaced_net b) v }) is) l)
+-- the operator of a split whose replicas are spread
+abbrev marked_text : Bool → List ℕ
+marked_text det = 32 ∷ (symbol_word (split_symbol det) ++ (symbol_word symbol.At ++ 32 ∷ []))
 
-good_split : (det : Bool) (at : ℕ) {n : Measured NetExpr} (tag : Ident) → GoodNet n → IsTagName tag.text → GoodNet (with_split measured det at n tag)
+spread_text : (det : Bool) → split_operator det true ≡ marked_text det
+spread_text true = refl
+spread_text false = refl
+
+mark_fits : (det : Bool) → adjoin (symbol_end (split_symbol det)) (Exactly 64) ≡ true
+mark_fits true = refl
+mark_fits false = refl
+
+abbrev marked : (det : Bool) → Span (Exactly 32) Free (marked_text det)
+marked det = before (gap 32 refl) (before (symbol_span (split_symbol det)) (before (symbol_span symbol.At) (gap 32 refl) refl) (mark_fits det)) refl
+
+like_split : (det spread : Bool) (at other : ℕ) (tag again : Ident) {n again_n : Measured NetExpr} → unplaced_ident again ≡ unplaced_ident tag → Like unplaced_net 0 n again_n →
+    Like unplaced_net 1 (with_split measured det spread at n tag) (with_split measured det spread other again_n again)
+like_split det spread at other tag again is l = like_raise unplaced_net (like_each unplaced_net unplaced_net (λ b. record { at = 0; form = form.Split det spread b (unplaced_ident tag) })
+    (split_at det spread at tag) (split_at det spread other again)
+    (λ b. fold_split unplaced_net_form at_no_net_place at det spread b tag)
+    (λ b. fold_split unplaced_net_form at_no_net_place other det spread b again ∙ ap (λ v. record { at = 0; form = form.Split det spread (unplaced_net b) v }) is) l)
+
+good_split : (det : Bool) (at : ℕ) {n : Measured NetExpr} (tag : Ident) → GoodNet n → IsTagName tag.text → GoodNet (with_split measured det false at n tag)
 good_split det at {n} tag x w = record {
   shown = compound (operand x.shown ++ (spaced_text (split_symbol det) ++ in_angles tag.text));
-  is = fold_split net_step (λ n. n.form) at det n.value tag ∙ (λ i. compound (operand (x.is i) ++ (split_text det i ++ in_angles tag.text)));
+  is = fold_split net_step (λ n. n.form) at det false n.value tag ∙ (λ i. compound (operand (x.is i) ++ (split_text det i ++ in_angles tag.text)));
   reads = record {
     span = wholly (before (net_operand x).span (before (spaced (split_symbol det)) (tag_span w) refl) refl);
     rereads = λ p. reread _ (λ us. of_posts (((net_operand x).rereads p).reads _) (split (split_link det) bare))
-        (like_split det at _ tag _ refl ((net_operand x).rereads p).good);
+        (like_split det false at _ tag _ refl ((net_operand x).rereads p).good);
+  };
+}
+
+good_spread : (det : Bool) (at : ℕ) {n : Measured NetExpr} (tag : Ident) → GoodNet n → IsTagName tag.text → GoodNet (with_split measured det true at n tag)
+good_spread det at {n} tag x w = record {
+  shown = compound (operand x.shown ++ (marked_text det ++ in_angles tag.text));
+  is = fold_split net_step (λ n. n.form) at det true n.value tag ∙ (λ i. compound (operand (x.is i) ++ (spread_text det i ++ in_angles tag.text)));
+  reads = record {
+    span = wholly (before (net_operand x).span (before (marked det) (tag_span w) refl) refl);
+    rereads = λ p. reread _ (λ us. of_posts (((net_operand x).rereads p).reads _) (spread_split (split_link det) bare))
+        (like_split det true at _ tag _ refl ((net_operand x).rereads p).good);
+  };
+}
+
+like_placed : (at other node : ℕ) {n again_n : Measured NetExpr} → Like unplaced_net 0 n again_n → Like unplaced_net 1 (with_place measured at n node) (with_place measured other again_n node)
+like_placed at other node l = like_raise unplaced_net (like_each unplaced_net unplaced_net (λ b. record { at = 0; form = form.Placed b node }) (placed_at at node) (placed_at other node)
+    (λ b. fold_placed unplaced_net_form at_no_net_place at b node) (λ b. fold_placed unplaced_net_form at_no_net_place other b node) l)
+
+good_placed : (at node : ℕ) {n : Measured NetExpr} → GoodNet n → node ≤ 9223372036854775807 → GoodNet (with_place measured at n node)
+good_placed at node {n} x h = record {
+  shown = compound (operand x.shown ++ (codes "@" ++ decimal node));
+  is = fold_placed net_step (λ n. n.form) at n.value node ∙ ap (λ s. compound (operand s ++ (codes "@" ++ decimal node))) x.is;
+  reads = record {
+    span = before (net_operand x).span (before (symbol_span symbol.At) (number_span node h) refl) refl;
+    rereads = λ p. reread _ (λ us. of_posts (((net_operand x).rereads p).reads _) (placed refl bare)) (like_placed at _ node ((net_operand x).rereads p).good);
   };
 }
 
@@ -670,6 +717,9 @@ mutual
   good_posts (guarded_star {at} {det = det} {exit = exit} i a b d) x w =
       let y = good_variant a w.1 in let z = good_tag_expr b y.1.1.1 in good_posts d (good_guarded det at exit x y.0 z.0) z.1.1
   good_posts (split {at} {det = det} {tag = tag} i d) x w = good_posts d (good_split det at tag x w.1.0) w.1.1
+  good_posts (spread_split {at} {det = det} {tag = tag} i d) x w = good_posts d (good_spread det at tag x w.1.1.0) w.1.1.1
+  good_posts (placed {at} {node = node} i d) x w =
+      let number = w.1.0 in let same : node ≡ number.0 = cc in good_posts d (good_placed at node x (rw (← same) at number.2)) w.1.1
 
   good_serial : {n : Measured NetExpr} {ts us : List Terminal} → Serial measured ts n us → AreWords ts → GoodNet n × AreWords us
   good_serial (serial a d) w = let x = good_post a w in good_serial_one d x.0 x.1

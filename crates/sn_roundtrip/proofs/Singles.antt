@@ -14,7 +14,7 @@ use Rattle.std.proofs.lemmas.Str.{encodes-append, encode_ascii}
 use Rattle.sn_ast.specs.declared.terminal.Keyword.{Keyword}
 use Rattle.sn_ast.specs.declared.terminal.Keyword.TheVariants.{Box, Net, Connect, «Type» as TypeWord, TypeSig, If, Then, Else, Let, In, Out, Fun}
 use Rattle.sn_ast.specs.declared.terminal.Symbol.{Symbol}
-use Rattle.sn_ast.specs.declared.terminal.Symbol.TheVariants.{OpenParen, CloseParen, OpenBrace, CloseBrace, OpenBracket, CloseBracket, OpenSync, CloseSync, Comma, Semicolon, Colon, Assign, Equal, NotEqual, Less, LessEqual, Greater, GreaterEqual, Plus, Minus, Star, Slash, Percent, AndAnd, BarBar, Bar, Bang, BangBang, StarStar, Dots, Arrow, Question}
+use Rattle.sn_ast.specs.declared.terminal.Symbol.TheVariants.{OpenParen, CloseParen, OpenBrace, CloseBrace, OpenBracket, CloseBracket, OpenSync, CloseSync, Comma, Semicolon, Colon, Assign, Equal, NotEqual, Less, LessEqual, Greater, GreaterEqual, Plus, Minus, Star, Slash, Percent, AndAnd, BarBar, Bar, Bang, BangBang, StarStar, Dots, Arrow, Question, At}
 use Rattle.sn_ast.specs.declared.terminal.Terminal.{Terminal}
 use Rattle.sn_ast.specs.declared.terminal.Terminal.TheVariants as terminal
 use Rattle.sn_lexer.specs.Gaps.{is_blank, opens_comment}
@@ -174,6 +174,7 @@ word_symbol StarStar = refl
 word_symbol Dots = refl
 word_symbol Arrow = refl
 word_symbol Question = refl
+word_symbol At = refl
 
 pub word_keyword : (k : Keyword) → is_keyword (keyword_word k) ≡ true
 unfolding is_keyword

@@ -43,7 +43,7 @@ Follows (After a) rest = NoPair a rest × BeginsNoTag (a ∷ rest) × (opens_com
 
 -- a blank, or a mark that stands in no name
 abbrev pub parts_names : ℕ → Bool
-parts_names c = is_blank c || list_any (λ d. d == c) (33 ∷ 34 ∷ 40 ∷ 41 ∷ 44 ∷ 59 ∷ 61 ∷ 91 ∷ 93 ∷ 123 ∷ 124 ∷ 125 ∷ [])
+parts_names c = is_blank c || list_any (λ d. d == c) (33 ∷ 34 ∷ 40 ∷ 41 ∷ 44 ∷ 59 ∷ 61 ∷ 64 ∷ 91 ∷ 93 ∷ 123 ∷ 124 ∷ 125 ∷ [])
 
 -- the symbols of two characters, as a test that computes
 abbrev pub is_pair : ℕ → ℕ → Bool

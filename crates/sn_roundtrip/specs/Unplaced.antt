@@ -118,7 +118,8 @@ unplaced_net_form (NetForm-F.Sync patterns) = net_form.Sync (map unplaced_varian
 unplaced_net_form (NetForm-F.Serial parts) = net_form.Serial parts
 unplaced_net_form (NetForm-F.Choice det branches) = net_form.Choice det branches
 unplaced_net_form (NetForm-F.Star det body exit guard) = net_form.Star det body (unplaced_variant exit) (option_map unplaced_tag guard)
-unplaced_net_form (NetForm-F.Split det body tag) = net_form.Split det body (unplaced_ident tag)
+unplaced_net_form (NetForm-F.Split det spread body tag) = net_form.Split det spread body (unplaced_ident tag)
+unplaced_net_form (NetForm-F.Placed body node) = net_form.Placed body node
 
 abbrev pub at_no_net_place : NetExpr-F NetForm NetExpr → NetExpr
 at_no_net_place n = record { at = 0; form = n.form }

@@ -138,7 +138,7 @@ star_stands =
 
 split_stands : Stands step_split (Made split_component)
 split_stands =
-    net_folds.fold_split (network_step the_names inner_scopes) (λ n. n.form n.at) 190 true step_star (named (codes "k") 193)
+    net_folds.fold_split (network_step the_names inner_scopes) (λ n. n.form n.at) 190 true false step_star (named (codes "k") 193)
     ∙ ap (λ body. Made (component.Split 190 Det body 2)) star_stands
 
 main_stands : Stands main_network (Made main_component)
@@ -200,7 +200,7 @@ star_passes least =
 
 split_passes : CheckPasses step_split
 split_passes least =
-    ap (λ check. check least) (net_folds.fold_split (required_step the_names inner_scopes) (λ n. n.form n.at) 190 true step_star (named (codes "k") 193)) ∙ star_passes least
+    ap (λ check. check least) (net_folds.fold_split (required_step the_names inner_scopes) (λ n. n.form n.at) 190 true false step_star (named (codes "k") 193)) ∙ star_passes least
 
 network_passes : CheckPasses main_network
 network_passes least =

@@ -61,7 +61,7 @@ star_leaves =
 
 split_leaves : Leaves (after_network step_split)
 split_leaves =
-    ap (λ entry. entry the_names) (net_folds.fold_split network_step (λ n. n.form) 190 true step_star (named (codes "k") 193))
+    ap (λ entry. entry the_names) (net_folds.fold_split network_step (λ n. n.form) 190 true false step_star (named (codes "k") 193))
     ∙ ap (λ names. entered names (codes "k")) star_leaves
 
 network_leaves : Leaves (after_network main_network)

@@ -105,7 +105,7 @@ abbrev pub step_star : NetExpr
 step_star = star_at true 166 exit_pattern (Some at_zero) step_filter
 
 abbrev pub step_split : NetExpr
-step_split = split_at true 190 (named (codes "k") 193) step_star
+step_split = split_at true false 190 (named (codes "k") 193) step_star
 
 abbrev pub twice_call : NetExpr
 twice_call = record { at = 90; form = net_form.Name (named (codes "twice") 90) }

@@ -127,7 +127,8 @@ module _ (names : List (List ℕ)) (scopes : Scopes) where
             let before = variant_tells names exit (check_of body.0 least) over.0 in
             let part = body.1 least before.0 in
             (part.0, sound_made _ (sound_star place (merge_of det) (network_of body.0, part.1) (variant_at names exit) (guard_at names guard) over.1))
-        | NetForm-F.Split det body tag ↦ λ place. tells_weaker _ _ _ body.1 (λ sound. sound_made _ (sound_split place (merge_of det) (network_of body.0, sound) (label_number names tag.text)))
+        | NetForm-F.Split det spread body tag ↦ λ place. tells_weaker _ _ _ body.1 (λ sound. sound_made _ (sound_split place (merge_of det) (network_of body.0, sound) (label_number names tag.text)))
+        | NetForm-F.Placed body node ↦ λ place. body.1
       ])))
       (λ x y is. subst (λ z. NetworkTells (roll-NetExpr z)) is
       (subst₂ (λ check n. Tells check (IsSoundNetwork n))

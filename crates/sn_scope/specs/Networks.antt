@@ -47,7 +47,7 @@ named_at None place = Made (Filter (identity_at place))
 abbrev pub guard_at : List (List ℕ) → Option TExpr → Option TagExpr
 guard_at names guard = option_map (tag_expr names) guard
 
--- one level at its place, with each part by its numbers in its place
+-- one level at its place, with each part by its numbers in its place; where boxes run changes nothing of it, so a placed part is its part
 abbrev pub network_step : List (List ℕ) → Scopes → NetForm-F (ℕ → Network) Network → ℕ → Network
 network_step names scopes (NetForm-F.Name name) place = named_at (meaning_of scopes name.text) name.at
 network_step names scopes NetForm-F.Identity place = Made (Filter (identity_at place))
@@ -56,7 +56,8 @@ network_step names scopes (NetForm-F.Sync patterns) place = Made (Sync place (ea
 network_step names scopes (NetForm-F.Serial parts) place = Made (Serial parts)
 network_step names scopes (NetForm-F.Choice det branches) place = Made (Choice place (merge_of det) branches)
 network_step names scopes (NetForm-F.Star det body exit guard) place = Made (Star place (merge_of det) body (variant_at names exit) (guard_at names guard))
-network_step names scopes (NetForm-F.Split det body tag) place = Made (Split place (merge_of det) body (label_number names tag.text))
+network_step names scopes (NetForm-F.Split det spread body tag) place = Made (Split place (merge_of det) body (label_number names tag.text))
+network_step names scopes (NetForm-F.Placed body node) place = body
 
 -- the network with each net and each box by its number, and each label by the number of its name
 abbrev pub network_at : List (List ℕ) → Scopes → NetExpr → Network
@@ -82,7 +83,8 @@ required_step names scopes (NetForm-F.Serial parts) place least = all_required p
 required_step names scopes (NetForm-F.Choice det branches) place least = all_required branches (required (is_between 2 64 (length branches)) Arity place least)
 required_step names scopes (NetForm-F.Star det body exit guard) place least =
     guard_required names (variant_at names exit) guard (variant_required names (body least) exit)
-required_step names scopes (NetForm-F.Split det body tag) place least = body least
+required_step names scopes (NetForm-F.Split det spread body tag) place least = body least
+required_step names scopes (NetForm-F.Placed body node) place least = body least
 
 -- each name in the network is that of a visible net or box, each part has as many parts as it may, and filters and guards are over their patterns
 abbrev pub network_required : List (List ℕ) → Scopes → NetExpr → Check

@@ -99,7 +99,8 @@ network_step (NetForm-F.Sync patterns) names = fold after_variant names patterns
 network_step (NetForm-F.Serial parts) names = all_after parts names
 network_step (NetForm-F.Choice det branches) names = all_after branches names
 network_step (NetForm-F.Star det body exit guard) names = after_guard guard (after_variant (body names) exit)
-network_step (NetForm-F.Split det body tag) names = entered (body names) tag.text
+network_step (NetForm-F.Split det spread body tag) names = entered (body names) tag.text
+network_step (NetForm-F.Placed body node) names = body names
 
 -- the labels of a network
 abbrev pub after_network : NetExpr → Entry

@@ -251,7 +251,7 @@ pub fn network_at(
             let merge = merge_of(*det);
             star(alloc, names, refusals, place, merge, body, exit, guard)
         }
-        NetForm::Split { det, body, tag } => {
+        NetForm::Split { det, body, tag, .. } => {
             let body = network_at(alloc, names, scopes, refusals, body.get())?;
             let tag = names.label_number(tag.text.as_slice());
             made(
@@ -264,6 +264,8 @@ pub fn network_at(
                 },
             )
         }
+        // Where the boxes of a part run changes nothing of what they answer.
+        NetForm::Placed { body, .. } => network_at(alloc, names, scopes, refusals, body.get()),
     }
 }
 

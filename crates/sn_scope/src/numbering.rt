@@ -176,6 +176,7 @@ fn enter_network(names: &mut NameTable, network: &NetExpr) -> Result<(), Memory>
             names.enter(tag.text.as_slice())?;
             Ok(())
         }
+        NetForm::Placed { body, .. } => enter_network(names, body.get()),
     }
 }
 

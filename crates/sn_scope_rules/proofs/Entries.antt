@@ -206,8 +206,8 @@ star_enters det body exit guard = enters_so (λ names. after_guard guard (after_
     (enters_both (λ names. after_variant names exit) (after_guard guard) (λ all. HeldVariant all exit) (λ all. HeldGuard all guard) (variant_enters exit) (guard_enters guard)))
     (λ all held. (held.1, each_cons (HeldNet all) body.0 [] held.0 (each_nil (HeldNet all))))
 
-split_enters : (det : Bool) (body : Entered) (tag : Ident) → Enters (λ names. entered (after_network body.0 names) tag.text) (λ all. HeldLevel all (NetForm-F.Split det body.0 tag))
-split_enters det body tag = enters_so (λ names. entered (after_network body.0 names) tag.text) (λ all. HeldNet all body.0 × HeldIdent all tag) (λ all. HeldLevel all (NetForm-F.Split det body.0 tag))
+split_enters : (det spread : Bool) (body : Entered) (tag : Ident) → Enters (λ names. entered (after_network body.0 names) tag.text) (λ all. HeldLevel all (NetForm-F.Split det spread body.0 tag))
+split_enters det spread body tag = enters_so (λ names. entered (after_network body.0 names) tag.text) (λ all. HeldNet all body.0 × HeldIdent all tag) (λ all. HeldLevel all (NetForm-F.Split det spread body.0 tag))
     (enters_both (after_network body.0) (λ names. entered names tag.text) (λ all. HeldNet all body.0) (λ all. HeldIdent all tag) body.1 (enters_name tag)) (λ all held. (held.1, each_cons (HeldNet all) body.0 [] held.0 (each_nil (HeldNet all))))
 
 network_enters : (net : NetExpr) → NetEnters net
@@ -228,7 +228,9 @@ network_enters = ind-NetExpr FormEnters NetEnters
       | NetForm-F.Serial parts ↦ enters_so (all_after (each after_network (exprs parts))) (λ all. Each (HeldNet all) (exprs parts)) (λ all. HeldLevel all (NetForm-F.Serial (exprs parts))) (nets_enter parts) (λ all held. (tt, held))
       | NetForm-F.Choice det branches ↦ enters_so (all_after (each after_network (exprs branches))) (λ all. Each (HeldNet all) (exprs branches)) (λ all. HeldLevel all (NetForm-F.Choice det (exprs branches))) (nets_enter branches) (λ all held. (tt, held))
       | NetForm-F.Star det body exit guard ↦ star_enters det body exit guard
-      | NetForm-F.Split det body tag ↦ split_enters det body tag
+      | NetForm-F.Split det spread body tag ↦ split_enters det spread body tag
+      | NetForm-F.Placed body node ↦ enters_so (after_network body.0) (λ all. HeldNet all body.0) (λ all. HeldLevel all (NetForm-F.Placed body.0 node)) body.1
+          (λ all held. (tt, each_cons (HeldNet all) body.0 [] held (each_nil (HeldNet all))))
     ])))
     (λ x y is. subst (λ z. NetEnters (roll-NetExpr z)) is (whole_net y.at y.form.0 y.form.1))
 

@@ -100,7 +100,8 @@ HeldForm all (NetForm-F.Sync patterns) = Each (HeldVariant all) patterns
 HeldForm all (NetForm-F.Serial parts) = Unit {0}
 HeldForm all (NetForm-F.Choice det branches) = Unit {0}
 HeldForm all (NetForm-F.Star det body exit guard) = HeldVariant all exit × HeldGuard all guard
-HeldForm all (NetForm-F.Split det body tag) = HeldIdent all tag
+HeldForm all (NetForm-F.Split det spread body tag) = HeldIdent all tag
+HeldForm all (NetForm-F.Placed body node) = Unit {0}
 
 abbrev pub HeldNet : Names → NetExpr → Type 0
 HeldNet all net = (part : NetExpr) → StandsWithin parts_of part net → HeldForm all (form_of part)

@@ -175,7 +175,8 @@ network_lists = ind-NetExpr (λ form. Lists (net_entry form) (net_named form)) N
       | NetForm-F.Star det body exit guard ↦ lists_both (after_network body.0) (λ names. after_guard guard (after_variant names exit)) (in_network body.0)
           (in_variant exit ++ in_guard guard) body.1
           (lists_both (λ names. after_variant names exit) (after_guard guard) (in_variant exit) (in_guard guard) (labels_list exit.labels) (guard_lists guard))
-      | NetForm-F.Split det body tag ↦ lists_both (after_network body.0) (λ names. entered names tag.text) (in_network body.0) (tag ∷ []) body.1 (λ names. refl)
+      | NetForm-F.Split det spread body tag ↦ lists_both (after_network body.0) (λ names. entered names tag.text) (in_network body.0) (tag ∷ []) body.1 (λ names. refl)
+      | NetForm-F.Placed body node ↦ body.1
     ])))
     (λ x y is. subst (λ z. NetLists (roll-NetExpr z)) is
     (subst₂ Lists

@@ -237,13 +237,23 @@ module _ (names : List (List ℕ)) (scopes : Scopes) (around : Around) (same : A
       from r (inl one) = inr (star_broken det body.0 exit guard place r one)
       from r (inr one) = inl (one_part body.0 r one)
 
-  split_finds : (det : Bool) (body : Found) (tag : Ident) → HeldLevel names (NetForm-F.Split det body.0 tag) → (place : ℕ) → Finds (check_of body.0) (LevelBreaks place (NetForm-F.Split det body.0 tag))
-  split_finds det body tag held place = finds_same (check_of body.0) (Breaks body.0) (LevelBreaks place (NetForm-F.Split det body.0 tag)) (body.1 (held.1 body.0 here)) (λ r one. inr (body.0, here, one)) from
+  split_finds : (det spread : Bool) (body : Found) (tag : Ident) → HeldLevel names (NetForm-F.Split det spread body.0 tag) → (place : ℕ) → Finds (check_of body.0) (LevelBreaks place (NetForm-F.Split det spread body.0 tag))
+  split_finds det spread body tag held place = finds_same (check_of body.0) (Breaks body.0) (LevelBreaks place (NetForm-F.Split det spread body.0 tag)) (body.1 (held.1 body.0 here)) (λ r one. inr (body.0, here, one)) from
     where
-      unbroken : (r : Refusal) → FormBreaks around place (NetForm-F.Split det body.0 tag) r → ⊥
+      unbroken : (r : Refusal) → FormBreaks around place (NetForm-F.Split det spread body.0 tag) r → ⊥
       unbroken r one = elim one [ ]
 
-      from : (r : Refusal) → LevelBreaks place (NetForm-F.Split det body.0 tag) r → Breaks body.0 r
+      from : (r : Refusal) → LevelBreaks place (NetForm-F.Split det spread body.0 tag) r → Breaks body.0 r
+      from r (inl one) = absurd (unbroken r one)
+      from r (inr one) = one_part body.0 r one
+
+  placed_finds : (body : Found) (node : ℕ) → HeldLevel names (NetForm-F.Placed body.0 node) → (place : ℕ) → Finds (check_of body.0) (LevelBreaks place (NetForm-F.Placed body.0 node))
+  placed_finds body node held place = finds_same (check_of body.0) (Breaks body.0) (LevelBreaks place (NetForm-F.Placed body.0 node)) (body.1 (held.1 body.0 here)) (λ r one. inr (body.0, here, one)) from
+    where
+      unbroken : (r : Refusal) → FormBreaks around place (NetForm-F.Placed body.0 node) r → ⊥
+      unbroken r one = elim one [ ]
+
+      from : (r : Refusal) → LevelBreaks place (NetForm-F.Placed body.0 node) r → Breaks body.0 r
       from r (inl one) = absurd (unbroken r one)
       from r (inr one) = one_part body.0 r one
 
@@ -260,6 +270,7 @@ module _ (names : List (List ℕ)) (scopes : Scopes) (around : Around) (same : A
         | NetForm-F.Serial parts ↦ serial_finds parts
         | NetForm-F.Choice det branches ↦ choice_finds det branches
         | NetForm-F.Star det body exit guard ↦ star_finds det body exit guard
-        | NetForm-F.Split det body tag ↦ split_finds det body tag
+        | NetForm-F.Split det spread body tag ↦ split_finds det spread body tag
+        | NetForm-F.Placed body node ↦ placed_finds body node
       ])))
       (λ x y is. subst (λ z. NetworkFinds (roll-NetExpr z)) is (whole y.at y.form.0 y.form.1))

@@ -19,7 +19,7 @@ use Rattle.sn_scope.specs.Networks.{guard_at, merge_of}
 use Rattle.sn_scope_rules.specs.Networks.{form_of, place_of}
 use Rattle.sn_scope_rules.specs.Standing.{Beside}
 use Rattle.sn_scope_rules.specs.Trees.{SeriesOf, TreeOf, TreesOf}
-use Rattle.sn_scope_rules.specs.Trees.TreeOf.{cell, choice, filter, identity, in_series as series, name_of_box, name_of_net, split, star}
+use Rattle.sn_scope_rules.specs.Trees.TreeOf.{cell, choice, filter, identity, in_series as series, name_of_box, name_of_net, placed, split, star}
 use Rattle.sn_scope_rules.specs.Trees.SeriesOf.{several, two}
 use Rattle.sn_scope_rules.specs.Trees.TreesOf.{branch, no_branch}
 use Rattle.sn_scope_rules.specs.Visible.{Around, found_at}
@@ -55,9 +55,10 @@ module _ (names : List (List ℕ)) (boxes : List BoxProgram) where
     tree_once around network t (star det body exit guard is one) u other =
         let found = by_form around network (NetForm-F.Star det body exit guard) u is other in
         ap (λ m. net.Star (place_of network) (merge_of det) m (variant_at names exit) (guard_at names guard)) (tree_once _ _ _ one found.0 found.1) ∙ sym found.2
-    tree_once around network t (split det body tag is one) u other =
-        let found = by_form around network (NetForm-F.Split det body tag) u is other in
+    tree_once around network t (split det spread body tag is one) u other =
+        let found = by_form around network (NetForm-F.Split det spread body tag) u is other in
         ap (λ m. net.Split (place_of network) (merge_of det) m (label_number names tag.text)) (tree_once _ _ _ one found.0 found.1) ∙ sym found.2
+    tree_once around network t (placed body node is one) u other = tree_once _ _ _ one u (by_form around network (NetForm-F.Placed body node) u is other)
 
     series_once : (around : Around) (parts : List NetExpr) (t : Net) → SeriesOf names boxes around parts t → (u : Net) → SeriesOf names boxes around parts u → t ≡ u
     series_once around parts t (two {first} {second} one more) u other =

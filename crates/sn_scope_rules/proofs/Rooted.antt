@@ -135,7 +135,8 @@ module _ (names : List (List ℕ)) (boxes : List BoxProgram) where
           | NetForm-F.Serial parts ↦ λ place fine long. series_has (exprs parts) (parts_have parts fine.1 long.1) (long.0 (exprs parts) refl)
           | NetForm-F.Choice det branches ↦ λ place fine long. let have = branches_have (exprs branches) (parts_have branches fine.1 long.1) in (_, (have.0, have.1, refl))
           | NetForm-F.Star det body exit guard ↦ λ place fine long. let one = body.1 (fine.1 body.0 here) (long.1 body.0 here) in (_, (one.0, one.1, refl))
-          | NetForm-F.Split det body tag ↦ λ place fine long. let one = body.1 (fine.1 body.0 here) (long.1 body.0 here) in (_, (one.0, one.1, refl))
+          | NetForm-F.Split det spread body tag ↦ λ place fine long. let one = body.1 (fine.1 body.0 here) (long.1 body.0 here) in (_, (one.0, one.1, refl))
+          | NetForm-F.Placed body node ↦ λ place fine long. body.1 (fine.1 body.0 here) (long.1 body.0 here)
         ])))
         (λ x y is. subst (λ z. NetworkHas (roll-NetExpr z)) is (whole y.at y.form.0 y.form.1))
 

@@ -45,7 +45,7 @@ use Rattle.sn_scope_rules.specs.Standing.{Beside, StandsIn}
 use Rattle.sn_scope_rules.specs.Standing.StandsIn.{here, later}
 use Rattle.sn_scope_rules.specs.Standing.StandsWithin.{deeper, itself}
 use Rattle.sn_scope_rules.specs.Trees.{SeriesOf, TreeOf, TreesOf}
-use Rattle.sn_scope_rules.specs.Trees.TreeOf.{cell, choice, filter, identity, in_series as series, name_of_box, name_of_net, split, star}
+use Rattle.sn_scope_rules.specs.Trees.TreeOf.{cell, choice, filter, identity, in_series as series, name_of_box, name_of_net, placed, split, star}
 use Rattle.sn_scope_rules.specs.Trees.SeriesOf.{several, two}
 use Rattle.sn_scope_rules.specs.Trees.TreesOf.{branch, no_branch}
 use Rattle.sn_scope_rules.specs.Visible.{Around, found_at, is_part, stands_for, stands_for_a}
@@ -72,7 +72,8 @@ module _ (names : List (List ℕ)) (boxes : List BoxProgram) where
       (face boxes) ts))
   FormTree around place (NetForm-F.Star det body exit guard) t = (m : Net) × TreeOf names boxes around body m × (t ≡ net.Star place (merge_of det) m (variant_at names exit)
       (guard_at names guard))
-  FormTree around place (NetForm-F.Split det body tag) t = (m : Net) × TreeOf names boxes around body m × (t ≡ net.Split place (merge_of det) m (label_number names tag.text))
+  FormTree around place (NetForm-F.Split det spread body tag) t = (m : Net) × TreeOf names boxes around body m × (t ≡ net.Split place (merge_of det) m (label_number names tag.text))
+  FormTree around place (NetForm-F.Placed body node) t = TreeOf names boxes around body t
 
   pub trees_to : (around : Around) (es : List NetExpr) (ts : List Net) → Beside (TreeOf names boxes around) es ts → TreesOf names boxes around es ts
   trees_to around [] [] all = no_branch
@@ -102,7 +103,8 @@ module _ (names : List (List ℕ)) (boxes : List BoxProgram) where
     form_to t (NetForm-F.Serial parts) is one = series parts is one
     form_to t (NetForm-F.Choice det branches) is one = subst (TreeOf names boxes around network) (sym one.2) (choice det branches is (trees_to around branches one.0 one.1))
     form_to t (NetForm-F.Star det body exit guard) is one = subst (TreeOf names boxes around network) (sym one.2) (star det body exit guard is one.1)
-    form_to t (NetForm-F.Split det body tag) is one = subst (TreeOf names boxes around network) (sym one.2) (split det body tag is one.1)
+    form_to t (NetForm-F.Split det spread body tag) is one = subst (TreeOf names boxes around network) (sym one.2) (split det spread body tag is one.1)
+    form_to t (NetForm-F.Placed body node) is one = placed body node is one
 
   pub form_from : (around : Around) (network : NetExpr) (t : Net) → TreeOf names boxes around network t → FormTree around (place_of network) (form_of network) t
   form_from around network t (name_of_net {there} name decl called is found at one) = subst (λ x. FormTree around (place_of network) x t) (sym is) (
@@ -119,7 +121,8 @@ module _ (names : List (List ℕ)) (boxes : List BoxProgram) where
   form_from around network t (series parts is one) = subst (λ x. FormTree around (place_of network) x t) (sym is) one
   form_from around network t (choice {made} det branches is all) = subst (λ x. FormTree around (place_of network) x t) (sym is) (made, trees_from around branches made all, refl)
   form_from around network t (star {made} det body exit guard is one) = subst (λ x. FormTree around (place_of network) x t) (sym is) (made, one, refl)
-  form_from around network t (split {made} det body tag is one) = subst (λ x. FormTree around (place_of network) x t) (sym is) (made, one, refl)
+  form_from around network t (split {made} det spread body tag is one) = subst (λ x. FormTree around (place_of network) x t) (sym is) (made, one, refl)
+  form_from around network t (placed body node is one) = subst (λ x. FormTree around (place_of network) x t) (sym is) one
 
   no_series : (around : Around) (t : Net) → SeriesOf names boxes around [] t → ⊥
   no_series around t one = elim one [ ]
@@ -336,14 +339,17 @@ module _ (names : List (List ℕ)) (boxes : List BoxProgram) where
         (guard_at names guard))
         (λ m. parts-Star place (merge_of det) m (variant_at names exit) (guard_at names guard)) (body.1 (fine.1 body.0 here) n)))
 
-    split_ties : (det : Bool) (body : Found) (tag : Ident) (place : ℕ) → UnbrokenForm around place (NetForm-F.Split det body.0 tag)
-        → TiedTo (Made (component.Split place (merge_of det) (at_of body.0) (label_number names tag.text))) (FormTree around place (NetForm-F.Split det body.0 tag))
-    split_ties det body tag place fine = made_level (component.Split place (merge_of det) (at_of body.0) (label_number names tag.text)) (FormTree around place
-        (NetForm-F.Split det body.0 tag))
-        (λ n. subst (λ o. Level boxes n o (FormTree around place (NetForm-F.Split det body.0 tag))) (sym (node-Split boxes (trees_of n) (series_of n) place (merge_of det)
+    split_ties : (det spread : Bool) (body : Found) (tag : Ident) (place : ℕ) → UnbrokenForm around place (NetForm-F.Split det spread body.0 tag)
+        → TiedTo (Made (component.Split place (merge_of det) (at_of body.0) (label_number names tag.text))) (FormTree around place (NetForm-F.Split det spread body.0 tag))
+    split_ties det spread body tag place fine = made_level (component.Split place (merge_of det) (at_of body.0) (label_number names tag.text)) (FormTree around place
+        (NetForm-F.Split det spread body.0 tag))
+        (λ n. subst (λ o. Level boxes n o (FormTree around place (NetForm-F.Split det spread body.0 tag))) (sym (node-Split boxes (trees_of n) (series_of n) place (merge_of det)
         (at_of body.0) (label_number names tag.text)))
         (one_level boxes n (part_of boxes n nets (at_of body.0)) (TreeOf names boxes around body.0) (λ m. net.Split place (merge_of det) m (label_number names tag.text))
         (λ m. parts-Split place (merge_of det) m (label_number names tag.text)) (body.1 (fine.1 body.0 here) n)))
+
+    placed_ties : (body : Found) (node place : ℕ) → UnbrokenForm around place (NetForm-F.Placed body.0 node) → TiedTo (at_of body.0) (FormTree around place (NetForm-F.Placed body.0 node))
+    placed_ties body node place fine = body.1 (fine.1 body.0 here)
 
     -- a network in which nothing is refused
     pub network_ties : (network : NetExpr) → NetworkTies network
@@ -359,6 +365,7 @@ module _ (names : List (List ℕ)) (boxes : List BoxProgram) where
           | NetForm-F.Serial parts ↦ serial_ties parts
           | NetForm-F.Choice det branches ↦ choice_ties det branches
           | NetForm-F.Star det body exit guard ↦ star_ties det body exit guard
-          | NetForm-F.Split det body tag ↦ split_ties det body tag
+          | NetForm-F.Split det spread body tag ↦ split_ties det spread body tag
+          | NetForm-F.Placed body node ↦ placed_ties body node
         ])))
         (λ x y is. subst (λ z. NetworkTies (roll-NetExpr z)) is (whole y.at y.form.0 y.form.1))

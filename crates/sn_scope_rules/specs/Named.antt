@@ -76,7 +76,8 @@ network_step (NetForm-F.Sync patterns) = flat_map in_variant patterns
 network_step (NetForm-F.Serial parts) = together parts
 network_step (NetForm-F.Choice det branches) = together branches
 network_step (NetForm-F.Star det body exit guard) = body ++ (in_variant exit ++ in_guard guard)
-network_step (NetForm-F.Split det body tag) = body ++ tag ∷ []
+network_step (NetForm-F.Split det spread body tag) = body ++ tag ∷ []
+network_step (NetForm-F.Placed body node) = body
 
 abbrev pub in_network : NetExpr → Named
 in_network = fold-NetExpr Named Named network_step (λ n. n.form)

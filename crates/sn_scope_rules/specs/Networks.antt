@@ -33,7 +33,8 @@ parts_in (NetForm-F.Sync patterns) = []
 parts_in (NetForm-F.Serial parts) = parts
 parts_in (NetForm-F.Choice det branches) = branches
 parts_in (NetForm-F.Star det body exit guard) = body ∷ []
-parts_in (NetForm-F.Split det body tag) = body ∷ []
+parts_in (NetForm-F.Split det spread body tag) = body ∷ []
+parts_in (NetForm-F.Placed body node) = body ∷ []
 
 abbrev pub parts_of : NetExpr → List NetExpr
 parts_of net = parts_in (form_of net)

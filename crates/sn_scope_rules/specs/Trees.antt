@@ -48,9 +48,11 @@ mutual
     star : {around : Around} {network : NetExpr} {made : Net} (det : Bool) (body : NetExpr) (exit : Variant) (guard : Option TExpr) →
         form_of network ≡ NetForm-F.Star det body exit guard → TreeOf names boxes around body made →
         TreeOf names boxes around network (tree.Star (place_of network) (merge_of det) made (variant_at names exit) (guard_at names guard))
-    split : {around : Around} {network : NetExpr} {made : Net} (det : Bool) (body : NetExpr) (tag : Ident) →
-        form_of network ≡ NetForm-F.Split det body tag → TreeOf names boxes around body made →
+    split : {around : Around} {network : NetExpr} {made : Net} (det spread : Bool) (body : NetExpr) (tag : Ident) →
+        form_of network ≡ NetForm-F.Split det spread body tag → TreeOf names boxes around body made →
         TreeOf names boxes around network (tree.Split (place_of network) (merge_of det) made (label_number names tag.text))
+    placed : {around : Around} {network : NetExpr} {made : Net} (body : NetExpr) (node : ℕ) →
+        form_of network ≡ NetForm-F.Placed body node → TreeOf names boxes around body made → TreeOf names boxes around network made
 
   -- two parts in series, or the first of several in series with the rest
   pub data SeriesOf (names : List (List ℕ)) (boxes : List BoxProgram) : Around → List NetExpr → Net → Type 0 where

@@ -24,7 +24,7 @@ use Rattle.sn_scope_rules.specs.Declared.{boxes_before}
 use Rattle.sn_scope_rules.specs.Networks.{form_of, place_of}
 use Rattle.sn_scope_rules.specs.Standing.StandsIn.{here, later}
 use Rattle.sn_scope_rules.specs.Trees.{SeriesOf, TreeOf, TreesOf}
-use Rattle.sn_scope_rules.specs.Trees.TreeOf.{cell, choice, filter, identity, in_series as series, name_of_box, name_of_net, split, star}
+use Rattle.sn_scope_rules.specs.Trees.TreeOf.{cell, choice, filter, identity, in_series as series, name_of_box, name_of_net, placed, split, star}
 use Rattle.sn_scope_rules.specs.Trees.SeriesOf.{several, two}
 use Rattle.sn_scope_rules.specs.Trees.TreesOf.{branch, no_branch}
 use Rattle.sn_scope_rules.specs.Visible.{Around}
@@ -79,12 +79,13 @@ module _ (names : List (List ℕ)) (boxes : List BoxProgram) where
         let test = guard_at names guard in
         subst Covered (net.rolls-Star (place_of network) (merge_of det) made set test) (rolled (Net-F.Star (place_of network) (merge_of det) made set test)
         (either_covered names (is_of_net made) (contains set) (tree_covered _ _ _ one outside (level.1 body here)) (variant_covered names exit level.0.0)))
-    tree_covered around network t (split {made} det body tag is one) outside held =
-        let level = level_of network (NetForm-F.Split det body tag) held is in
+    tree_covered around network t (split {made} det spread body tag is one) outside held =
+        let level = level_of network (NetForm-F.Split det spread body tag) held is in
         let id = label_number names tag.text in
         let label : Label = record { kind = kind.Tag; id = id } in
         subst Covered (net.rolls-Split (place_of network) (merge_of det) made id) (rolled (Net-F.Split (place_of network) (merge_of det) made id)
         (either_covered names (is_of_net made) (is_label label) (tree_covered _ _ _ one outside (level.1 body here)) (label_covered names label (number_known names kind.Tag tag level.0))))
+    tree_covered around network t (placed body node is one) outside held = tree_covered _ _ _ one outside ((level_of network (NetForm-F.Placed body node) held is).1 body here)
 
     series_covered : (around : Around) (parts : List NetExpr) (t : Net) → SeriesOf names boxes around parts t → HeldAround names around → Each (HeldNet names) parts → Covered t
     series_covered around parts t (two {first} {second} {left} {right} one more) outside held =

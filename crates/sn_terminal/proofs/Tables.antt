@@ -8,7 +8,7 @@ use Rattle.std.proofs.lemmas.Bool.{false≢true}
 use Rattle.sn_ast.specs.declared.terminal.Keyword.{Keyword}
 use Rattle.sn_ast.specs.declared.terminal.Keyword.TheVariants.{Box, Net, Connect, «Type» as TypeWord, TypeSig, If, Then, Else, Let, In, Out, Fun}
 use Rattle.sn_ast.specs.declared.terminal.Symbol.{Symbol}
-use Rattle.sn_ast.specs.declared.terminal.Symbol.TheVariants.{OpenParen, CloseParen, OpenBrace, CloseBrace, OpenBracket, CloseBracket, OpenSync, CloseSync, Comma, Semicolon, Colon, Assign, Equal, NotEqual, Less, LessEqual, Greater, GreaterEqual, Plus, Minus, Star, Slash, Percent, AndAnd, BarBar, Bar, Bang, BangBang, StarStar, Dots, Arrow, Question}
+use Rattle.sn_ast.specs.declared.terminal.Symbol.TheVariants.{OpenParen, CloseParen, OpenBrace, CloseBrace, OpenBracket, CloseBracket, OpenSync, CloseSync, Comma, Semicolon, Colon, Assign, Equal, NotEqual, Less, LessEqual, Greater, GreaterEqual, Plus, Minus, Star, Slash, Percent, AndAnd, BarBar, Bar, Bang, BangBang, StarStar, Dots, Arrow, Question, At}
 use Rattle.sn_lexer.specs.Spelling.{is_among, is_keyword, is_symbol, lone_symbols, paired_symbols}
 use Rattle.sn_lexer.proofs.Tables.{same_words}
 use Rattle.sn_terminal.specs.Words.{keyword_word, symbol_word}
@@ -97,7 +97,7 @@ unfolding is_keyword
 keyword_is word h = one_of keyword_word every_keyword word h
 
 abbrev pub every_symbol : List Symbol
-every_symbol = OpenParen ∷ CloseParen ∷ OpenBrace ∷ CloseBrace ∷ OpenBracket ∷ CloseBracket ∷ OpenSync ∷ CloseSync ∷ Comma ∷ Semicolon ∷ Colon ∷ Assign ∷ Equal ∷ NotEqual ∷ Less ∷ LessEqual ∷ Greater ∷ GreaterEqual ∷ Plus ∷ Minus ∷ Star ∷ Slash ∷ Percent ∷ AndAnd ∷ BarBar ∷ Bar ∷ Bang ∷ BangBang ∷ StarStar ∷ Dots ∷ Arrow ∷ Question ∷ []
+every_symbol = OpenParen ∷ CloseParen ∷ OpenBrace ∷ CloseBrace ∷ OpenBracket ∷ CloseBracket ∷ OpenSync ∷ CloseSync ∷ Comma ∷ Semicolon ∷ Colon ∷ Assign ∷ Equal ∷ NotEqual ∷ Less ∷ LessEqual ∷ Greater ∷ GreaterEqual ∷ Plus ∷ Minus ∷ Star ∷ Slash ∷ Percent ∷ AndAnd ∷ BarBar ∷ Bar ∷ Bang ∷ BangBang ∷ StarStar ∷ Dots ∷ Arrow ∷ Question ∷ At ∷ []
 
 abbrev pub symbol_table : List (List ℕ × Symbol)
 symbol_table = entries symbol_word every_symbol
@@ -135,6 +135,7 @@ symbol_known StarStar = refl
 symbol_known Dots = refl
 symbol_known Arrow = refl
 symbol_known Question = refl
+symbol_known At = refl
 
 pub symbol_found : (word : List ℕ) (e : List ℕ × Symbol) → find (has_word word) symbol_table ≡ Some e → word ≡ symbol_word e.1
 symbol_found word e h = found symbol_word every_symbol word e h
@@ -147,7 +148,7 @@ symbol_once r s same =
     let one = sym (symbol_known r) ∙ ap (λ w. find (has_word w) symbol_table) same ∙ symbol_known s in let left : List ℕ × Symbol = (symbol_word r, r) in let right : List ℕ × Symbol = (symbol_word s, s) in let pair : left ≡ right = cc in ap (λ e. e.1) pair
 
 abbrev lone : List Symbol
-lone = OpenParen ∷ CloseParen ∷ OpenBrace ∷ CloseBrace ∷ OpenBracket ∷ CloseBracket ∷ Comma ∷ Semicolon ∷ Colon ∷ Assign ∷ Less ∷ Greater ∷ Plus ∷ Minus ∷ Star ∷ Slash ∷ Percent ∷ Bar ∷ Bang ∷ Question ∷ []
+lone = OpenParen ∷ CloseParen ∷ OpenBrace ∷ CloseBrace ∷ OpenBracket ∷ CloseBracket ∷ Comma ∷ Semicolon ∷ Colon ∷ Assign ∷ Less ∷ Greater ∷ Plus ∷ Minus ∷ Star ∷ Slash ∷ Percent ∷ Bar ∷ Bang ∷ Question ∷ At ∷ []
 
 abbrev paired : List Symbol
 paired = OpenSync ∷ CloseSync ∷ Equal ∷ NotEqual ∷ LessEqual ∷ GreaterEqual ∷ AndAnd ∷ BarBar ∷ BangBang ∷ StarStar ∷ Dots ∷ Arrow ∷ []

@@ -21,7 +21,7 @@ const KEYWORDS: [(&str, Keyword); 12] = [
     ("fun", Keyword::Fun),
 ];
 
-const SYMBOLS: [(&str, Symbol); 32] = [
+const SYMBOLS: [(&str, Symbol); 33] = [
     ("(", Symbol::OpenParen),
     (")", Symbol::CloseParen),
     ("{", Symbol::OpenBrace),
@@ -54,6 +54,7 @@ const SYMBOLS: [(&str, Symbol); 32] = [
     ("..", Symbol::Dots),
     ("->", Symbol::Arrow),
     ("?", Symbol::Question),
+    ("@", Symbol::At),
 ];
 
 /// The keyword that the bytes are, if they are one.

@@ -114,12 +114,21 @@ network_at-returns-in_ok-body-in-Split t c =
     let body : c.in_ok-body-in-Split.body ≡ network_at names scopes c.in-Split.body = made_body.0 ∙ ap (network_at names scopes) c.get-in-Split.ensures in
     let checked : c.network_at-in-Split.new.refusals ≡ network_required names scopes c.in-Split.body least = made_body.1 ∙ ap (λ n. network_required names scopes n least) c.get-in-Split.ensures in
     let numbered : c.label_number-tag.result ≡ tag = c.label_number-tag.ensures ∙ ap (label_number names) c.as_slice-in-Split.ensures in
-    network_here names scopes c.args.network.now (NetForm-F.Split det c.in-Split.body c.in-Split.tag) _ c.in-Split.is (form.rolls-Split det c.in-Split.body c.in-Split.tag) c.made-in-Split.result least c.network_at-in-Split.new.refusals
+    network_here names scopes c.args.network.now (NetForm-F.Split det c.in-Split.spread c.in-Split.body c.in-Split.tag) _ c.in-Split.is (form.rolls-Split det c.in-Split.spread c.in-Split.body c.in-Split.tag) c.made-in-Split.result least c.network_at-in-Split.new.refusals
     (IfOk-weaker c.made-in-Split.result _ _ (λ made is. (
       is ∙ ap (λ m. Made (component.Split place m c.in_ok-body-in-Split.body c.label_number-tag.result)) c.merge_of-in-Split.ensures
           ∙ ap (λ b. Made (component.Split place (merge_of det) b c.label_number-tag.result)) body ∙ ap (λ n. Made (component.Split place (merge_of det) (network_at names scopes c.in-Split.body) n)) numbered,
       checked,
     )) c.made-in-Split.ensures)
+
+pub network_at-returns-in-Placed : goal.network_at-returns-in-Placed
+network_at-returns-in-Placed t c =
+    let names = c.args.names.now in
+    let scopes = c.args.scopes.now in
+    let least = c.args.refusals.now in
+    let r = c.network_at-in-Placed.result in
+    network_here names scopes c.args.network.now (NetForm-F.Placed c.in-Placed.body c.in-Placed.node) _ c.in-Placed.is (form.rolls-Placed c.in-Placed.body c.in-Placed.node) r least c.network_at-in-Placed.new.refusals
+    (IfOk-weaker r _ _ (λ made is. (is.0 ∙ ap (network_at names scopes) c.get-in-Placed.ensures, is.1 ∙ ap (λ n. network_required names scopes n least) c.get-in-Placed.ensures)) c.network_at-in-Placed.ensures)
 
 pub networks_at-loop-network-init : goal.networks_at-loop-network-init
 networks_at-loop-network-init t c = (c.new-made.ensures, refl)
