@@ -28,3 +28,4 @@ pub mod OneMain
 pub mod Standings
 pub mod OneTree
 pub mod Rooted
+pub mod Placements

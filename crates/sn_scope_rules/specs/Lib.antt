@@ -4,6 +4,7 @@ pub mod Visible
 pub mod Labels
 pub mod Filters
 pub mod Networks
+pub mod Placements
 pub mod Boxes
 pub mod Programs
 pub mod Named

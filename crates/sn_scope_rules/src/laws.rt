@@ -15,11 +15,14 @@ ghost use Rattle.sn_names.specs.Names.{all_entered};
 ghost use Rattle.sn_net.specs.declared.expr.BoxProgram.{BoxProgram as SomeProgramOfBox};
 ghost use Rattle.sn_net.specs.declared.net.Net.{Net as SomeTree};
 ghost use Rattle.sn_record.specs.LabelSet.{Labels};
-ghost use Rattle.sn_scope.specs.Numbering.{names_of};
+ghost use Rattle.sn_scope.specs.Networks.{network_at, network_required};
+ghost use Rattle.sn_scope.specs.Numbering.{after_network, names_of};
 ghost use Rattle.sn_scope.specs.Resolution.{fault_at, resolution};
 ghost use Rattle.sn_scope.specs.declared.resolved.Parts.{Parts as SomeParts};
+ghost use Rattle.sn_scope.specs.declared.scopes.Scopes.{Scopes as SomeScopes};
 ghost use Rattle.sn_scope_rules.specs.Declared.{StandsAt, boxes_before};
 ghost use Rattle.sn_scope_rules.specs.Named.{in_program};
+ghost use Rattle.sn_scope_rules.specs.Placements.{without_placements};
 ghost use Rattle.sn_scope_rules.specs.Programs.{ProgramBreaks};
 ghost use Rattle.sn_scope_rules.specs.Refusals.{IsFirst};
 ghost use Rattle.sn_scope_rules.specs.Results.{HasLongSeriesIn, HasNoMain, HasTooLarge, HasTooManyNames, IsResolved, IsWhole, Unbroken, boxes_of};
@@ -78,4 +81,12 @@ pub fn what_stands_is_one_thing()
 /// program is a tree.
 pub fn unbroken_nets_are_trees()
     ensures tree { (names : List (List ℕ)) (boxes : List SomeProgramOfBox) (program : SomeProgram) → Unbroken program → HasLongSeriesIn program → (around : Around) (decl : SomeDecl) (net : SomeNet) → StandsAt program around decl → out-Decl decl ≡ Decl-F.NetDecl net → (tree : SomeTree) × TreeOf names boxes ((out-NetDecl net).decls ∷ around) (out-NetDecl net).connect tree }
+{}
+
+/// Where the parts of a network run changes nothing of what it is: its labels are numbered, it is resolved, and it is refused as
+/// the same network without its placements.
+pub fn placements_change_nothing()
+    ensures labels { (names : List (List ℕ)) (network : SomeNetwork) → after_network (without_placements network) names ≡ after_network network names }
+    ensures network { (names : List (List ℕ)) (scopes : SomeScopes) (network : SomeNetwork) → network_at names scopes (without_placements network) ≡ network_at names scopes network }
+    ensures refused { (names : List (List ℕ)) (scopes : SomeScopes) (network : SomeNetwork) → network_required names scopes (without_placements network) ≡ network_required names scopes network }
 {}
