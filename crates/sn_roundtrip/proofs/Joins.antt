@@ -156,9 +156,9 @@ outside_follows c rest h =
 
 parts_outside : (c : ℕ) → parts_names c ≡ true → is_outside c ≡ true
 parts_outside c h =
-    elim (is_blank c) as (λ b. is_blank c ≡ b → (b || list_any (λ d. d == c) (33 ∷ 34 ∷ 40 ∷ 41 ∷ 44 ∷ 59 ∷ 61 ∷ 91 ∷ 93 ∷ 123 ∷ 124 ∷ 125 ∷ [])) ≡ true → is_outside c ≡ true) [
+    elim (is_blank c) as (λ b. is_blank c ≡ b → (b || list_any (λ d. d == c) (33 ∷ 34 ∷ 40 ∷ 41 ∷ 44 ∷ 59 ∷ 61 ∷ 64 ∷ 91 ∷ 93 ∷ 123 ∷ 124 ∷ 125 ∷ [])) ≡ true → is_outside c ≡ true) [
       | true ↦ λ blank t. let low = blank_below c blank in grind (arith, nat_tests)
-      | false ↦ λ solid t. any_then is_outside (33 ∷ 34 ∷ 40 ∷ 41 ∷ 44 ∷ 59 ∷ 61 ∷ 91 ∷ 93 ∷ 123 ∷ 124 ∷ 125 ∷ []) c t refl
+      | false ↦ λ solid t. any_then is_outside (33 ∷ 34 ∷ 40 ∷ 41 ∷ 44 ∷ 59 ∷ 61 ∷ 64 ∷ 91 ∷ 93 ∷ 123 ∷ 124 ∷ 125 ∷ []) c t refl
     ] refl h
 
 -- what may stand side by side follows well
