@@ -129,11 +129,7 @@ impl Callers for OwnerEnds {
 }
 
 /// The owner's ends of both queues, and the hand of the workers.
-pub fn open_ends(
-    alloc: Global,
-    run: &Arc<Run>,
-    alone: bool,
-) -> Result<(OwnerEnds, JobHand), Memory>
+pub fn open_ends(alloc: Global, run: &Arc<Run>, alone: bool) -> Result<(OwnerEnds, JobHand), Memory>
     ensures ends { IfOk result (λ made. AreEndsOf run.now.value made.0) }
     ensures hand { IfOk result (λ made. made.1.made.run ≡ run.now.value) }
 {
