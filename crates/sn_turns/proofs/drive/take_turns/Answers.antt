@@ -1,7 +1,7 @@
 use Rattle.std.proofs.Common.{subst}
 use Rattle.sn_graph.specs.Graph.{seen}
 use Rattle.sn_turns.specs.declared.turn.Turn.{Turn}
-use Rattle.sn_turns.specs.declared.turn.Turn.TheVariants.{Ended, Idle, Went}
+use Rattle.sn_turns.specs.declared.turn.Turn.TheVariants.{Ended, Went}
 use Rattle.sn_turns.proofs.drive.take_turns.Goals as goal
 
 pub loop-init : goal.loop-init
