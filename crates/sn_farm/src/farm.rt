@@ -11,14 +11,14 @@ ghost use Rattle.sn_view.specs.Next.{start_view};
 ghost use Rattle.sn_view.specs.Placed.{AtRest};
 ghost use Rattle.sn_view.specs.Seen.{Can};
 ghost use Rattle.sn_graph.specs.Graph.{IsGraphOf, seen};
-ghost use Rattle.sn_farm.specs.Farmed.{HasPrinted, IsAllWritten, IsFaulted, IsWhole};
+ghost use Rattle.sn_printing.specs.Farmed.{HasPrinted, IsAllWritten, IsFaulted, IsWhole};
 ghost use Rattle.sn_model.specs.declared.outcome.Outcome.TheVariants as outcome;
 
-use crate::printer::Printer;
 use sn_graph::Graph;
 use sn_io::{Gate, Sink};
 use sn_model::{Outcome, Run};
 use sn_output::LineSink;
+use sn_printing::Printer;
 use sn_turns::drive_watched;
 use std::alloc::Global;
 use std::sync::{Arc, Wait};

@@ -3,6 +3,5 @@
 #![tactic(auto)]
 
 mod farm;
-mod printer;
 
 pub use farm::{farm_drive, farm_run};

@@ -12,7 +12,7 @@ use Rattle.sn_model.proofs.Lists.{one_list-allowed}
 use Rattle.sn_stream.specs.declared.item.StreamItem.{StreamItem}
 use Rattle.sn_crew.specs.Root.{HasWritten, items_among}
 use Rattle.sn_crew.proofs.Allowed.{fault_end, fault_text, part_of_all, whole_end, whole_text}
-use Rattle.sn_farm.specs.Farmed.{HasPrinted}
+use Rattle.sn_printing.specs.Farmed.{HasPrinted}
 
 allowed : (run : Run) → MayGive run (given run)
 allowed run = one_list-allowed (setting_of run) (net_of run) (input_of run)

@@ -15,7 +15,7 @@ use Rattle.sn_net.specs.WellFormed.{FitsBoxes}
 use Rattle.sn_sound.proofs.Items.{typed_list_never_stuck}
 use Rattle.sn_model.specs.Run.{MayGive}
 use Rattle.sn_output.specs.Printed.{ending, printed}
-use Rattle.sn_farm.specs.Farmed.{HasPrinted as FarmHasPrinted}
+use Rattle.sn_printing.specs.Farmed.{HasPrinted as FarmHasPrinted}
 use Rattle.sn_load.specs.Load.{AreTypedRecords, Limits}
 use Rattle.sn_plain.specs.Ready.{setting_at}
 use Rattle.sn_plain.specs.Runs.{ComesOut, HasBegun, HasPrinted, IsOfStream, Printout, WithWorkers, ended}

@@ -4,7 +4,7 @@ ghost use Rattle.sn_record.specs.declared.item.Fault.{Fault as EndingFault};
 ghost use Rattle.sn_io.specs.Causes.{Rose};
 ghost use Rattle.sn_io.specs.Told.{AppendsPrefix};
 ghost use Rattle.sn_output.specs.Printed.{printed};
-ghost use Rattle.sn_farm.specs.Farmed.{HasPrinted};
+ghost use Rattle.sn_printing.specs.Farmed.{HasPrinted};
 ghost use Rattle.sn_model.specs.declared.outcome.Outcome.TheVariants as outcome;
 ghost use Rattle.sn_model.specs.Run.{MayGive, net_of};
 ghost use Rattle.sn_net.specs.Item.{ModelItem};

@@ -1,5 +1,5 @@
-//! Where the owner of the graph gives calls away, or makes them itself.
-ghost use Rattle.std.specs.Prelude.{◌≡◌};
+//! The workers as callers, and the calls that the owner of the graph makes itself.
+ghost use Rattle.std.specs.Prelude.{◌≡◌, IfOk};
 ghost use Rattle.sn_boxrun.specs.Job.{IsJobOf};
 ghost use Rattle.sn_graph.specs.Graph.{IsGraphOf, seen};
 ghost use Rattle.sn_jobs.specs.Queues.{IsDoneOf};
@@ -7,15 +7,18 @@ ghost use Rattle.sn_turns.specs.OwnerEnds.{AreEndsOf};
 ghost use Rattle.sn_turns.specs.declared.turn.Turn.TheVariants as turn;
 
 use crate::apply::apply;
+use crate::callers::Callers;
 use crate::turn::Turn;
 use crate::watcher::Watcher;
 use sn_boxrun::{Done, Job};
 use sn_graph::{ApplyCause, Event, Graph};
 use sn_io::Gate;
-use sn_jobs::{JobHand, JobOwner};
-use sn_model::Outcome;
+use sn_jobs::{JobHand, JobOwner, make};
+use sn_list::Memory;
+use sn_model::{Outcome, Run, Trail};
 use sn_workers::Shared;
-use std::sync::Wait;
+use std::alloc::Global;
+use std::sync::{Arc, Wait};
 
 /// The owner's ends of both queues. With a hand of its own it takes a call back that no worker has taken yet, when there is nothing else
 /// to do: so one more call runs at a time, and all calls are made even if no worker could be started.
@@ -91,32 +94,47 @@ pub fn call_here<R: Wait, G: Gate, W: Watcher>(
     }
 }
 
-impl OwnerEnds {
-    /// Gives a call to the workers. It is made here if the queue is full, or if there is no worker.
-    pub fn give<R: Wait, G: Gate, W: Watcher>(
+impl Callers for OwnerEnds {
+    ghost are_of = { λ ends run. AreEndsOf run ends };
+
+    /// Gives a call to the workers. It comes back if the queue is full, or if there is no worker.
+    fn give<R: Wait, G: Gate>(
         &mut self,
         rt: &R,
         shared: &Shared<G>,
-        graph: &mut Graph,
-        watcher: &mut W,
+        _steps: &Trail,
         job: Job,
-    ) -> Turn
-        requires ends { AreEndsOf shared.now.run.now.value self.old }
-        requires of { IsGraphOf graph.old shared.now.run.now.value }
-        requires job { IsJobOf shared.now.run.now.value job }
-        ensures ends { AreEndsOf shared.now.run.now.value self.new }
-        ensures of { IsGraphOf graph.new shared.now.run.now.value }
-        ensures goes { W.goes (seen graph.old) watcher.old (seen graph.new) watcher.new result }
-    {
+    ) -> Result<(), Job> {
         if self.alone {
-            return call_here(rt, shared, graph, watcher, job);
+            return Err(job);
         }
         match self.owner.give(rt, job) {
             Ok(()) => {
                 shared.signals.jobs.notify_one();
-                Turn::Went
+                Ok(())
             }
-            Err(job) => call_here(rt, shared, graph, watcher, job),
+            Err(job) => Err(job),
         }
     }
+
+    fn collect<R: Wait, G: Gate>(&mut self, rt: &R, shared: &Shared<G>) -> Option<Done> {
+        let done = self.owner.collect(rt)?;
+        shared.signals.room.notify_one();
+        Some(done)
+    }
+
+    fn take_back<R: Wait, G: Gate>(&mut self, rt: &R, _shared: &Shared<G>) -> Option<Job> {
+        self.hand.take(rt)
+    }
+}
+
+/// The owner's ends of both queues, and the hand of the workers.
+pub fn open_ends(alloc: Global, run: &Arc<Run>, alone: bool) -> Result<(OwnerEnds, JobHand), Memory>
+    ensures ends { IfOk result (λ made. AreEndsOf run.now.value made.0) }
+    ensures hand { IfOk result (λ made. made.1.made.run ≡ run.now.value) }
+{
+    let (owner, mut theirs) = make(alloc, run, run.queue())?;
+    let hand = theirs.split()?;
+    let ends = OwnerEnds { owner, hand, alone };
+    Ok((ends, theirs))
 }

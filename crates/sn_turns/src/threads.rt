@@ -1,32 +1,20 @@
 //! A graph driven to its end with workers.
-ghost use Rattle.std.specs.Prelude.{◌≡◌, ◌≤◌, IfOk};
+ghost use Rattle.std.specs.Prelude.{◌≡◌, ◌≤◌};
 ghost use Rattle.sn_graph.specs.Graph.{IsGraphOf, seen};
 ghost use Rattle.sn_turns.specs.OwnerEnds.{AreEndsOf};
 ghost use Rattle.sn_turns.specs.declared.turn.Turn.TheVariants as turn;
 
-use crate::drive::drive;
-use crate::owner::{OwnerEnds, end_at_refusal};
+use crate::drive::take_turns;
+use crate::owner::{OwnerEnds, end_at_refusal, open_ends};
 use crate::watcher::Watcher;
 use sn_graph::Graph;
 use sn_io::Gate;
-use sn_jobs::{JobHand, make};
-use sn_list::Memory;
+use sn_jobs::JobHand;
 use sn_model::{Outcome, Run};
 use sn_workers::{Shared, Signals, help};
 use std::alloc::Global;
 use std::sync::{Arc, Wait};
 use std::thread::{Threads, join_mut};
-
-/// The owner's ends of both queues, and the hand of the workers.
-fn open(alloc: Global, run: &Arc<Run>, alone: bool) -> Result<(OwnerEnds, JobHand), Memory>
-    ensures ends { IfOk result (λ made. AreEndsOf run.now.value made.0) }
-    ensures hand { IfOk result (λ made. made.1.made.run ≡ run.now.value) }
-{
-    let (owner, mut theirs) = make(alloc, run, run.queue())?;
-    let hand = theirs.split()?;
-    let ends = OwnerEnds { owner, hand, alone };
-    Ok((ends, theirs))
-}
 
 /// Drives a graph while other threads make calls.
 fn drive_with<R: Threads + Wait + Sync, G: Gate, W: Watcher>(
@@ -54,7 +42,7 @@ fn drive_with<R: Threads + Wait + Sync, G: Gate, W: Watcher>(
             ensures of { IsGraphOf graph.exit.now shared.entry.now.run.now.value }
             ensures goes { W.goes (seen graph.entry.now) watcher.entry.now (seen graph.exit.now) watcher.exit.now (turn.Ended result) }
         {
-            let outcome = drive(rt, shared, ends, graph, watcher);
+            let outcome = take_turns(rt, shared, ends, graph, watcher);
             shared.signals.end();
             outcome
         },
@@ -87,11 +75,11 @@ pub fn drive_watched<R: Threads + Wait + Sync, G: Gate, W: Watcher>(
         signals: Signals::new(),
     };
     let alone = workers < 2;
-    let Ok((mut ends, mut theirs)) = open(alloc, run, alone) else {
+    let Ok((mut ends, mut theirs)) = open_ends(alloc, run, alone) else {
         return end_at_refusal(&shared, graph, watcher);
     };
     if alone {
-        return drive(rt, &shared, &mut ends, graph, watcher);
+        return take_turns(rt, &shared, &mut ends, graph, watcher);
     }
     drive_with(rt, &shared, &mut ends, &mut theirs, workers, graph, watcher)
 }

@@ -3,8 +3,8 @@ use Rattle.sn_io.specs.Told.{AppendsPrefix}
 use Rattle.sn_output.specs.Printed.{printed}
 use Rattle.sn_view.specs.View.{View}
 use Rattle.sn_graph.specs.Graph.{seen}
-use Rattle.sn_farm.specs.Farmed.{IsAllWritten, IsFaulted, IsWhole}
-use Rattle.sn_farm.proofs.Ending.{drive_faulted, drive_first, drive_last, drive_whole, drive_written}
+use Rattle.sn_printing.specs.Farmed.{IsAllWritten, IsFaulted, IsWhole}
+use Rattle.sn_printing.proofs.Ending.{drive_faulted, drive_first, drive_last, drive_whole, drive_written}
 use Rattle.sn_farm.proofs.farm.farm_drive.Goals as goal
 
 pub returns-clause-written : goal.returns-clause-written

@@ -2,7 +2,7 @@
 ghost use Rattle.std.specs.Prelude.{◌≡◌, ◌∷◌, []};
 ghost use Rattle.sn_net.specs.Item.{modelled};
 ghost use Rattle.sn_view.specs.View.{View};
-ghost use Rattle.sn_farm.specs.Turns.{Emits, Goes, shows};
+ghost use Rattle.sn_printing.specs.Turns.{Emits, Goes, shows};
 
 use sn_graph::Effect;
 use sn_io::Sink;
@@ -37,7 +37,7 @@ fn write<S: Sink>(alloc: Global, lines: &mut LineSink<S>, item: &Item) -> Turn
 }
 
 impl<S: Sink> Watcher for Printer<'_, S> {
-    ghost use Rattle.sn_farm.specs.Watching as watching;
+    ghost use Rattle.sn_printing.specs.Watching as watching;
 
     ghost goes = { λ g w h v turn. watching.Watched S.held S.faults g w h v turn };
 

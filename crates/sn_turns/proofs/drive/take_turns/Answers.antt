@@ -1,16 +1,16 @@
 use Rattle.std.proofs.Common.{subst}
 use Rattle.sn_graph.specs.Graph.{seen}
 use Rattle.sn_turns.specs.declared.turn.Turn.{Turn}
-use Rattle.sn_turns.specs.declared.turn.Turn.TheVariants.{Ended, Idle, Went}
-use Rattle.sn_turns.proofs.drive.drive.Goals as goal
+use Rattle.sn_turns.specs.declared.turn.Turn.TheVariants.{Ended, Went}
+use Rattle.sn_turns.proofs.drive.take_turns.Goals as goal
 
 pub loop-init : goal.loop-init
-loop-init g c = record { ready = (tt, tt); ends = c.requires.ends; of = c.requires.of; goes = g.met.W.Watcher.stays (seen c.args.graph.now) c.args.watcher.now }
+loop-init g c = record { ready = (tt, tt); callers = c.requires.callers; of = c.requires.of; goes = g.met.W.Watcher.stays (seen c.args.graph.now) c.args.watcher.now }
 
 pub loop-preserved-in-Went : goal.loop-preserved-in-Went
 loop-preserved-in-Went g c = record {
   ready = (tt, tt);
-  ends = c.turn.ensures.ends;
+  callers = c.turn.ensures.callers;
   of = c.turn.ensures.of;
   goes =
       g.met.W.Watcher.then _ _ _ _ _ _ Went c.loop.invariant.goes
@@ -20,7 +20,7 @@ loop-preserved-in-Went g c = record {
 pub loop-preserved : goal.loop-preserved
 loop-preserved g c = record {
   ready = (tt, tt);
-  ends = c.turn.ensures.ends;
+  callers = c.turn.ensures.callers;
   of = c.turn.ensures.of;
   goes =
       g.met.W.Watcher.then _ _ _ _ _ _ Went c.loop.invariant.goes

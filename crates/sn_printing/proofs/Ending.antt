@@ -18,12 +18,12 @@ use Rattle.sn_view.specs.Placed.{AtRest}
 use Rattle.sn_view.specs.Seen.{Can}
 use Rattle.sn_view.specs.View.{View}
 use Rattle.sn_view.proofs.Came.{may_begins}
-use Rattle.sn_farm.specs.Farmed.{HasPrinted, IsAllWritten, IsFaulted, IsWhole}
-use Rattle.sn_farm.specs.Turns.{Goes, LacksLast, Writes, WritesPart, WritesUpTo, shows}
+use Rattle.sn_printing.specs.Farmed.{HasPrinted, IsAllWritten, IsFaulted, IsWhole}
+use Rattle.sn_printing.specs.Turns.{Goes, LacksLast, Writes, WritesPart, WritesUpTo, shows}
 use Rattle.sn_turns.specs.declared.turn.Turn.TheVariants.{Ended}
 use Rattle.sn_model.specs.declared.outcome.Outcome.{Outcome}
 use Rattle.sn_model.specs.declared.outcome.Outcome.TheVariants.{Whole, Faulted, WriteFault, Memory}
-use Rattle.sn_farm.specs.Turning.{lines_more, none_more}
+use Rattle.sn_printing.specs.Turning.{lines_more, none_more}
 
 -- records end without a fault, and a fault behind them ends them
 none_ends : (records : List Entries) → ending (map Rec records) ≡ None

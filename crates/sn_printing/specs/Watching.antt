@@ -7,9 +7,9 @@ use Rattle.sn_turns.specs.Over.{IsOver}
 use Rattle.sn_turns.specs.declared.turn.Turn.{Turn}
 use Rattle.sn_turns.specs.declared.turn.Turn.TheVariants.{Went, Idle, Ended}
 use Rattle.sn_model.specs.declared.outcome.Outcome.TheVariants.{Whole, Memory}
-use Rattle.sn_farm.specs.Turns.{Goes, Shown, shows}
-use Rattle.sn_farm.specs.Turning as turning
-use Rattle.sn_farm.specs.declared.printer.Printer.{Printer}
+use Rattle.sn_printing.specs.Turns.{Goes, Shown, shows}
+use Rattle.sn_printing.specs.Turning as turning
+use Rattle.sn_printing.specs.declared.printer.Printer.{Printer}
 
 module _ {S : Type 0} (held : S → Option (List ℕ)) (faults : S → ℕ) where
   -- a graph, and what the printer's sink holds

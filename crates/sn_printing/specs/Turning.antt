@@ -13,7 +13,7 @@ use Rattle.sn_output.specs.Printed.{printed}
 use Rattle.sn_view.specs.Placed.{AtRest}
 use Rattle.sn_view.specs.View.{View}
 use Rattle.sn_turns.specs.Over.{IsOver}
-use Rattle.sn_farm.specs.Turns.{Emits, EndsAs, Goes, IsEarly, LacksLast, Shown, TurnsAs, Writes, WritesPart, WritesUpTo, shows}
+use Rattle.sn_printing.specs.Turns.{Emits, EndsAs, Goes, IsEarly, LacksLast, Shown, TurnsAs, Writes, WritesPart, WritesUpTo, shows}
 use Rattle.sn_turns.specs.declared.turn.Turn.{Turn}
 use Rattle.sn_turns.specs.declared.turn.Turn.TheVariants.{Went, Idle, Ended}
 use Rattle.sn_model.specs.declared.outcome.Outcome.{Outcome}

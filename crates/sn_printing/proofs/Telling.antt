@@ -4,7 +4,7 @@ use Rattle.sn_view.specs.View.{View}
 use Rattle.sn_graph.specs.declared.event.Effect.{Effect}
 use Rattle.sn_trace_lines.specs.declared.line.Line.{Line}
 use Rattle.sn_event_lines.specs.Told.{Came, came_out}
-use Rattle.sn_farm.specs.Turns.{Emits}
+use Rattle.sn_printing.specs.Turns.{Emits}
 
 module _ (line : Line) (old new : View) where
   -- these items came out by the event

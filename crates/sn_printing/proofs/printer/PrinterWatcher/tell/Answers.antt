@@ -1,6 +1,6 @@
 use Rattle.sn_graph.specs.declared.event.Effect.TheVariants as effect
-use Rattle.sn_farm.proofs.Telling.{emitted}
-use Rattle.sn_farm.proofs.printer.PrinterWatcher.tell.Goals as goal
+use Rattle.sn_printing.proofs.Telling.{emitted}
+use Rattle.sn_printing.proofs.printer.PrinterWatcher.tell.Goals as goal
 
 pub returns-in-Out : goal.returns-in-Out
 returns-in-Out g c old new came = record {

@@ -1,5 +1,0 @@
-use Rattle.sn_farm.specs.Watching.{waits}
-use Rattle.sn_farm.proofs.printer.PrinterWatcher.idle.Goals as goal
-
-pub returns : goal.returns
-returns g c = λ graph. waits g.S.Sink.held g.S.Sink.faults graph c.args.self.now

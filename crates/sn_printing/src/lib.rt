@@ -1,0 +1,6 @@
+//! The printer: a watcher of a graph that writes the line of each record that comes out.
+#![tactic(auto)]
+
+mod printer;
+
+pub use printer::Printer;
