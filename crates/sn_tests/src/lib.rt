@@ -33,3 +33,5 @@ mod streams;
 mod text;
 #[cfg(test)]
 mod types;
+#[cfg(test)]
+mod wire;
