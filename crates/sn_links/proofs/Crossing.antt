@@ -19,7 +19,11 @@ use Rattle.sn_list.proofs.seq.Seq.TheSendSync as seq_crosses
 use Rattle.sn_list.specs.contracts.seq.Seq as seq
 use Rattle.sn_model.proofs.Crossing.{run_send, run_sync}
 use Rattle.sn_ruled.specs.contracts.rule.Known as known
+use Rattle.sn_links.specs.contracts.ends.DoneLink as done_link
+use Rattle.sn_links.specs.contracts.ends.DonePort as done_port
 use Rattle.sn_links.specs.contracts.ends.Far as far
+use Rattle.sn_links.specs.contracts.ends.JobLink as job_link
+use Rattle.sn_links.specs.contracts.ends.JobPort as job_port
 use Rattle.sn_links.specs.contracts.ends.Lines as lines
 use Rattle.sn_links.specs.contracts.ends.Near as near
 use Rattle.sn_links.specs.contracts.rule.Dones as dones
@@ -70,9 +74,21 @@ lines_send = declared_send lines.the_type (jobs_send, (dones_send, (target_send,
 lines_sync : IsSync lines.the_row
 lines_sync = declared_sync lines.the_type (jobs_sync, (dones_sync, (target_sync, tt)))
 
--- for the closures of callers, which take the ends along
+-- for the closures of callers, which take ends along
+pub job_link_send : IsSend job_link.the_row
+job_link_send = search (lines_send, lines_sync, sendable, crosses, seq_crosses.the_send, seq_crosses.the_sync, seat.the_send, bytes_send) depth 60 fits 100000
+
+pub done_port_send : IsSend done_port.the_row
+done_port_send = search (lines_send, lines_sync, run_send, run_sync, sendable, crosses, seat.the_send, option_crosses.the_send, bytes_send) depth 60 fits 100000
+
+pub job_port_send : IsSend job_port.the_row
+job_port_send = search (lines_send, lines_sync, sendable, crosses, seat.the_send, option_crosses.the_send, bytes_send) depth 60 fits 100000
+
+pub done_link_send : IsSend done_link.the_row
+done_link_send = search (lines_send, lines_sync, sendable, crosses, seat.the_send, option_crosses.the_send, bytes_send) depth 60 fits 100000
+
 pub near_send : IsSend near.the_row
-near_send = search (lines_send, lines_sync, run_send, run_sync, sendable, crosses, seq_crosses.the_send, seq_crosses.the_sync, seat.the_send, option_crosses.the_send, bytes_send) depth 60 fits 100000
+near_send = search (job_link_send, done_port_send, sendable)
 
 pub far_send : IsSend far.the_row
-far_send = search (lines_send, lines_sync, sendable, crosses, seat.the_send, option_crosses.the_send, bytes_send) depth 60 fits 100000
+far_send = search (job_port_send, done_link_send, sendable)
