@@ -1,8 +1,11 @@
-use sn_boxrun::Job;
+use crate::jobs::{given, job_of, started};
+use sn_boxrun::{Done, Job, make_done};
+use sn_model::Run;
 use sn_record::{Kind, Label, Record, Value};
-use sn_wire::{WireFault, is_counted, read_job, write_job};
+use sn_wire::{WireFault, are_counted, is_counted, read_done, read_job, write_done, write_job};
 use std::alloc::Global;
 use std::process::Abort;
+use std::sync::Arc;
 
 /// Call 0 of box 0 at place 5, with the record in which field 0 is 1; and a byte more.
 const BYTES: [u8; 35] = [
@@ -13,15 +16,23 @@ const BYTES: [u8; 35] = [
 /// How many of them are the job's.
 const LENGTH: usize = 34;
 
-/// The record in which field 0 is 1.
-fn given(rt: &impl Abort, alloc: Global) -> Record {
+fn small_record(rt: &impl Abort, alloc: Global) -> Record {
     let label = Label {
         kind: Kind::Field,
         id: 0,
     };
-    let mut given = Record::new(alloc);
-    assert!(rt; matches!(given.set(label, Value::Int(1)), Ok(None)));
-    given
+    let mut record = Record::new(alloc);
+    assert!(rt; matches!(record.set(label, Value::Int(1)), Ok(None)));
+    record
+}
+
+fn small_job(rt: &impl Abort, alloc: Global) -> Job {
+    Job {
+        call: 0,
+        number: 0,
+        place: 5,
+        given: small_record(rt, alloc),
+    }
 }
 
 /// Whether these bytes are what the job is written as.
@@ -37,24 +48,22 @@ fn is_written(alloc: Global, job: &Job, bytes: &[u8]) -> bool {
 
 #[test]
 fn a_job_has_its_bytes(rt: HostRuntime) {
-    let job = Job {
-        call: 0,
-        number: 0,
-        place: 5,
-        given: given(&rt, rt.alloc()),
-    };
+    let job = small_job(&rt, rt.alloc());
     assert!(rt; is_written(rt.alloc(), &job, &BYTES[..LENGTH]));
 }
 
-/// Whether the job is call 0 of box 0 at place 5, with the record in which field 0 is 1.
-fn is_wanted(rt: &impl Abort, alloc: Global, job: &Job) -> bool {
-    job.call == 0 && job.number == 0 && job.place == 5 && job.given == given(rt, alloc)
+/// Whether two jobs are one.
+fn are_same(left: &Job, right: &Job) -> bool {
+    left.call == right.call
+        && left.number == right.number
+        && left.place == right.place
+        && left.given == right.given
 }
 
 #[test]
 fn bytes_have_their_job(rt: HostRuntime) {
     let job = read_job(rt.alloc(), &BYTES[..LENGTH]).expect(&rt, "a job");
-    assert!(rt; is_wanted(&rt, rt.alloc(), &job));
+    assert!(rt; are_same(&job, &small_job(&rt, rt.alloc())));
 }
 
 #[test]
@@ -85,4 +94,35 @@ fn another_byte_is_bad_or_another_job(rt: HostRuntime) {
             );
         }
     }
+}
+
+/// Whether what a call gave is read back as it was, from the bytes that it is written as.
+fn comes_back(alloc: Global, done: &Done) -> bool {
+    if !are_counted(done) {
+        return false;
+    }
+    let Ok(written) = write_done(alloc, done) else {
+        return false;
+    };
+    match read_done(alloc, written.as_slice()) {
+        Ok((job, items)) => are_same(&job, done.job()) && items == *done.items(),
+        Err(_) => false,
+    }
+}
+
+/// Whether what the first box gives for the first record comes back.
+fn first_call_comes_back(rt: &impl Abort, alloc: Global, run: &Arc<Run>) -> bool {
+    let Some(job) = job_of(rt, alloc, run, 3, given(rt, run)) else {
+        return false;
+    };
+    match make_done(alloc, run, job) {
+        Ok(done) => comes_back(alloc, &done),
+        Err(_) => false,
+    }
+}
+
+#[test]
+fn what_a_call_gave_comes_back(rt: HostRuntime) {
+    let run = started(&rt, rt.alloc());
+    assert!(rt; first_call_comes_back(&rt, rt.alloc(), &run));
 }
