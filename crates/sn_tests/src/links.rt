@@ -1,5 +1,6 @@
 ghost use Rattle.std.specs.Prelude.{◌≡◌, ◌≤◌};
 ghost use Rattle.sn_links.specs.Ends.{run_of};
+ghost use Rattle.sn_links.specs.Nodes.{nodes_of};
 
 use crate::jobs::{given, job_of, started};
 use sn_boxrun::make_done;
@@ -15,6 +16,7 @@ use std::sync::{Arc, Wait};
 /// The home of the run's one box, and so many nodes.
 fn placed(rt: &impl Abort, alloc: Global, home: Home, nodes: u32) -> Arc<Placement>
     requires { 1 ≤ nodes }
+    ensures { nodes_of result.value ≡ nodes }
 {
     let mut homes = Seq::new(alloc);
     assert!(rt; homes.push(home).is_ok());
