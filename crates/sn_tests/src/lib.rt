@@ -12,6 +12,8 @@ mod input;
 #[cfg(test)]
 mod jobs;
 #[cfg(test)]
+mod links;
+#[cfg(test)]
 mod list;
 #[cfg(test)]
 mod load;

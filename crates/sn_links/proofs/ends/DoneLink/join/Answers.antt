@@ -1,0 +1,7 @@
+use Rattle.std.proofs.Common.{ap, refl, sym, subst, true, false}
+use Rattle.sn_links.specs.Queues.{IsLinkDone}
+use Rattle.sn_ruled.proofs.Agrees.{IsShared, joins}
+use Rattle.sn_links.proofs.ends.DoneLink.join.Goals as goal
+
+pub absorb-requires-clause-rule : goal.absorb-requires-clause-rule
+absorb-requires-clause-rule c = joins IsLinkDone false true _ _ _ _ (subst (IsShared IsLinkDone false true) (sym (ap (λ v. v.role) c.self.invariant.1)) refl)
