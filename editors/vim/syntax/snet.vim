@@ -12,7 +12,7 @@ syntax iskeyword @,48-57,_,192-255
 syntax match snetName /\%([A-Za-z_]\|[^\x00-\x7f]\)\%([A-Za-z0-9_]\|[^\x00-\x7f]\)*/
 syntax keyword snetKeyword box net connect type typesig if then else let in out fun
 syntax match snetNumber /\<[0-9]\+/
-syntax match snetSymbol /[(){}\[\],;:=<>+\-*\/%|!?]\|&&\|\.\./
+syntax match snetSymbol /[(){}\[\],;:=<>+\-*\/%|!?@]\|&&\|\.\./
 syntax match snetTag /<#\?\%([A-Za-z_]\|[^\x00-\x7f]\)\%([A-Za-z0-9_]\|[^\x00-\x7f]\)*>/
 syntax match snetEscape /\\["\\]/ contained
 syntax region snetText start=/"/ skip=/\\["\\]/ end=/"/ oneline contains=snetEscape
