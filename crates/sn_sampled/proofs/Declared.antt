@@ -1,5 +1,5 @@
 -- What the built-in source declares, and that nothing of it is refused.
-use Rattle.std.proofs.Common.{◌≡◌, ℕ, true, pos, List, [], ◌∷◌, map as each, codes, Option, Some, None, refl, ap, ◌∙◌}
+use Rattle.std.proofs.Common.{◌≡◌, ℕ, true, false, pos, List, [], ◌∷◌, map as each, codes, Option, Some, None, refl, ap, ◌∙◌}
 use Rattle.sn_ast.specs.declared.box_expr.BForm.TheVariants as box_form
 use Rattle.sn_ast.specs.declared.network.NetExpr.{NetExpr}
 use Rattle.sn_ast.specs.declared.tag_expr.Operator.TheVariants.{Add, Sub, Eq}
